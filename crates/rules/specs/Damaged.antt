@@ -1,0 +1,468 @@
+-- Damaged books: each clause of 01's rule for 6 from both sides, the three heads of 4, the half-done resize, the order of the tests, and
+-- each reading of docs/DECISIONS.md where it differs from the one not taken. One table under one statement.
+-- Assumes nothing.
+use mathlib.Core.Path.{_≡_}
+use mathlib.Core.List.{List, [], _∷_}
+use Prim.Native.Nat.{ℕ}
+use lib.Dec.{T}
+use lib.ListN.{length, take, drop}
+use Rattle.rules.specs.Books.{Heap, memoryLength, booksLength, mapLength, onMemory, onBooks, onMap, putWord, mark, usableHead, unusedHead, classHead, openWord, carveMark, freePools, freedHead, arenaNext, arenaWord, count, freeblock, poolNext, poolPrevious, class, nextoffset, maxnextoffset, poolWord}
+use Rattle.rules.specs.Blocks.{putLink}
+use Rattle.rules.specs.Lines.{Line, formats, asks, gives, resizes, writes, views, rolls, has, spoil, word, link, bitIn, every, fresh}
+use Rattle.rules.specs.Whole.{tab, each-three}
+
+-- Three arenas of three pools: pool n is in arena n div 3 and starts at 4,096n; a pool link is at most 9, an arena link at most 3.
+-- On a fresh heap the first ask opens arena 0 and carves pool 0, and asks of two more classes carve pools 1 and 2.
+
+-- ---- the place of a word of pool p's record, of arena a's
+abbrev inPool : ℕ → ℕ → ℕ
+inPool p w = poolWord 3 w p
+
+abbrev inArena : ℕ → ℕ → ℕ
+inArena a w = arenaWord w a
+
+abbrev arenaPrevious : ℕ
+arenaPrevious = 5
+
+-- ---- damage: the word at place i, the link at byte o of memory, the bit of block k of pool p becomes ..
+abbrev word= : ℕ → ℕ → Line
+word= i v = spoil (putWord i v)
+
+abbrev link= : ℕ → ℕ → Line
+link= o v = spoil (onMemory (putLink o v))
+
+abbrev bit= : ℕ → ℕ → ℕ → Line
+bit= p k d = spoil (onMap (mark p k d))
+
+-- ---- a look: the word at place i, the bit of block k of pool p is ..
+abbrev word? : ℕ → ℕ → Line
+word? i v = has (word i) v
+
+abbrev bit? : ℕ → ℕ → ℕ → Line
+bit? p k d = has (bitIn p k) d
+
+-- ==== ask, from the class list
+-- "a pool link above A × P": 10 is, and 9 is pool 8, which is made the front pool of class 0
+abbrev askClassHead : List Line
+askClassHead =
+    word= (classHead 0) 10 ∷ asks 1 6 0
+    ∷ word= (classHead 0) 9 ∷ word= (inPool 8 class) 0 ∷ word= (inPool 8 maxnextoffset) 4088 ∷ word= (inPool 8 freeblock) 48
+    ∷ word= (inPool 8 nextoffset) 56 ∷ link= 32816 0
+    ∷ asks 1 0 32816 ∷ word? (inPool 8 count) 1 ∷ word? (inPool 8 freeblock) 56 ∷ word? (inPool 8 nextoffset) 64 ∷ []
+
+-- "class of its front pool not that class"
+abbrev askClass : List Line
+askClass = asks 1 0 48 ∷ word= (inPool 0 class) 1 ∷ asks 1 6 0 ∷ word= (inPool 0 class) 0 ∷ asks 1 0 56 ∷ []
+
+-- "or maxnextoffset not 4,096 − size"
+abbrev askMaxnextoffset : List Line
+askMaxnextoffset =
+    asks 1 0 48 ∷ word= (inPool 0 maxnextoffset) 4087 ∷ asks 1 6 0 ∷ word= (inPool 0 maxnextoffset) 4089 ∷ asks 1 6 0
+    ∷ word= (inPool 0 maxnextoffset) 4088 ∷ asks 1 0 56 ∷ []
+
+-- "where both are always read": also where there is a link to follow
+abbrev askBothRead : List Line
+askBothRead =
+    asks 1 0 48 ∷ asks 1 0 56 ∷ gives 48 0 48
+    ∷ word= (inPool 0 maxnextoffset) 4087 ∷ asks 1 6 0 ∷ word= (inPool 0 maxnextoffset) 4088
+    ∷ word= (inPool 0 class) 1 ∷ asks 1 6 0 ∷ word= (inPool 0 class) 0 ∷ asks 1 0 48 ∷ []
+
+-- "count above 505 on ask from the list"
+abbrev askCount : List Line
+askCount = asks 1 0 48 ∷ word= (inPool 0 count) 506 ∷ asks 1 6 0 ∷ word= (inPool 0 count) 505 ∷ asks 1 0 56 ∷ word? (inPool 0 count) 506 ∷ []
+
+-- R11: 505 stands for a class of 7 blocks too
+abbrev askCountOfSeven : List Line
+askCountOfSeven = asks 512 0 48 ∷ word= (inPool 0 count) 506 ∷ asks 512 6 0 ∷ word= (inPool 0 count) 505 ∷ asks 512 0 560 ∷ []
+
+-- "freeblock .. neither 0 nor a block start", "a freeblock to be handed out that is 0": 40 is too low, 57 between two starts, 4,096 past the last
+abbrev askFreeblock : List Line
+askFreeblock =
+    asks 1 0 48 ∷ word= (inPool 0 freeblock) 0 ∷ asks 1 6 0 ∷ word= (inPool 0 freeblock) 40 ∷ asks 1 6 0
+    ∷ word= (inPool 0 freeblock) 57 ∷ asks 1 6 0 ∷ word= (inPool 0 freeblock) 4096 ∷ asks 1 6 0
+    ∷ word= (inPool 0 freeblock) 4088 ∷ link= 4088 0 ∷ asks 1 0 4088 ∷ bit? 0 505 1 ∷ []
+
+-- 3,632 is no start for 512: the block would run past the pool
+abbrev askFreeblockOfSeven : List Line
+askFreeblockOfSeven =
+    asks 512 0 48 ∷ word= (inPool 0 freeblock) 3632 ∷ asks 512 6 0 ∷ word= (inPool 0 freeblock) 3120 ∷ link= 3120 0 ∷ asks 512 0 3120 ∷ []
+
+-- "a block to be handed out .. whose map bit .. is set"
+abbrev askFreeblockBit : List Line
+askFreeblockBit = asks 1 0 48 ∷ bit= 0 1 1 ∷ asks 1 6 0 ∷ bit= 0 1 0 ∷ asks 1 0 56 ∷ bit? 0 1 1 ∷ bit? 0 2 0 ∷ []
+
+-- "link neither 0 nor a block start"
+abbrev askLink : List Line
+askLink =
+    asks 1 0 48 ∷ link= 56 40 ∷ asks 1 6 0 ∷ link= 56 57 ∷ asks 1 6 0 ∷ link= 56 4096 ∷ asks 1 6 0 ∷ link= 56 65600 ∷ asks 1 6 0
+    ∷ link= 56 4088 ∷ asks 1 0 56 ∷ word? (inPool 0 freeblock) 4088 ∷ word? (inPool 0 nextoffset) 64 ∷ word? (inPool 0 count) 2 ∷ []
+
+-- "or to become freeblock whose map bit .. is set": of a link, of nextoffset
+abbrev askNextBit : List Line
+askNextBit =
+    asks 1 0 48 ∷ link= 56 4088 ∷ bit= 0 505 1 ∷ asks 1 6 0 ∷ bit= 0 505 0 ∷ asks 1 0 56
+    ∷ link= 4088 0 ∷ bit= 0 2 1 ∷ asks 1 6 0 ∷ bit= 0 2 0 ∷ asks 1 0 4088 ∷ word? (inPool 0 freeblock) 64 ∷ []
+
+-- "nextoffset not above maxnextoffset and not a block start"; 4,088 is the last start, 4,089 means that there is no room
+abbrev askNextoffset : List Line
+askNextoffset =
+    asks 1 0 48 ∷ word= (inPool 0 nextoffset) 40 ∷ asks 1 6 0 ∷ word= (inPool 0 nextoffset) 65 ∷ asks 1 6 0
+    ∷ word= (inPool 0 nextoffset) 4088 ∷ asks 1 0 56 ∷ word? (inPool 0 freeblock) 4088 ∷ word? (inPool 0 nextoffset) 4096 ∷ has (link 4088) 0
+    ∷ word= (inPool 0 nextoffset) 4089 ∷ asks 1 0 4088 ∷ word? (inPool 0 freeblock) 0 ∷ word? (classHead 0) 0 ∷ []
+
+-- R14: nextoffset is read only where the link is 0, and above maxnextoffset any value means full
+abbrev askNextoffsetUnread : List Line
+askNextoffsetUnread =
+    asks 1 0 48 ∷ link= 56 72 ∷ word= (inPool 0 nextoffset) 65 ∷ asks 1 0 56 ∷ word? (inPool 0 freeblock) 72 ∷ word? (inPool 0 nextoffset) 65
+    ∷ link= 72 0 ∷ word= (inPool 0 nextoffset) 4294967295 ∷ asks 1 0 72 ∷ word? (inPool 0 freeblock) 0 ∷ word? (inPool 0 nextoffset) 4294967295 ∷ []
+
+-- R6: a map bit is judged as it stands before the step: a link to the block itself, and nextoffset at the block itself, are served
+abbrev askItself : List Line
+askItself =
+    asks 1 0 48 ∷ link= 56 56 ∷ asks 1 0 56 ∷ word? (inPool 0 freeblock) 56 ∷ asks 1 6 0
+    ∷ bit= 0 1 0 ∷ link= 56 0 ∷ word= (inPool 0 nextoffset) 56 ∷ asks 1 0 56 ∷ word? (inPool 0 freeblock) 56 ∷ word? (inPool 0 nextoffset) 64 ∷ []
+
+-- ---- the last spare block: the pool leaves its list, and only then its links are read
+abbrev full : Line
+full = spoil (putWord (inPool 0 nextoffset) 4096)
+
+abbrev askLastNext : List Line
+askLastNext =
+    asks 1 0 48 ∷ word= (inPool 0 poolNext) 10 ∷ asks 1 0 56
+    ∷ full ∷ asks 1 6 0 ∷ word= (inPool 0 poolNext) 9 ∷ word= (inPool 8 poolPrevious) 1 ∷ asks 1 0 64
+    ∷ word? (classHead 0) 9 ∷ word? (inPool 8 poolPrevious) 0 ∷ word? (inPool 0 poolNext) 0 ∷ word? (inPool 0 poolPrevious) 0 ∷ word? (inPool 0 freeblock) 0 ∷ []
+
+-- R4: a front member whose previous is not 0: the previous member's next is written, and the head stays
+abbrev askLastPrevious : List Line
+askLastPrevious =
+    asks 1 0 48 ∷ word= (inPool 0 poolPrevious) 10 ∷ asks 1 0 56
+    ∷ full ∷ asks 1 6 0 ∷ word= (inPool 0 poolNext) 8 ∷ word= (inPool 0 poolPrevious) 9 ∷ asks 1 0 64
+    ∷ word? (classHead 0) 1 ∷ word? (inPool 8 poolNext) 8 ∷ word? (inPool 7 poolPrevious) 9 ∷ word? (inPool 0 poolNext) 0 ∷ word? (inPool 0 poolPrevious) 0 ∷ []
+
+-- ==== ask, with an empty class list
+-- "4 needs the class head, usable head and unused head all 0": each alone serves, or is refused for what it is
+abbrev noRoom : List Line
+noRoom = word= unusedHead 0 ∷ asks 1 4 0 ∷ word? (classHead 0) 0 ∷ word= unusedHead 1 ∷ asks 1 0 48 ∷ []
+
+abbrev noRoomButClass : List Line
+noRoomButClass = asks 1 0 48 ∷ word= usableHead 0 ∷ word= unusedHead 0 ∷ asks 9 4 0 ∷ asks 1 0 56 ∷ []
+
+abbrev noRoomButUsable : List Line
+noRoomButUsable = asks 1 0 48 ∷ word= unusedHead 0 ∷ asks 9 0 4144 ∷ []
+
+-- "an arena link above A": the usable head. 3 is arena 2, which is made usable
+abbrev askUsableHead : List Line
+askUsableHead =
+    word= usableHead 4 ∷ asks 1 6 0 ∷ word= usableHead 3 ∷ word= (inArena 2 freePools) 2 ∷ asks 1 0 24624
+    ∷ word? (inArena 2 carveMark) 1 ∷ word? (inArena 2 freePools) 1 ∷ []
+
+-- .. the unused head
+abbrev askUnusedHead : List Line
+askUnusedHead =
+    word= unusedHead 4 ∷ asks 1 6 0 ∷ word= unusedHead 3 ∷ asks 1 0 24624 ∷ word? usableHead 3 ∷ word? (inArena 1 arenaNext) 0 ∷ word? unusedHead 3 ∷ []
+
+-- .. the links of an arena that leaves the unused list
+abbrev openLinks : List Line
+openLinks =
+    word= (inArena 0 arenaNext) 4 ∷ asks 1 6 0 ∷ word= (inArena 0 arenaNext) 3 ∷ word= (inArena 0 arenaPrevious) 4 ∷ asks 1 6 0
+    ∷ word= (inArena 0 arenaPrevious) 2 ∷ asks 1 0 48 ∷ word? (inArena 1 arenaNext) 3 ∷ word? (inArena 2 arenaPrevious) 2 ∷ word? unusedHead 1 ∷ []
+
+-- R5: opening writes open, mark, freed-pool head, free pools and the links, and reads none of their old values; words 6 and 7 stay
+abbrev opening : List Line
+opening =
+    word= (inArena 0 openWord) 9 ∷ word= (inArena 0 carveMark) 9 ∷ word= (inArena 0 freePools) 9 ∷ word= (inArena 0 freedHead) 99
+    ∷ word= (inArena 0 6) 7 ∷ word= (inArena 0 7) 8 ∷ asks 1 0 48
+    ∷ word? (inArena 0 openWord) 1 ∷ word? (inArena 0 carveMark) 1 ∷ word? (inArena 0 freePools) 2 ∷ word? (inArena 0 freedHead) 0
+    ∷ word? (inArena 0 arenaNext) 0 ∷ word? (inArena 0 arenaPrevious) 0 ∷ word? (inArena 0 6) 7 ∷ word? (inArena 0 7) 8
+    ∷ word? usableHead 1 ∷ word? unusedHead 2 ∷ word? (inArena 1 arenaPrevious) 0 ∷ []
+
+-- "a pool link above A × P": the freed-pool head. R12: 9 is pool 8, of another arena and not carved, and is taken
+abbrev askFreedHead : List Line
+askFreedHead =
+    asks 1 0 48 ∷ word= (inArena 0 freedHead) 10 ∷ asks 9 6 0 ∷ word= (inArena 0 freedHead) 9 ∷ asks 9 0 32816
+    ∷ word? (inArena 0 freedHead) 0 ∷ word? (inArena 0 carveMark) 1 ∷ word? (inArena 0 freePools) 1 ∷ []
+
+-- .. and the next of the freed pool that is taken, which becomes the head
+abbrev askFreedNext : List Line
+askFreedNext =
+    asks 1 0 48 ∷ word= (inArena 0 freedHead) 9 ∷ word= (inPool 8 poolNext) 10 ∷ asks 9 6 0 ∷ word= (inPool 8 poolNext) 9 ∷ asks 9 0 32816
+    ∷ word? (inArena 0 freedHead) 9 ∷ word? (inPool 8 poolNext) 0 ∷ []
+
+-- "carve mark not below P when carving"
+abbrev askCarveMark : List Line
+askCarveMark =
+    asks 1 0 48 ∷ word= (inArena 0 carveMark) 3 ∷ asks 9 6 0 ∷ word= (inArena 0 carveMark) 2 ∷ asks 9 0 8240 ∷ word? (inArena 0 carveMark) 3 ∷ []
+
+-- a freed pool is taken before one is carved, and the mark is then not read
+abbrev askCarveMarkUnread : List Line
+askCarveMarkUnread =
+    asks 1 0 48 ∷ asks 9 0 4144 ∷ gives 4144 0 4144 ∷ word= (inArena 0 carveMark) 3 ∷ asks 17 0 4144 ∷ word? (inArena 0 carveMark) 3 ∷ []
+
+-- "free pools outside 1 to P when taking": carving, and from the freed pools
+abbrev carveFreePools : List Line
+carveFreePools =
+    asks 1 0 48 ∷ word= (inArena 0 freePools) 0 ∷ asks 9 6 0 ∷ word= (inArena 0 freePools) 4 ∷ asks 9 6 0
+    ∷ word= (inArena 0 freePools) 3 ∷ asks 9 0 4144 ∷ word? (inArena 0 freePools) 2 ∷ []
+
+abbrev freedFreePools : List Line
+freedFreePools =
+    asks 1 0 48 ∷ asks 9 0 4144 ∷ gives 4144 0 4144 ∷ word= (inArena 0 freePools) 0 ∷ asks 17 6 0 ∷ word= (inArena 0 freePools) 4 ∷ asks 17 6 0
+    ∷ word= (inArena 0 freePools) 3 ∷ asks 17 0 4144 ∷ word? (inArena 0 freePools) 2 ∷ []
+
+-- "at 0 the arena leaves the list": only then its links are read
+abbrev spentNext : List Line
+spentNext =
+    asks 1 0 48 ∷ word= (inArena 0 arenaNext) 4 ∷ asks 9 0 4144 ∷ asks 17 6 0
+    ∷ word= (inArena 0 arenaNext) 3 ∷ word= (inArena 2 arenaPrevious) 1 ∷ asks 17 0 8240
+    ∷ word? (inArena 0 freePools) 0 ∷ word? usableHead 3 ∷ word? (inArena 2 arenaPrevious) 0 ∷ word? (inArena 0 arenaNext) 0 ∷ word? (inArena 0 arenaPrevious) 0 ∷ []
+
+abbrev spentPrevious : List Line
+spentPrevious =
+    asks 1 0 48 ∷ word= (inArena 0 arenaPrevious) 4 ∷ asks 9 0 4144 ∷ asks 17 6 0
+    ∷ word= (inArena 0 arenaPrevious) 3 ∷ asks 17 0 8240
+    ∷ word? usableHead 1 ∷ word? (inArena 2 arenaNext) 0 ∷ word? (inArena 0 arenaPrevious) 0 ∷ []
+
+-- R15: a pool that is set to a class: only the bits of blocks 0 and 1 are judged
+abbrev anewBits : List Line
+anewBits = bit= 0 0 1 ∷ asks 1 6 0 ∷ bit= 0 0 0 ∷ bit= 0 1 1 ∷ asks 1 6 0 ∷ bit= 0 1 0 ∷ bit= 0 2 1 ∷ asks 1 0 48 ∷ bit? 0 0 1 ∷ bit? 0 1 0 ∷ []
+
+-- "class is set, nextoffset is 48 + 2 × size, maxnextoffset 4,096 − size, freeblock 48 + size with link written 0"; "alone on the class list with count 1"
+abbrev anewWords : List Line
+anewWords =
+    word= (inPool 0 poolNext) 5 ∷ word= (inPool 0 poolPrevious) 5 ∷ word= (inPool 0 count) 9 ∷ word= (inPool 0 7) 6 ∷ link= 152 99 ∷ asks 100 0 48
+    ∷ word? (inPool 0 count) 1 ∷ word? (inPool 0 freeblock) 152 ∷ word? (inPool 0 poolNext) 0 ∷ word? (inPool 0 poolPrevious) 0
+    ∷ word? (inPool 0 class) 12 ∷ word? (inPool 0 nextoffset) 256 ∷ word? (inPool 0 maxnextoffset) 3992 ∷ word? (inPool 0 7) 6
+    ∷ word? (classHead 12) 1 ∷ has (link 152) 0 ∷ []
+
+-- ---- a freed pool of the wanted class: pool 0 is freed, and pool 1 holds its arena open
+abbrev freed : List Line → List Line
+freed ls = asks 1 0 48 ∷ asks 9 0 4144 ∷ gives 48 0 48 ∷ ls
+
+-- freeblock and link keep their rules there too
+abbrev againFreeblock : List Line
+againFreeblock =
+    freed (word= (inPool 0 freeblock) 0 ∷ asks 1 6 0 ∷ word= (inPool 0 freeblock) 57 ∷ asks 1 6 0 ∷ word= (inPool 0 freeblock) 48
+    ∷ bit= 0 0 1 ∷ asks 1 6 0 ∷ bit= 0 0 0 ∷ asks 1 0 48 ∷ word? (inPool 0 freeblock) 56 ∷ word? (classHead 0) 1 ∷ word? (inPool 0 count) 1 ∷ [])
+
+abbrev againLink : List Line
+againLink =
+    freed (link= 48 57 ∷ asks 1 6 0 ∷ link= 48 56 ∷ bit= 0 1 1 ∷ asks 1 6 0 ∷ bit= 0 1 0 ∷ asks 1 0 48 ∷ [])
+
+-- R13: its count, nextoffset and maxnextoffset are not tested; a link 0 is allowed, freeblock becomes 0 and the pool stays listed
+abbrev againUntested : List Line
+againUntested =
+    freed (word= (inPool 0 count) 999 ∷ word= (inPool 0 nextoffset) 7 ∷ word= (inPool 0 maxnextoffset) 9 ∷ link= 48 0 ∷ asks 1 0 48
+    ∷ word? (inPool 0 count) 1 ∷ word? (inPool 0 freeblock) 0 ∷ word? (classHead 0) 1 ∷ word? (inPool 0 nextoffset) 7 ∷ word? (inPool 0 maxnextoffset) 9 ∷ [])
+
+-- R12: open, spare words and a pool's eighth word are not read
+abbrev spareWords : List Line
+spareWords =
+    asks 1 0 48 ∷ word= (inArena 0 openWord) 9 ∷ word= (inArena 0 6) 9 ∷ word= (inPool 0 7) 9 ∷ word= 68 9 ∷ asks 1 0 56 ∷ asks 9 0 4144 ∷ gives 4144 0 4144
+    ∷ word? (inArena 0 openWord) 9 ∷ word? (inPool 0 7) 9 ∷ []
+
+-- ==== give back
+-- "freeblock .. neither 0 nor a block start". R8: its own map bit is not tested
+abbrev backFreeblock : List Line
+backFreeblock =
+    asks 1 0 48 ∷ asks 1 0 56 ∷ word= (inPool 0 freeblock) 40 ∷ gives 56 6 0 ∷ word= (inPool 0 freeblock) 57 ∷ gives 56 6 0
+    ∷ word= (inPool 0 freeblock) 4096 ∷ gives 56 6 0 ∷ bit? 0 1 1
+    ∷ word= (inPool 0 freeblock) 4088 ∷ bit= 0 505 1 ∷ gives 56 0 56
+    ∷ has (link 56) 4088 ∷ word? (inPool 0 freeblock) 56 ∷ word? (inPool 0 count) 1 ∷ bit? 0 1 0 ∷ []
+
+-- "count .. outside 1 to 506 on give-back"
+abbrev backCount : List Line
+backCount =
+    asks 1 0 48 ∷ asks 1 0 56 ∷ word= (inPool 0 count) 0 ∷ gives 56 6 0 ∷ word= (inPool 0 count) 507 ∷ gives 56 6 0
+    ∷ word= (inPool 0 count) 506 ∷ gives 56 0 56 ∷ word? (inPool 0 count) 505 ∷ word? (classHead 0) 1 ∷ []
+
+-- R11: 506 stands for a class of 7 blocks too
+abbrev backCountOfSeven : List Line
+backCountOfSeven = asks 512 0 48 ∷ word= (inPool 0 count) 507 ∷ gives 48 6 0 ∷ word= (inPool 0 count) 506 ∷ gives 48 0 48 ∷ []
+
+-- R3: joining a list reads its old head. "If the old freeblock was 0, the pool was full: it joins its class list at the front"
+abbrev backJoins : List Line
+backJoins =
+    asks 1 0 48 ∷ asks 1 0 56 ∷ word= (inPool 0 freeblock) 0 ∷ word= (inPool 0 poolPrevious) 5 ∷ word= (classHead 0) 10 ∷ gives 56 6 0
+    ∷ word= (classHead 0) 9 ∷ gives 56 0 56
+    ∷ word? (inPool 0 poolNext) 9 ∷ word? (inPool 0 poolPrevious) 0 ∷ word? (inPool 8 poolPrevious) 1 ∷ word? (classHead 0) 1 ∷ has (link 56) 0 ∷ []
+
+-- the head is not read where the pool does not join
+abbrev backStays : List Line
+backStays = asks 1 0 48 ∷ asks 1 0 56 ∷ word= (classHead 0) 10 ∷ gives 56 0 56 ∷ word? (classHead 0) 10 ∷ []
+
+-- R7: with old freeblock 0 the pool joins its list, even where the count falls to 0
+abbrev backJoinsEmpty : List Line
+backJoinsEmpty =
+    asks 1 0 48 ∷ word= (inPool 0 freeblock) 0 ∷ word= (classHead 0) 0 ∷ gives 48 0 48
+    ∷ word? (inPool 0 count) 0 ∷ word? (classHead 0) 1 ∷ word? (inArena 0 freePools) 2 ∷ word? (inArena 0 freedHead) 0 ∷ []
+
+-- ---- a pool that falls to count 0: pool 0, while pool 1 holds its arena open
+abbrev emptied : List Line → List Line
+emptied ls = asks 1 0 48 ∷ asks 9 0 4144 ∷ ls
+
+-- "a pool link above A × P": its links, on leaving the class list
+abbrev emptyNext : List Line
+emptyNext =
+    emptied (word= (inPool 0 poolNext) 10 ∷ gives 48 6 0 ∷ word= (inPool 0 poolNext) 9 ∷ word= (inPool 8 poolPrevious) 1 ∷ gives 48 0 48
+    ∷ word? (classHead 0) 9 ∷ word? (inPool 8 poolPrevious) 0 ∷ word? (inPool 0 poolNext) 0 ∷ word? (inArena 0 freedHead) 1 ∷ [])
+
+abbrev emptyPrevious : List Line
+emptyPrevious =
+    emptied (word= (inPool 0 poolPrevious) 10 ∷ gives 48 6 0 ∷ word= (inPool 0 poolPrevious) 9 ∷ word= (inPool 8 poolNext) 1 ∷ gives 48 0 48
+    ∷ word? (inPool 8 poolNext) 0 ∷ word? (inPool 0 poolPrevious) 0 ∷ word? (classHead 0) 1 ∷ [])
+
+-- .. and the freed-pool head: "linked by next alone (own previous 0, the old head's record untouched)"
+abbrev emptyFreedHead : List Line
+emptyFreedHead =
+    emptied (word= (inArena 0 freedHead) 10 ∷ gives 48 6 0 ∷ word= (inArena 0 freedHead) 9 ∷ word= (inPool 8 poolPrevious) 5 ∷ gives 48 0 48
+    ∷ word? (inPool 0 poolNext) 9 ∷ word? (inPool 0 poolPrevious) 0 ∷ word? (inPool 8 poolPrevious) 5 ∷ word? (inArena 0 freedHead) 1 ∷ word? (inPool 0 count) 0 ∷ [])
+
+-- "or outside 0 to P − 1 when a pool returns"; "Otherwise its place in the list stays as it was", and the arena's links are not read
+abbrev emptyFreePools : List Line
+emptyFreePools =
+    emptied (word= (inArena 0 freePools) 3 ∷ gives 48 6 0 ∷ word= (inArena 0 freePools) 1 ∷ word= (inArena 0 arenaNext) 99 ∷ word= usableHead 99 ∷ gives 48 0 48
+    ∷ word? (inArena 0 freePools) 2 ∷ word? (inArena 0 arenaNext) 99 ∷ word? usableHead 99 ∷ word? (inPool 0 class) 0 ∷ word? (inPool 0 nextoffset) 64 ∷ [])
+
+-- R3: "If free pools is now 1, the arena joins the usable list at the front"
+abbrev backReturns : List Line
+backReturns =
+    emptied (word= (inArena 0 freePools) 0 ∷ word= (inArena 0 arenaPrevious) 9 ∷ word= usableHead 4 ∷ gives 48 6 0 ∷ word= usableHead 3 ∷ gives 48 0 48
+    ∷ word? (inArena 0 freePools) 1 ∷ word? usableHead 1 ∷ word? (inArena 0 arenaNext) 3 ∷ word? (inArena 0 arenaPrevious) 0 ∷ word? (inArena 2 arenaPrevious) 1 ∷ [])
+
+-- "If free pools is now P, the arena leaves the usable list": its links. R2: leaving writes the head and does not read it
+abbrev releaseNext : List Line
+releaseNext =
+    asks 1 0 48 ∷ word= (inArena 0 arenaNext) 4 ∷ gives 48 6 0 ∷ word= (inArena 0 arenaNext) 3 ∷ word= usableHead 99 ∷ gives 48 0 48
+    ∷ word? usableHead 3 ∷ word? (inArena 2 arenaPrevious) 0 ∷ word? unusedHead 1 ∷ []
+
+abbrev releasePrevious : List Line
+releasePrevious =
+    asks 1 0 48 ∷ word= (inArena 0 arenaPrevious) 4 ∷ gives 48 6 0 ∷ word= (inArena 0 arenaPrevious) 3 ∷ word= (inArena 2 arenaNext) 1 ∷ gives 48 0 48
+    ∷ word? (inArena 2 arenaNext) 0 ∷ word? usableHead 1 ∷ []
+
+-- R3: .. and joins the unused list. R5: "its record becomes 0 except" for that; "its pool records stay as they stand"
+abbrev releaseWords : List Line
+releaseWords =
+    asks 1 0 48 ∷ word= unusedHead 4 ∷ gives 48 6 0 ∷ word= unusedHead 2 ∷ word= (inArena 0 openWord) 9 ∷ word= (inArena 0 6) 7 ∷ word= (inArena 0 7) 8 ∷ gives 48 0 48
+    ∷ word? (inArena 0 openWord) 0 ∷ word? (inArena 0 carveMark) 0 ∷ word? (inArena 0 freePools) 0 ∷ word? (inArena 0 freedHead) 0 ∷ word? (inArena 0 arenaNext) 2
+    ∷ word? (inArena 0 arenaPrevious) 0 ∷ word? (inArena 0 6) 0 ∷ word? (inArena 0 7) 0 ∷ word? unusedHead 1 ∷ word? (inArena 1 arenaPrevious) 1 ∷ word? usableHead 0
+    ∷ word? (inPool 0 class) 0 ∷ word? (inPool 0 freeblock) 48 ∷ word? (inPool 0 nextoffset) 64 ∷ asks 1 0 48 ∷ word? (inPool 0 freeblock) 56 ∷ []
+
+-- ==== resize
+-- "a refused resize" keeps its block and its bytes: a first pool of three classes, and no arena left for a fourth
+abbrev resizeNoRoom : List Line
+resizeNoRoom =
+    asks 1 0 48 ∷ asks 9 0 4144 ∷ asks 17 0 8240 ∷ word= unusedHead 0 ∷ writes 48 (79 ∷ 87 ∷ 69 ∷ 68 ∷ 0 ∷ 0 ∷ 0 ∷ 1 ∷ []) 0 48
+    ∷ resizes 48 100 4 0 ∷ views 48 0 8 (79 ∷ 87 ∷ 69 ∷ 68 ∷ 0 ∷ 0 ∷ 0 ∷ 1 ∷ []) ∷ word? (inPool 0 count) 1 ∷ []
+
+-- "copy the first min(n, s) bytes": to a larger block all 8, and the old block is dead; to a smaller one n, and the bytes after them stay
+abbrev resizeCopies : List Line
+resizeCopies =
+    asks 1 0 48 ∷ asks 9 0 4144 ∷ writes 48 (1 ∷ 2 ∷ 3 ∷ 4 ∷ 5 ∷ 6 ∷ 7 ∷ 8 ∷ []) 0 48 ∷ resizes 48 9 0 4160 ∷ views 48 5 0 []
+    ∷ writes 4160 (1 ∷ 2 ∷ 3 ∷ 4 ∷ 5 ∷ 6 ∷ 7 ∷ 8 ∷ 9 ∷ 10 ∷ 11 ∷ 12 ∷ 13 ∷ 14 ∷ 15 ∷ 16 ∷ []) 0 4160 ∷ views 4160 0 16 (1 ∷ 2 ∷ 3 ∷ 4 ∷ 5 ∷ 6 ∷ 7 ∷ 8 ∷ 9 ∷ 10 ∷ 11 ∷ 12 ∷ 13 ∷ 14 ∷ 15 ∷ 16 ∷ [])
+    ∷ link= 52 0 ∷ resizes 4160 3 0 48 ∷ has (link 48) 197121 ∷ has (link 52) 0 ∷ []
+
+-- R16: a resize that keeps its offset runs no step, so books that would give 6 are not seen
+abbrev resizeKeeps : List Line
+resizeKeeps = asks 100 0 48 ∷ word= (classHead 12) 10 ∷ word= (inPool 0 count) 0 ∷ resizes 48 104 0 48 ∷ resizes 48 79 0 48 ∷ resizes 48 105 6 4144 ∷ []
+
+-- "The half-done resize": the give-back meets 6, the ask and the copy stand
+abbrev halfDoneSix : List Line
+halfDoneSix =
+    asks 1 0 48 ∷ writes 48 (1 ∷ 2 ∷ 3 ∷ 4 ∷ 5 ∷ 6 ∷ 7 ∷ 8 ∷ []) 0 48 ∷ word= (inPool 0 count) 0 ∷ resizes 48 9 6 4144
+    ∷ has (link 4144) 67305985 ∷ bit? 0 0 1 ∷ bit? 1 0 1 ∷ []
+
+-- .. the give-back meets 5. Pool 0 holds blocks 0 to 2 of class 0, the first two are given back, and the books say that it is a freed pool.
+-- R9: the copied bytes are those that stand after the ask, which wrote a link over the old block's first four
+abbrev halfDoneFive : List Line
+halfDoneFive =
+    asks 1 0 48 ∷ asks 1 0 56 ∷ asks 1 0 64 ∷ gives 48 0 48 ∷ gives 56 0 56 ∷ writes 64 (1 ∷ 2 ∷ 3 ∷ 4 ∷ 5 ∷ 6 ∷ 7 ∷ 8 ∷ []) 0 64
+    ∷ word= (inArena 0 freedHead) 1 ∷ resizes 64 9 6 48 ∷ has (link 48) 0 ∷ has (link 52) 134678021 ∷ bit? 0 2 1 ∷ word? (inPool 0 count) 1 ∷ []
+
+-- R10: the give-back goes by the class that the books then show: 80 was block 4 of class 0, and is block 2 of class 1
+abbrev resizeByNewClass : List Line
+resizeByNewClass =
+    asks 1 0 48 ∷ asks 1 0 56 ∷ asks 1 0 64 ∷ asks 1 0 72 ∷ asks 1 0 80 ∷ gives 48 0 48 ∷ gives 56 0 56
+    ∷ word= (inArena 0 freedHead) 1 ∷ resizes 80 9 0 48 ∷ bit? 0 0 1 ∷ bit? 0 2 0 ∷ bit? 0 4 1 ∷ []
+
+-- ==== the order of the tests
+abbrev memoryShort : Line
+memoryShort = spoil (onMemory (drop 1))
+
+-- "books under two words is 2", whatever they say; R1: format reads no shape from the books
+abbrev orderTwoWords : List Line
+orderTwoWords =
+    spoil (onBooks (take 1)) ∷ asks 0 2 0 ∷ gives 48 2 0 ∷ resizes 48 0 2 0 ∷ writes 48 (1 ∷ []) 2 0 ∷ views 48 2 0 [] ∷ rolls [] 2 0 []
+    ∷ formats 0 3 1 ∷ formats 3 3 2 ∷ []
+
+-- 1 before 2: A 0 and 17, P 1 and 65 are out of range
+abbrev orderOne : List Line
+orderOne =
+    memoryShort ∷ word= 0 0 ∷ asks 0 1 0 ∷ word= 0 17 ∷ asks 0 1 0 ∷ word= 0 3 ∷ word= 1 1 ∷ gives 48 1 0 ∷ word= 1 65 ∷ gives 48 1 0
+    ∷ formats 0 3 1 ∷ formats 17 3 1 ∷ formats 3 1 1 ∷ formats 3 65 1 ∷ []
+
+-- a heap in range that the lengths do not fit: A 1 and 16, P 2 and 64
+abbrev rangeEnds : List Line
+rangeEnds = word= 0 1 ∷ asks 1 2 0 ∷ word= 0 16 ∷ asks 1 2 0 ∷ word= 1 2 ∷ asks 1 2 0 ∷ word= 1 64 ∷ asks 1 2 0 ∷ formats 1 2 2 ∷ formats 16 64 2 ∷ formats 3 3 0 ∷ asks 1 0 48 ∷ []
+
+-- 2 before 3, 5 and 7, for each buffer
+abbrev orderTwo : List Line
+orderTwo = memoryShort ∷ asks 0 2 0 ∷ gives 48 2 0 ∷ resizes 48 0 2 0 ∷ writes 48 (1 ∷ []) 2 0 ∷ views 48 2 0 [] ∷ rolls [] 2 0 [] ∷ formats 3 3 2 ∷ []
+
+abbrev orderTwoBooks : List Line
+orderTwoBooks = spoil (onBooks (λ b. take 167 b)) ∷ asks 0 2 0 ∷ formats 3 3 2 ∷ []
+
+abbrev orderTwoMap : List Line
+orderTwoMap = spoil (onMap (drop 1)) ∷ asks 0 2 0 ∷ formats 3 3 2 ∷ []
+
+-- 3 before 5, and before the step; 5 before 7, and before the step
+abbrev orderRest : List Line
+orderRest =
+    word= (classHead 0) 10 ∷ asks 0 3 0 ∷ asks 513 3 0 ∷ asks 1 6 0 ∷ word= (classHead 0) 0
+    ∷ asks 1 0 48 ∷ resizes 56 0 3 0 ∷ resizes 56 513 3 0 ∷ resizes 56 1 5 0 ∷ writes 56 (1 ∷ 2 ∷ 3 ∷ 4 ∷ 5 ∷ 6 ∷ 7 ∷ 8 ∷ 9 ∷ []) 5 0
+    ∷ writes 48 (1 ∷ 2 ∷ 3 ∷ 4 ∷ 5 ∷ 6 ∷ 7 ∷ 8 ∷ 9 ∷ []) 7 0 ∷ word= (inPool 0 count) 0 ∷ gives 56 5 0 ∷ gives 48 6 0 ∷ []
+
+-- ==== view, write, roll call
+-- the live test: "it lies in memory, its pool's class is at most 63 (R17: 5, never 6), it is a block start of that class and its map bit is set"
+abbrev notLive : List Line
+notLive =
+    asks 512 0 48 ∷ gives 49 5 0 ∷ gives 47 5 0 ∷ gives 560 5 0 ∷ gives 36912 5 0 ∷ bit= 0 7 1 ∷ gives 3632 5 0
+    ∷ word= (inPool 0 class) 64 ∷ gives 48 5 0 ∷ views 48 5 0 [] ∷ rolls [] 0 0 []
+    ∷ word= (inPool 0 class) 63 ∷ word= (inPool 0 freeblock) 7 ∷ gives 48 6 0 ∷ rolls (9 ∷ 9 ∷ 9 ∷ []) 0 1 (48 ∷ 512 ∷ 9 ∷ []) ∷ []
+
+-- "Write copies a lent text to the start of a block; the rest of the block stays." R22: an empty text is 0. A full one too
+abbrev writing : List Line
+writing =
+    asks 1 0 48 ∷ writes 48 (1 ∷ 2 ∷ 3 ∷ 4 ∷ 5 ∷ 6 ∷ 7 ∷ 8 ∷ []) 0 48 ∷ writes 48 [] 0 48 ∷ writes 48 (9 ∷ []) 0 48 ∷ views 48 0 8 (9 ∷ 2 ∷ 3 ∷ 4 ∷ 5 ∷ 6 ∷ 7 ∷ 8 ∷ [])
+    ∷ word= (inPool 0 count) 0 ∷ writes 48 [] 0 48 ∷ []
+
+-- "by rising offset, leaves the words after them": two words for each live block, or 7. R22: no live block and no room is 0
+abbrev rolling : List Line
+rolling =
+    rolls [] 0 0 [] ∷ asks 1 0 48 ∷ asks 9 0 4144 ∷ asks 1 0 56 ∷ rolls (1 ∷ 2 ∷ 3 ∷ 4 ∷ 5 ∷ []) 7 0 (1 ∷ 2 ∷ 3 ∷ 4 ∷ 5 ∷ [])
+    ∷ rolls (1 ∷ 2 ∷ 3 ∷ 4 ∷ 5 ∷ 6 ∷ []) 0 3 (48 ∷ 8 ∷ 56 ∷ 8 ∷ 4144 ∷ 16 ∷ []) ∷ rolls (1 ∷ 2 ∷ 3 ∷ 4 ∷ 5 ∷ 6 ∷ 7 ∷ []) 0 3 (48 ∷ 8 ∷ 56 ∷ 8 ∷ 4144 ∷ 16 ∷ 7 ∷ []) ∷ []
+
+abbrev pub damaged : List (List Line)
+damaged =
+    askClassHead ∷ askClass ∷ askMaxnextoffset ∷ askBothRead ∷ askCount ∷ askCountOfSeven ∷ askFreeblock ∷ askFreeblockOfSeven ∷ askFreeblockBit
+    ∷ askLink ∷ askNextBit ∷ askNextoffset ∷ askNextoffsetUnread ∷ askItself ∷ askLastNext ∷ askLastPrevious
+    ∷ noRoom ∷ noRoomButClass ∷ noRoomButUsable ∷ askUsableHead ∷ askUnusedHead ∷ openLinks ∷ opening ∷ askFreedHead ∷ askFreedNext
+    ∷ askCarveMark ∷ askCarveMarkUnread ∷ carveFreePools ∷ freedFreePools ∷ spentNext ∷ spentPrevious ∷ anewBits ∷ anewWords
+    ∷ againFreeblock ∷ againLink ∷ againUntested ∷ spareWords
+    ∷ backFreeblock ∷ backCount ∷ backCountOfSeven ∷ backJoins ∷ backStays ∷ backJoinsEmpty ∷ emptyNext ∷ emptyPrevious ∷ emptyFreedHead ∷ emptyFreePools
+    ∷ backReturns ∷ releaseNext ∷ releasePrevious ∷ releaseWords
+    ∷ resizeNoRoom ∷ resizeCopies ∷ resizeKeeps ∷ halfDoneSix ∷ halfDoneFive ∷ resizeByNewClass
+    ∷ orderTwoWords ∷ orderOne ∷ rangeEnds ∷ orderTwo ∷ orderTwoBooks ∷ orderTwoMap ∷ orderRest
+    ∷ notLive ∷ writing ∷ rolling ∷ []
+
+-- the table holds of a fresh heap over these three buffers
+abbrev pub Holds : List ℕ → List ℕ → List ℕ → Type 0
+Holds m b k = T (every damaged (fresh 3 3 m b k))
+
+computed : (f g k : ℕ → ℕ) → Holds (tab (memoryLength 3 3) 0 f) (tab (booksLength 3 3) 0 g) (tab (mapLength 3 3) 0 k)
+unfolding every
+computed f g k = tt
+
+-- every row, whatever memory, books and map of the right lengths held before format
+pub damaged-hold : (m b k : List ℕ) → length m ≡ memoryLength 3 3 → length b ≡ booksLength 3 3 → length k ≡ mapLength 3 3 → Holds m b k
+damaged-hold = each-three Holds (memoryLength 3 3) (booksLength 3 3) (mapLength 3 3) computed

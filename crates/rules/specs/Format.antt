@@ -1,0 +1,24 @@
+-- 01, "Format": the books that it writes.
+-- Assumes nothing.
+use mathlib.Core.List.{List, [], _∷_, _++_}
+use Prim.Native.Nat.{ℕ, zero, suc, _+_, _*_}
+use lib.Dec.{eqb}
+use lib.ListN.{replicate}
+use Rattle.rules.specs.Say.{if_then_else_}
+use Rattle.rules.specs.Books.{noClass, linkTo}
+
+-- "every arena record 0 but for its links, all closed and on the unused list, linked both ways, in rising order":
+-- the records of the k arenas from arena i on, the last of which has no next; a link to arena i - 1 is i
+abbrev pub freshArenas : ℕ → ℕ → List ℕ
+freshArenas i zero = []
+freshArenas i (suc k) =
+    0 ∷ 0 ∷ 0 ∷ 0 ∷ (if eqb k 0 then 0 else linkTo (i + 1)) ∷ i ∷ 0 ∷ 0 ∷ freshArenas (suc i) k
+
+-- "every pool record 0 but for class 65,535": k of them
+abbrev pub freshPools : ℕ → List ℕ
+freshPools zero = []
+freshPools (suc k) = 0 ∷ 0 ∷ 0 ∷ 0 ∷ noClass ∷ 0 ∷ 0 ∷ 0 ∷ freshPools k
+
+-- "A, P, .. with arena 0 first, every other head and spare word 0": words 0 to 71, then the records
+unfoldable pub freshBooks : ℕ → ℕ → List ℕ
+freshBooks A P = (A ∷ P ∷ 0 ∷ linkTo 0 ∷ replicate 68 0) ++ (freshArenas 0 A ++ freshPools (A * P))

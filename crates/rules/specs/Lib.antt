@@ -1,0 +1,17 @@
+pub mod Say
+pub mod Books
+pub mod Blocks
+pub mod Lists
+pub mod Outcome
+pub mod Format
+pub mod Ask
+pub mod GiveBack
+pub mod Resize
+pub mod View
+pub mod Numbers
+pub mod Replay
+pub mod Whole
+pub mod Lines
+pub mod Cases
+pub mod Damaged
+pub mod Replays

@@ -1,0 +1,83 @@
+-- A case as a row of lines, and what it is that a row holds of a heap.
+-- Assumes nothing.
+use mathlib.Core.Bool.{Bool, true, false, _&&_}
+use mathlib.Core.List.{List, [], _∷_}
+use Prim.Native.Nat.{ℕ, _%_}
+use lib.Dec.{eqb}
+use Rattle.rules.specs.declared.Answer.{Answer}
+use Rattle.rules.specs.declared.Sized.{Sized}
+use Rattle.rules.specs.declared.Rolled.{Rolled}
+use Rattle.rules.specs.Books.{Heap, at, inRange, exact, bit, putBit, mapWord}
+use Rattle.rules.specs.Blocks.{isStart, linkAt, putLink, live, liveNumber}
+use Rattle.rules.specs.Lists.{leaveBy, joinBy}
+use Rattle.rules.specs.Outcome.{Outcome, heapOf}
+use Rattle.rules.specs.Format.{freshBooks}
+use Rattle.rules.specs.Ask.{noLink, fromListed, setAnew, takeAgain, fromMark, fromFreed, fromUsable, fromUnused, planAsk, takeFrom, afterAsk, askAnswer, askStep}
+use Rattle.rules.specs.GiveBack.{emptying, planBack, afterBack, backAnswer, backStep}
+use Rattle.rules.specs.Resize.{giveOld, moved, resizeStep}
+use Rattle.rules.specs.View.{rollBlocks, rollPool, rollPools}
+use Rattle.rules.specs.Numbers.{fitNumber, shapeNumber, sizeNumber, roomNumber, RollOutcome, format, ask, giveBack, resize, view, viewSize, write, rollCall}
+
+-- a line of a case: a call with its answer, a look, or damage that is done
+pub data Line : Type 0 where
+  formats : ℕ → ℕ → ℕ → Line  -- A P k: format gives number k, and offset 0
+  asks : ℕ → ℕ → ℕ → Line  -- n k o: ask n gives number k and offset o
+  gives : ℕ → ℕ → ℕ → Line  -- o k r: give back o gives number k and offset r
+  resizes : ℕ → ℕ → ℕ → ℕ → Line  -- o n k r: resize o to n gives number k and offset r
+  writes : ℕ → List ℕ → ℕ → ℕ → Line  -- o t k r: write of the text t at o gives number k and offset r
+  views : ℕ → ℕ → ℕ → List ℕ → Line  -- o k s bytes: view's companion gives number k and size s, view the bytes
+  rolls : List ℕ → ℕ → ℕ → List ℕ → Line  -- w k n v: roll call over the words w gives number k and count n, and leaves v
+  has : (Heap → ℕ) → ℕ → Line  -- a number of the heap is as said
+  spoil : (Heap → Heap) → Line  -- somebody changes the heap
+
+-- ---- what a line looks at: a word of the books, a link in memory, block k's bit in pool p
+abbrev pub word : ℕ → Heap → ℕ
+word i h = at (h .books) i
+
+unfoldable pub link : ℕ → Heap → ℕ
+unfolding linkAt
+link o h = linkAt (h .memory) o
+
+unfoldable pub bitIn : ℕ → ℕ → Heap → ℕ
+unfolding bit
+bitIn p k h = bit (at (h .map) (mapWord p k)) (k % 64)
+
+-- ---- equal answers, equal lists
+abbrev answers : ℕ → ℕ → Answer → Bool
+answers k o r = eqb (r .number) k && eqb (r .offset) o
+
+abbrev sizedAs : ℕ → ℕ → Sized → Bool
+sizedAs k s r = eqb (r .number) k && eqb (r .size) s
+
+abbrev rolledAs : ℕ → ℕ → Rolled → Bool
+rolledAs k n r = eqb (r .number) k && eqb (r .count) n
+
+abbrev pub same : List ℕ → List ℕ → Bool
+same [] [] = true
+same [] (y ∷ ys) = false
+same (x ∷ xs) [] = false
+same (x ∷ xs) (y ∷ ys) = eqb x y && same xs ys
+
+-- every line holds, each over the heap that those before it leave
+unfoldable pub runs : List Line → Heap → Bool
+unfolding inRange exact bit putBit isStart linkAt putLink live liveNumber leaveBy joinBy freshBooks noLink fromListed setAnew takeAgain fromMark fromFreed fromUsable fromUnused planAsk takeFrom afterAsk askAnswer askStep emptying planBack afterBack backAnswer backStep giveOld moved resizeStep rollBlocks rollPool rollPools fitNumber shapeNumber sizeNumber roomNumber format ask giveBack resize view viewSize write rollCall link bitIn
+runs [] h = true
+runs (formats A P k ∷ ls) h = answers k 0 (format h A P .answer) && runs ls (format h A P .heap)
+runs (asks n k o ∷ ls) h = answers k o (ask 8 h n .answer) && runs ls (ask 8 h n .heap)
+runs (gives o k r ∷ ls) h = answers k r (giveBack 8 h o .answer) && runs ls (giveBack 8 h o .heap)
+runs (resizes o n k r ∷ ls) h = answers k r (resize 8 h o n .answer) && runs ls (resize 8 h o n .heap)
+runs (writes o t k r ∷ ls) h = answers k r (write 8 h o t .answer) && runs ls (write 8 h o t .heap)
+runs (views o k s t ∷ ls) h = sizedAs k s (viewSize 8 h o) && same (view 8 h o) t && runs ls h
+runs (rolls w k n v ∷ ls) h = rolledAs k n (rollCall 8 h w .answer) && same (rollCall 8 h w .words) v && runs ls h
+runs (has f v ∷ ls) h = eqb (f h) v && runs ls h
+runs (spoil f ∷ ls) h = runs ls (f h)
+
+-- every row holds, each of the heap h itself
+unfoldable pub every : List (List Line) → Heap → Bool
+unfolding runs
+every [] h = true
+every (r ∷ rs) h = runs r h && every rs h
+
+-- the heap that format leaves of three lent buffers
+abbrev pub fresh : ℕ → ℕ → List ℕ → List ℕ → List ℕ → Heap
+fresh A P m b k = format (heapOf m b k) A P .heap

@@ -1,0 +1,48 @@
+// The answers that the calls of 01 give and the paths that its steps take: the types that the code and the definitions
+// in specs/ share. What each value means is said there.
+
+// Format, ask, give back, resize and write: 01's number, and the offset that its table of numbers puts beside it.
+pub struct Answer {
+    pub number: u32,
+    pub offset: u32,
+}
+
+// View's companion: the number and, when done, the block size, otherwise 0.
+pub struct Sized {
+    pub number: u32,
+    pub size: u32,
+}
+
+// Roll call: the number and, when done, how many blocks are live, otherwise 0.
+pub struct Rolled {
+    pub number: u32,
+    pub count: u32,
+}
+
+// Where an ask gets a pool when its class list is empty. The number is the arena's.
+pub enum Source {
+    Freed(usize),
+    Carved(usize),
+    Opened(usize),
+}
+
+// The path of an ask: a pool, the in-pool offset of the block that is handed out, and that of the one after it.
+pub enum AskPlan {
+    NoRoom,
+    Damaged,
+    Follow(usize, usize, usize),
+    Ready(usize, usize, usize),
+    Last(usize, usize),
+    Again(Source, usize, usize, usize),
+    Anew(Source, usize),
+}
+
+// The path of a give-back: what becomes of the block's pool, and then of the pool's arena.
+pub enum BackPlan {
+    Damaged,
+    Joins,
+    Stays,
+    Empties,
+    Returns,
+    Releases,
+}
