@@ -6,7 +6,7 @@ use mathlib.Core.List.{List, [], _∷_}
 use Prim.Native.Nat.{ℕ}
 use lib.Dec.{T}
 use lib.ListN.{length, take, drop}
-use Rattle.rules.specs.Books.{Heap, memoryLength, booksLength, mapLength, onMemory, onBooks, onMap, putWord, mark, usableHead, unusedHead, classHead, openWord, carveMark, freePools, freedHead, arenaNext, arenaWord, count, freeblock, poolNext, poolPrevious, class, nextoffset, maxnextoffset, poolWord}
+use Rattle.rules.specs.Books.{at, memoryLength, booksLength, mapLength, onMemory, onBooks, onMap, putWord, mark, usableHead, unusedHead, classHead, openWord, carveMark, freePools, freedHead, arenaNext, arenaWord, count, freeblock, poolNext, poolPrevious, class, nextoffset, maxnextoffset, poolWord}
 use Rattle.rules.specs.Blocks.{putLink}
 use Rattle.rules.specs.Lines.{Line, formats, asks, gives, resizes, writes, views, rolls, has, spoil, word, link, bitIn, every, fresh}
 use Rattle.rules.specs.Whole.{tab, each-three}
@@ -34,12 +34,42 @@ link= o v = spoil (onMemory (putLink o v))
 abbrev bit= : ℕ → ℕ → ℕ → Line
 bit= p k d = spoil (onMap (mark p k d))
 
--- ---- a look: the word at place i, the bit of block k of pool p is ..
+-- ---- a look: the word at place i, the bit of block k of pool p, word i of the map is ..
 abbrev word? : ℕ → ℕ → Line
 word? i v = has (word i) v
 
 abbrev bit? : ℕ → ℕ → ℕ → Line
 bit? p k d = has (bitIn p k) d
+
+abbrev mapWord? : ℕ → ℕ → Line
+mapWord? i v = has (λ h. at (h .map) i) v
+
+-- ==== format
+-- "all closed and on the unused list, linked both ways, in rising order with arena 0 first, every other head and spare word 0, every pool
+-- record 0 but for class 65,535", whatever stood there; and no byte of memory
+abbrev formatWords : List Line
+formatWords =
+    word= usableHead 9 ∷ word= unusedHead 9 ∷ word= (classHead 63) 9 ∷ word= 68 9 ∷ word= 71 9 ∷ word= (inArena 1 openWord) 9 ∷ word= (inArena 2 7) 9
+    ∷ word= (inPool 0 class) 9 ∷ word= (inPool 8 7) 9 ∷ bit= 8 511 1 ∷ link= 48 12345 ∷ formats 3 3 0
+    ∷ word? 0 3 ∷ word? 1 3 ∷ word? usableHead 0 ∷ word? unusedHead 1 ∷ word? (classHead 63) 0 ∷ word? 68 0 ∷ word? 71 0 ∷ word? (inArena 1 openWord) 0 ∷ word? (inArena 2 7) 0
+    ∷ word? (inArena 0 arenaNext) 2 ∷ word? (inArena 0 arenaPrevious) 0 ∷ word? (inArena 1 arenaNext) 3 ∷ word? (inArena 1 arenaPrevious) 1 ∷ word? (inArena 2 arenaNext) 0
+    ∷ word? (inArena 2 arenaPrevious) 2 ∷ word? (inPool 0 class) 65535 ∷ word? (inPool 8 class) 65535 ∷ word? (inPool 8 7) 0 ∷ mapWord? 71 0 ∷ has (link 48) 12345 ∷ []
+
+-- ==== the books' words, by their numbers
+-- "word 0 is A, 1 is P, 2 the usable-arena head, 3 the unused-arena head, 4 to 67 the 64 class heads"; then eight words an arena, and eight a pool
+abbrev bookWords : List Line
+bookWords =
+    asks 1 0 48 ∷ asks 9 0 4144 ∷ asks 512 0 8240 ∷ word? 0 3 ∷ word? 1 3 ∷ word? 2 0 ∷ word? 3 2 ∷ word? 4 1 ∷ word? 5 2 ∷ word? 67 3
+    ∷ word? 72 1 ∷ word? 73 3 ∷ word? 74 0 ∷ word? 75 0 ∷ word? 76 0 ∷ word? 77 0 ∷ word? 84 3 ∷ word? 85 0 ∷ word? 92 0 ∷ word? 93 2
+    ∷ word? 96 1 ∷ word? 97 56 ∷ word? 98 0 ∷ word? 99 0 ∷ word? 100 0 ∷ word? 101 64 ∷ word? 102 4088 ∷ word? 103 0
+    ∷ word? 104 1 ∷ word? 105 64 ∷ word? 106 0 ∷ word? 107 0 ∷ word? 108 1 ∷ word? 109 80 ∷ word? 110 4080 ∷ word? 111 0 ∷ word? 116 63 ∷ []
+
+-- ==== the map
+-- "Block k of a pool is bit k mod 64 (low bit first) of its word k div 64": blocks 0, 70 and 505 of pool 0, block 0 of pool 1
+abbrev mapWords : List Line
+mapWords =
+    asks 1 0 48 ∷ mapWord? 0 1 ∷ asks 9 0 4144 ∷ mapWord? 8 1 ∷ word= (inPool 0 freeblock) 608 ∷ link= 608 4088 ∷ link= 4088 0 ∷ asks 1 0 608 ∷ mapWord? 1 64
+    ∷ asks 1 0 4088 ∷ mapWord? 7 144115188075855872 ∷ gives 608 0 608 ∷ mapWord? 1 0 ∷ mapWord? 0 1 ∷ []
 
 -- ==== ask, from the class list
 -- "a pool link above A × P": 10 is, and 9 is pool 8, which is made the front pool of class 0
@@ -110,6 +140,10 @@ askNextoffset =
     ∷ word= (inPool 0 nextoffset) 4088 ∷ asks 1 0 56 ∷ word? (inPool 0 freeblock) 4088 ∷ word? (inPool 0 nextoffset) 4096 ∷ has (link 4088) 0
     ∷ word= (inPool 0 nextoffset) 4089 ∷ asks 1 0 4088 ∷ word? (inPool 0 freeblock) 0 ∷ word? (classHead 0) 0 ∷ []
 
+-- "nextoffset rises by the size": by 512
+abbrev askReadyOfSeven : List Line
+askReadyOfSeven = asks 512 0 48 ∷ asks 512 0 560 ∷ word? (inPool 0 nextoffset) 1584 ∷ asks 512 0 1072 ∷ word? (inPool 0 nextoffset) 2096 ∷ word? (inPool 0 count) 3 ∷ []
+
 -- R14: nextoffset is read only where the link is 0, and above maxnextoffset any value means full
 abbrev askNextoffsetUnread : List Line
 askNextoffsetUnread =
@@ -130,7 +164,7 @@ abbrev askLastNext : List Line
 askLastNext =
     asks 1 0 48 ∷ word= (inPool 0 poolNext) 10 ∷ asks 1 0 56
     ∷ full ∷ asks 1 6 0 ∷ word= (inPool 0 poolNext) 9 ∷ word= (inPool 8 poolPrevious) 1 ∷ asks 1 0 64
-    ∷ word? (classHead 0) 9 ∷ word? (inPool 8 poolPrevious) 0 ∷ word? (inPool 0 poolNext) 0 ∷ word? (inPool 0 poolPrevious) 0 ∷ word? (inPool 0 freeblock) 0 ∷ []
+    ∷ word? (classHead 0) 9 ∷ word? (inPool 8 poolPrevious) 0 ∷ word? (inPool 0 poolNext) 0 ∷ word? (inPool 0 poolPrevious) 0 ∷ word? (inPool 0 freeblock) 0 ∷ word? (inPool 0 count) 3 ∷ []
 
 -- R4: a front member whose previous is not 0: the previous member's next is written, and the head stays
 abbrev askLastPrevious : List Line
@@ -150,10 +184,10 @@ noRoomButClass = asks 1 0 48 ∷ word= usableHead 0 ∷ word= unusedHead 0 ∷ a
 abbrev noRoomButUsable : List Line
 noRoomButUsable = asks 1 0 48 ∷ word= unusedHead 0 ∷ asks 9 0 4144 ∷ []
 
--- "an arena link above A": the usable head. 3 is arena 2, which is made usable
+-- "an arena link above A": the usable head. 3 is arena 2, which is made usable; the words after arena 2's would serve as an arena's
 abbrev askUsableHead : List Line
 askUsableHead =
-    word= usableHead 4 ∷ asks 1 6 0 ∷ word= usableHead 3 ∷ word= (inArena 2 freePools) 2 ∷ asks 1 0 24624
+    word= (inPool 0 poolNext) 2 ∷ word= usableHead 4 ∷ asks 1 6 0 ∷ word= usableHead 3 ∷ word= (inArena 2 freePools) 2 ∷ asks 1 0 24624
     ∷ word? (inArena 2 carveMark) 1 ∷ word? (inArena 2 freePools) 1 ∷ []
 
 -- .. the unused head
@@ -248,6 +282,10 @@ abbrev againLink : List Line
 againLink =
     freed (link= 48 57 ∷ asks 1 6 0 ∷ link= 48 56 ∷ bit= 0 1 1 ∷ asks 1 6 0 ∷ bit= 0 1 0 ∷ asks 1 0 48 ∷ [])
 
+-- its next becomes the arena's freed-pool head before its links become 0
+abbrev againNext : List Line
+againNext = freed (word= (inPool 0 poolNext) 9 ∷ asks 1 0 48 ∷ word? (inArena 0 freedHead) 9 ∷ word? (inPool 0 poolNext) 0 ∷ word? (inArena 0 freePools) 1 ∷ [])
+
 -- R13: its count, nextoffset and maxnextoffset are not tested; a link 0 is allowed, freeblock becomes 0 and the pool stays listed
 abbrev againUntested : List Line
 againUntested =
@@ -285,6 +323,10 @@ backJoins =
     asks 1 0 48 ∷ asks 1 0 56 ∷ word= (inPool 0 freeblock) 0 ∷ word= (inPool 0 poolPrevious) 5 ∷ word= (classHead 0) 10 ∷ gives 56 6 0
     ∷ word= (classHead 0) 9 ∷ gives 56 0 56
     ∷ word? (inPool 0 poolNext) 9 ∷ word? (inPool 0 poolPrevious) 0 ∷ word? (inPool 8 poolPrevious) 1 ∷ word? (classHead 0) 1 ∷ has (link 56) 0 ∷ []
+
+-- "Writes happen in the order given": a pool that joins a list it is the head of gets its own link as previous, after the 0
+abbrev backJoinsItself : List Line
+backJoinsItself = asks 1 0 48 ∷ word= (inPool 0 freeblock) 0 ∷ gives 48 0 48 ∷ word? (inPool 0 poolNext) 1 ∷ word? (inPool 0 poolPrevious) 1 ∷ word? (classHead 0) 1 ∷ []
 
 -- the head is not read where the pool does not join
 abbrev backStays : List Line
@@ -355,10 +397,11 @@ resizeNoRoom =
     asks 1 0 48 ∷ asks 9 0 4144 ∷ asks 17 0 8240 ∷ word= unusedHead 0 ∷ writes 48 (79 ∷ 87 ∷ 69 ∷ 68 ∷ 0 ∷ 0 ∷ 0 ∷ 1 ∷ []) 0 48
     ∷ resizes 48 100 4 0 ∷ views 48 0 8 (79 ∷ 87 ∷ 69 ∷ 68 ∷ 0 ∷ 0 ∷ 0 ∷ 1 ∷ []) ∷ word? (inPool 0 count) 1 ∷ []
 
--- "copy the first min(n, s) bytes": to a larger block all 8, and the old block is dead; to a smaller one n, and the bytes after them stay
+-- "copy the first min(n, s) bytes": to a larger block all 8 and not the ninth, and the old block is dead; to a smaller one n, and the bytes after them stay
 abbrev resizeCopies : List Line
 resizeCopies =
-    asks 1 0 48 ∷ asks 9 0 4144 ∷ writes 48 (1 ∷ 2 ∷ 3 ∷ 4 ∷ 5 ∷ 6 ∷ 7 ∷ 8 ∷ []) 0 48 ∷ resizes 48 9 0 4160 ∷ views 48 5 0 []
+    asks 1 0 48 ∷ asks 9 0 4144 ∷ writes 48 (1 ∷ 2 ∷ 3 ∷ 4 ∷ 5 ∷ 6 ∷ 7 ∷ 8 ∷ []) 0 48 ∷ link= 56 99 ∷ link= 4168 77
+    ∷ resizes 48 9 0 4160 ∷ has (link 4160) 67305985 ∷ has (link 4164) 134678021 ∷ has (link 4168) 77 ∷ views 48 5 0 []
     ∷ writes 4160 (1 ∷ 2 ∷ 3 ∷ 4 ∷ 5 ∷ 6 ∷ 7 ∷ 8 ∷ 9 ∷ 10 ∷ 11 ∷ 12 ∷ 13 ∷ 14 ∷ 15 ∷ 16 ∷ []) 0 4160 ∷ views 4160 0 16 (1 ∷ 2 ∷ 3 ∷ 4 ∷ 5 ∷ 6 ∷ 7 ∷ 8 ∷ 9 ∷ 10 ∷ 11 ∷ 12 ∷ 13 ∷ 14 ∷ 15 ∷ 16 ∷ [])
     ∷ link= 52 0 ∷ resizes 4160 3 0 48 ∷ has (link 48) 197121 ∷ has (link 52) 0 ∷ []
 
@@ -444,12 +487,13 @@ rolling =
 
 abbrev pub damaged : List (List Line)
 damaged =
-    askClassHead ∷ askClass ∷ askMaxnextoffset ∷ askBothRead ∷ askCount ∷ askCountOfSeven ∷ askFreeblock ∷ askFreeblockOfSeven ∷ askFreeblockBit
-    ∷ askLink ∷ askNextBit ∷ askNextoffset ∷ askNextoffsetUnread ∷ askItself ∷ askLastNext ∷ askLastPrevious
+    formatWords ∷ bookWords ∷ mapWords
+    ∷ askClassHead ∷ askClass ∷ askMaxnextoffset ∷ askBothRead ∷ askCount ∷ askCountOfSeven ∷ askFreeblock ∷ askFreeblockOfSeven ∷ askFreeblockBit
+    ∷ askLink ∷ askNextBit ∷ askNextoffset ∷ askReadyOfSeven ∷ askNextoffsetUnread ∷ askItself ∷ askLastNext ∷ askLastPrevious
     ∷ noRoom ∷ noRoomButClass ∷ noRoomButUsable ∷ askUsableHead ∷ askUnusedHead ∷ openLinks ∷ opening ∷ askFreedHead ∷ askFreedNext
     ∷ askCarveMark ∷ askCarveMarkUnread ∷ carveFreePools ∷ freedFreePools ∷ spentNext ∷ spentPrevious ∷ anewBits ∷ anewWords
-    ∷ againFreeblock ∷ againLink ∷ againUntested ∷ spareWords
-    ∷ backFreeblock ∷ backCount ∷ backCountOfSeven ∷ backJoins ∷ backStays ∷ backJoinsEmpty ∷ emptyNext ∷ emptyPrevious ∷ emptyFreedHead ∷ emptyFreePools
+    ∷ againFreeblock ∷ againLink ∷ againNext ∷ againUntested ∷ spareWords
+    ∷ backFreeblock ∷ backCount ∷ backCountOfSeven ∷ backJoins ∷ backJoinsItself ∷ backStays ∷ backJoinsEmpty ∷ emptyNext ∷ emptyPrevious ∷ emptyFreedHead ∷ emptyFreePools
     ∷ backReturns ∷ releaseNext ∷ releasePrevious ∷ releaseWords
     ∷ resizeNoRoom ∷ resizeCopies ∷ resizeKeeps ∷ halfDoneSix ∷ halfDoneFive ∷ resizeByNewClass
     ∷ orderTwoWords ∷ orderOne ∷ rangeEnds ∷ orderTwo ∷ orderTwoBooks ∷ orderTwoMap ∷ orderRest

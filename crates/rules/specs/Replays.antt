@@ -96,8 +96,9 @@ replays =
     ∷ 0x03000000 ∷ 0x38000000 ∷ 0x08000000 ∷ 0x01000000
     ∷ 0x03000000 ∷ 0x30100000 ∷ 0x10000000 ∷ 0x01000000
     ∷ 0x02000000 ∷ 0x30100000 ∷ 0x10000000 ∷ 0x00000000 ∷ []))
-    -- 8 of a single byte; "Empty input writes nothing."
+    -- 8 of one byte and of fifteen; "Empty input writes nothing."
     ∷ turns (1 ∷ []) (bytes (0x00080000 ∷ 0x00000000 ∷ 0x00000000 ∷ 0x00000000 ∷ []))
+    ∷ turns (bytes (0x02000000 ∷ 0x00000000 ∷ 0x30000000 ∷ []) ++ (0 ∷ 0 ∷ 0 ∷ [])) (bytes (0x00080000 ∷ 0x00000000 ∷ 0x00000000 ∷ 0x00000000 ∷ []))
     ∷ turns [] []
     ∷ []
 
