@@ -1,8 +1,7 @@
 -- 01, "Ask": the path, decided from the heap before, each rule of 6 where the path meets it; then the writes, in 01's order.
 -- Assumes nothing.
-use mathlib.Core.Bool.{Bool, true, false, not, _&&_, _||_}
-use mathlib.Core.List.{List}
-use Prim.Native.Nat.{ℕ, _+_, _*_, _-_}
+use mathlib.Core.Bool.{Bool, not, _&&_, _||_}
+use Prim.Native.Nat.{ℕ, _+_, _*_}
 use lib.Dec.{leb, ltb, eqb}
 use Rattle.rules.specs.declared.Answer.{Answer}
 use Rattle.rules.specs.declared.Source.{Source}
@@ -10,7 +9,7 @@ use Rattle.rules.specs.declared.Source.the-variants.{Freed, Carved, Open
 use Rattle.rules.specs.declared.AskPlan.{AskPlan}
 use Rattle.rules.specs.declared.AskPlan.the-variants.{NoRoom, Damaged, Follow, Ready, Last, Again, Anew}
 use Rattle.rules.specs.Say.{if_then_else_, _▷_, only}
-use Rattle.rules.specs.Books.{Heap, at, put, onMemory, onBooks, onMap, isSet, mark, usableHead, unusedHead, classHead, openWord, carveMark, freePools, freedHead, arenaWord, arena, count, freeblock, poolNext, poolPrevious, class, nextoffset, maxnextoffset, noClass, poolWord, pool, putWord, rise, fall, none?, linkTo, linked, offsetOf}
+use Rattle.rules.specs.Books.{Heap, at, put, onMemory, onBooks, onMap, isSet, putMapBit, usableHead, unusedHead, classHead, openWord, carveMark, freePools, freedHead, arenaWord, arena, count, freeblock, poolNext, poolPrevious, class, nextoffset, maxnextoffset, noClass, poolWord, pool, putWord, rise, fall, none?, linkTo, linked, offsetOf}
 use Rattle.rules.specs.Blocks.{classOf, sizeOf, lastStart, isStart, blockNo, linkAt, putLink}
 use Rattle.rules.specs.Lists.{mayLeave, arenaLinks, poolLinks, arenaLeaves, arenaJoins, poolLeaves}
 use Rattle.rules.specs.Outcome.{Outcome, outcome, answerOf}
@@ -45,35 +44,42 @@ module _ (al A P : ℕ) (h : Heap) (c : ℕ) where
   abbrev pub linkIn : ℕ → ℕ
   linkIn p = linkAt (h .memory) (offsetOf p (poolHas p freeblock))
 
-  -- "If that is 0 and nextoffset ≤ maxnextoffset, freeblock becomes nextoffset, ..": pool p is listed, and its freeblock has no link
+  -- "If that is 0 and nextoffset ≤ maxnextoffset, freeblock becomes nextoffset, .. If it is 0 and there is no such room, the pool is full: it
+  -- leaves the list": pool p is listed, and its freeblock has no link
   unfoldable pub noLink : ℕ → AskPlan
   noLink p =
       if leb (poolHas p nextoffset) (poolHas p maxnextoffset)
       then spare p (poolHas p nextoffset) ⇛ Ready p (poolHas p freeblock) (poolHas p nextoffset)
       else mayLeave (A * P) (poolLinks A) p (h .books) ⇛ Last p (poolHas p freeblock)
 
-  -- "If the class list has a pool, take the front one: .. the block at freeblock is the answer, freeblock becomes its link."
+  -- "the block at freeblock is the answer, freeblock becomes its link": of the listed pool p
+  unfoldable pub fromFreeblock : ℕ → AskPlan
+  fromFreeblock p =
+      spare p (poolHas p freeblock)
+      ⇛ (none? (linkIn p) || spare p (linkIn p))
+      ⇛ (if none? (linkIn p) then noLink p else Follow p (poolHas p freeblock) (linkIn p))
+
+  -- "If the class list has a pool, take the front one": pool p
   unfoldable pub fromListed : ℕ → AskPlan
   fromListed p =
       eqb (poolHas p class) c
       ⇛ eqb (poolHas p maxnextoffset) (lastStart size)
       ⇛ leb (poolHas p count) 505
-      ⇛ spare p (poolHas p freeblock)
-      ⇛ (none? (linkIn p) || spare p (linkIn p))
-      ⇛ (if none? (linkIn p) then noLink p else Follow p (poolHas p freeblock) (linkIn p))
+      ⇛ fromFreeblock p
 
   -- "Otherwise class is set, .. freeblock 48 + size with link written 0, and the answer is 48": blocks 0 and 1 of pool p
   unfoldable pub setAnew : Source → ℕ → AskPlan
   setAnew s p = spare p 48 ⇛ spare p (48 + size) ⇛ Anew s p
 
-  -- "If its class is already the wanted one, the answer is its freeblock, which becomes that block's link."
-  unfoldable pub takeAgain : Source → ℕ → AskPlan
-  takeAgain s p =
-      if eqb (poolHas p class) c
-      then spare p (poolHas p freeblock)
+  -- "If its class is already the wanted one, the answer is its freeblock, which becomes that block's link": pool p, freed in arena a
+  unfoldable pub sameClass : ℕ → ℕ → AskPlan
+  sameClass a p =
+      spare p (poolHas p freeblock)
       ⇛ (none? (linkIn p) || spare p (linkIn p))
-      ⇛ Again s p (poolHas p freeblock) (linkIn p)
-      else setAnew s p
+      ⇛ Again a p (poolHas p freeblock) (linkIn p)
+
+  unfoldable pub takeAgain : ℕ → ℕ → AskPlan
+  takeAgain a p = if eqb (poolHas p class) c then sameClass a p else setAnew (Freed a) p
 
   -- "Free pools falls by 1; at 0 the arena leaves the list": arena a, which gives a pool
   abbrev pub counted : ℕ → AskPlan → AskPlan
@@ -92,7 +98,7 @@ module _ (al A P : ℕ) (h : Heap) (c : ℕ) where
   unfoldable pub fromFreed : ℕ → ℕ → AskPlan
   fromFreed a p =
       leb (poolHas p poolNext) (A * P)
-      ⇛ counted a (takeAgain (Freed a) p)
+      ⇛ counted a (takeAgain a p)
 
   -- "From the usable front, take the freed-pool head if there is one .., else carve"
   unfoldable pub fromUsable : ℕ → AskPlan
@@ -113,20 +119,13 @@ module _ (al A P : ℕ) (h : Heap) (c : ℕ) where
 
 -- ---- the writes of an ask for class c
 module _ (al A P c : ℕ) where
-  -- "Free pools falls by 1; at 0 the arena leaves the list, next and previous 0."
-  abbrev pub leaveAtZero : ℕ → Heap → Heap
-  leaveAtZero a h = h ▷ only (none? (arena (h .books) freePools a)) (arenaLeaves usableHead a)
-
-  abbrev pub spend : ℕ → Heap → Heap
-  spend a h = h ▷ fall (arenaWord freePools a) ▷ leaveAtZero a
-
   -- "else carve the pool at the mark (its class becomes 65,535, the mark rises by 1)"
   abbrev pub carve : ℕ → ℕ → Heap → Heap
-  carve a p h = h ▷ putWord (poolWord A class p) noClass ▷ rise (arenaWord carveMark a) ▷ spend a
+  carve a p h = h ▷ putWord (poolWord A class p) noClass ▷ rise (arenaWord carveMark a)
 
   -- pool p is taken from its source
   unfoldable pub takeFrom : Source → ℕ → Heap → Heap
-  takeFrom (Freed a) p h = h ▷ onBooks (λ b. put (arenaWord freedHead a) (pool A b poolNext p) b) ▷ spend a
+  takeFrom (Freed a) p h = h ▷ onBooks (λ b. put (arenaWord freedHead a) (pool A b poolNext p) b)
   takeFrom (Carved a) p h = h ▷ carve a p
   takeFrom (Opened a) p h =
       h
@@ -137,6 +136,18 @@ module _ (al A P c : ℕ) where
       ▷ putWord (arenaWord freedHead a) 0
       ▷ putWord (arenaWord freePools a) P
       ▷ carve a p
+
+  abbrev pub arenaOf : Source → ℕ
+  arenaOf (Freed a) = a
+  arenaOf (Carved a) = a
+  arenaOf (Opened a) = a
+
+  -- "Free pools falls by 1; at 0 the arena leaves the list, next and previous 0."
+  abbrev pub leaveAtZero : ℕ → Heap → Heap
+  leaveAtZero a h = h ▷ only (none? (arena (h .books) freePools a)) (arenaLeaves usableHead a)
+
+  abbrev pub spend : ℕ → Heap → Heap
+  spend a h = h ▷ fall (arenaWord freePools a) ▷ leaveAtZero a
 
   -- "The pool goes alone on the class list with count 1."
   abbrev pub alone : ℕ → Heap → Heap
@@ -153,7 +164,7 @@ module _ (al A P c : ℕ) where
 
   -- "Last, the map bit is set."
   abbrev pub handOut : ℕ → ℕ → Heap → Heap
-  handOut p f = onMap (mark p (blockNo (sizeOf al c) f) 1)
+  handOut p f = onMap (putMapBit p (blockNo (sizeOf al c) f) 1)
 
   unfoldable pub afterAsk : AskPlan → Heap → Heap
   unfolding takeFrom
@@ -169,10 +180,12 @@ module _ (al A P c : ℕ) where
       ▷ handOut p f
   afterAsk (Last p f) h =
       h ▷ rise (poolWord A count p) ▷ putWord (poolWord A freeblock p) 0 ▷ poolLeaves A c p ▷ handOut p f
-  afterAsk (Again s p f l) h = h ▷ takeFrom s p ▷ alone p ▷ putWord (poolWord A freeblock p) l ▷ handOut p f
+  afterAsk (Again a p f l) h =
+      h ▷ takeFrom (Freed a) p ▷ spend a ▷ alone p ▷ putWord (poolWord A freeblock p) l ▷ handOut p f
   afterAsk (Anew s p) h =
       h
       ▷ takeFrom s p
+      ▷ spend (arenaOf s)
       ▷ alone p
       ▷ putWord (poolWord A class p) c
       ▷ putWord (poolWord A nextoffset p) (48 + 2 * sizeOf al c)
@@ -188,7 +201,7 @@ askAnswer Damaged = answerOf 6 0
 askAnswer (Follow p f l) = answerOf 0 (offsetOf p f)
 askAnswer (Ready p f m) = answerOf 0 (offsetOf p f)
 askAnswer (Last p f) = answerOf 0 (offsetOf p f)
-askAnswer (Again s p f l) = answerOf 0 (offsetOf p f)
+askAnswer (Again a p f l) = answerOf 0 (offsetOf p f)
 askAnswer (Anew s p) = answerOf 0 (offsetOf p 48)
 
 -- what an ask that takes the path q leaves; and an ask for n bytes, 1 to 512

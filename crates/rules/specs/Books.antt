@@ -67,8 +67,8 @@ putBit w j d = w - bit w j * 2 ^ j + d * 2 ^ j
 abbrev pub isSet : List ℕ → ℕ → ℕ → Bool
 isSet m n k = eqb (bit (at m (mapWord n k)) (k % 64)) 1
 
-abbrev pub mark : ℕ → ℕ → ℕ → List ℕ → List ℕ
-mark n k d m = put (mapWord n k) (putBit (at m (mapWord n k)) (k % 64) d) m
+abbrev pub putMapBit : ℕ → ℕ → ℕ → List ℕ → List ℕ
+putMapBit n k d m = put (mapWord n k) (putBit (at m (mapWord n k)) (k % 64) d) m
 
 -- ---- the books: words 0 and 1 are A and P
 abbrev pub arenas : Heap → ℕ
@@ -101,6 +101,9 @@ freedHead = 3
 
 abbrev pub arenaNext : ℕ
 arenaNext = 4
+
+abbrev pub arenaPrevious : ℕ
+arenaPrevious = 5
 
 -- the place of word w of arena a's record, and what stands there
 abbrev pub arenaWord : ℕ → ℕ → ℕ
@@ -152,7 +155,7 @@ rise i = onBooks (λ b. put i (at b i + 1) b)
 abbrev pub fall : ℕ → Heap → Heap
 fall i = onBooks (λ b. put i (at b i - 1) b)
 
--- ---- links: "a link to pool or arena n is stored as n + 1; 0 is none"
+-- ---- links: "A link to pool or arena n is stored as n + 1; 0 is none"
 abbrev pub none? : ℕ → Bool
 none? l = eqb l 0
 

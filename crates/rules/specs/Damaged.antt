@@ -1,12 +1,12 @@
--- Damaged books: each clause of 01's rule for 6 from both sides, the three heads of 4, the half-done resize, the order of the tests, and
--- each reading of docs/DECISIONS.md where it differs from the one not taken. One table under one statement.
+-- Damaged books: each clause of 01's rule for 6 from both sides where a row can tell, the three heads of 4, the half-done resize, the order of
+-- the tests, and readings R1 to R17 and R22 of docs/DECISIONS.md where they differ from those not taken. One table under one statement.
 -- Assumes nothing.
 use mathlib.Core.Path.{_≡_}
-use mathlib.Core.List.{List, [], _∷_}
+use mathlib.Core.List.{List, [], _∷_, _++_}
 use Prim.Native.Nat.{ℕ}
 use lib.Dec.{T}
 use lib.ListN.{length, take, drop}
-use Rattle.rules.specs.Books.{at, memoryLength, booksLength, mapLength, onMemory, onBooks, onMap, putWord, mark, usableHead, unusedHead, classHead, openWord, carveMark, freePools, freedHead, arenaNext, arenaWord, count, freeblock, poolNext, poolPrevious, class, nextoffset, maxnextoffset, poolWord}
+use Rattle.rules.specs.Books.{at, memoryLength, booksLength, mapLength, onMemory, onBooks, onMap, putWord, putMapBit, usableHead, unusedHead, classHead, openWord, carveMark, freePools, freedHead, arenaNext, arenaPrevious, arenaWord, count, freeblock, poolNext, poolPrevious, class, nextoffset, maxnextoffset, poolWord}
 use Rattle.rules.specs.Blocks.{putLink}
 use Rattle.rules.specs.Lines.{Line, formats, asks, gives, resizes, writes, views, rolls, has, spoil, word, link, bitIn, every, fresh}
 use Rattle.rules.specs.Whole.{tab, each-three}
@@ -21,9 +21,6 @@ inPool p w = poolWord 3 w p
 abbrev inArena : ℕ → ℕ → ℕ
 inArena a w = arenaWord w a
 
-abbrev arenaPrevious : ℕ
-arenaPrevious = 5
-
 -- ---- damage: the word at place i, the link at byte o of memory, the bit of block k of pool p becomes ..
 abbrev word= : ℕ → ℕ → Line
 word= i v = spoil (putWord i v)
@@ -32,7 +29,7 @@ abbrev link= : ℕ → ℕ → Line
 link= o v = spoil (onMemory (putLink o v))
 
 abbrev bit= : ℕ → ℕ → ℕ → Line
-bit= p k d = spoil (onMap (mark p k d))
+bit= p k d = spoil (onMap (putMapBit p k d))
 
 -- ---- a look: the word at place i, the bit of block k of pool p, word i of the map is ..
 abbrev word? : ℕ → ℕ → Line
@@ -164,7 +161,7 @@ abbrev askLastNext : List Line
 askLastNext =
     asks 1 0 48 ∷ word= (inPool 0 poolNext) 10 ∷ asks 1 0 56
     ∷ full ∷ asks 1 6 0 ∷ word= (inPool 0 poolNext) 9 ∷ word= (inPool 8 poolPrevious) 1 ∷ asks 1 0 64
-    ∷ word? (classHead 0) 9 ∷ word? (inPool 8 poolPrevious) 0 ∷ word? (inPool 0 poolNext) 0 ∷ word? (inPool 0 poolPrevious) 0 ∷ word? (inPool 0 freeblock) 0 ∷ word? (inPool 0 count) 3 ∷ []
+    ∷ word? (classHead 0) 9 ∷ word? (inPool 8 poolPrevious) 0 ∷ word? (inPool 0 poolNext) 0 ∷ word? (inPool 0 poolPrevious) 0 ∷ word? (inPool 0 freeblock) 0 ∷ word? (inPool 0 count) 3 ∷ bit? 0 2 1 ∷ []
 
 -- R4: a front member whose previous is not 0: the previous member's next is written, and the head stays
 abbrev askLastPrevious : List Line
@@ -172,6 +169,11 @@ askLastPrevious =
     asks 1 0 48 ∷ word= (inPool 0 poolPrevious) 10 ∷ asks 1 0 56
     ∷ full ∷ asks 1 6 0 ∷ word= (inPool 0 poolNext) 8 ∷ word= (inPool 0 poolPrevious) 9 ∷ asks 1 0 64
     ∷ word? (classHead 0) 1 ∷ word? (inPool 8 poolNext) 8 ∷ word? (inPool 7 poolPrevious) 9 ∷ word? (inPool 0 poolNext) 0 ∷ word? (inPool 0 poolPrevious) 0 ∷ []
+
+-- "Writes happen in the order given": own next and previous become 0 last, also where the pool is its own neighbour
+abbrev askLastItself : List Line
+askLastItself =
+    asks 1 0 48 ∷ word= (inPool 0 poolNext) 1 ∷ word= (inPool 0 poolPrevious) 1 ∷ full ∷ asks 1 0 56 ∷ word? (inPool 0 poolNext) 0 ∷ word? (inPool 0 poolPrevious) 0 ∷ []
 
 -- ==== ask, with an empty class list
 -- "4 needs the class head, usable head and unused head all 0": each alone serves, or is refused for what it is
@@ -190,10 +192,10 @@ askUsableHead =
     word= (inPool 0 poolNext) 2 ∷ word= usableHead 4 ∷ asks 1 6 0 ∷ word= usableHead 3 ∷ word= (inArena 2 freePools) 2 ∷ asks 1 0 24624
     ∷ word? (inArena 2 carveMark) 1 ∷ word? (inArena 2 freePools) 1 ∷ []
 
--- .. the unused head
+-- .. the unused head, the words after arena 2's serving as an arena's
 abbrev askUnusedHead : List Line
 askUnusedHead =
-    word= unusedHead 4 ∷ asks 1 6 0 ∷ word= unusedHead 3 ∷ asks 1 0 24624 ∷ word? usableHead 3 ∷ word? (inArena 1 arenaNext) 0 ∷ word? unusedHead 3 ∷ []
+    word= (inPool 0 class) 0 ∷ word= unusedHead 4 ∷ asks 1 6 0 ∷ word= unusedHead 3 ∷ asks 1 0 24624 ∷ word? usableHead 3 ∷ word? (inArena 1 arenaNext) 0 ∷ word? unusedHead 3 ∷ []
 
 -- .. the links of an arena that leaves the unused list
 abbrev openLinks : List Line
@@ -201,7 +203,7 @@ openLinks =
     word= (inArena 0 arenaNext) 4 ∷ asks 1 6 0 ∷ word= (inArena 0 arenaNext) 3 ∷ word= (inArena 0 arenaPrevious) 4 ∷ asks 1 6 0
     ∷ word= (inArena 0 arenaPrevious) 2 ∷ asks 1 0 48 ∷ word? (inArena 1 arenaNext) 3 ∷ word? (inArena 2 arenaPrevious) 2 ∷ word? unusedHead 1 ∷ []
 
--- R5: opening writes open, mark, freed-pool head, free pools and the links, and reads none of their old values; words 6 and 7 stay
+-- R5: opening writes open, putMapBit, freed-pool head, free pools and the links, and reads none of their old values; words 6 and 7 stay
 abbrev opening : List Line
 opening =
     word= (inArena 0 openWord) 9 ∷ word= (inArena 0 carveMark) 9 ∷ word= (inArena 0 freePools) 9 ∷ word= (inArena 0 freedHead) 99
@@ -276,7 +278,7 @@ freed ls = asks 1 0 48 ∷ asks 9 0 4144 ∷ gives 48 0 48 ∷ ls
 abbrev againFreeblock : List Line
 againFreeblock =
     freed (word= (inPool 0 freeblock) 0 ∷ asks 1 6 0 ∷ word= (inPool 0 freeblock) 57 ∷ asks 1 6 0 ∷ word= (inPool 0 freeblock) 48
-    ∷ bit= 0 0 1 ∷ asks 1 6 0 ∷ bit= 0 0 0 ∷ asks 1 0 48 ∷ word? (inPool 0 freeblock) 56 ∷ word? (classHead 0) 1 ∷ word? (inPool 0 count) 1 ∷ [])
+    ∷ bit= 0 0 1 ∷ asks 1 6 0 ∷ bit= 0 0 0 ∷ asks 1 0 48 ∷ word? (inPool 0 freeblock) 56 ∷ word? (classHead 0) 1 ∷ word? (inPool 0 count) 1 ∷ bit? 0 0 1 ∷ [])
 
 abbrev againLink : List Line
 againLink =
@@ -342,10 +344,10 @@ backJoinsEmpty =
 abbrev emptied : List Line → List Line
 emptied ls = asks 1 0 48 ∷ asks 9 0 4144 ∷ ls
 
--- "a pool link above A × P": its links, on leaving the class list
+-- "a pool link above A × P": its links, on leaving the class list. R2: the class head is written and not read
 abbrev emptyNext : List Line
 emptyNext =
-    emptied (word= (inPool 0 poolNext) 10 ∷ gives 48 6 0 ∷ word= (inPool 0 poolNext) 9 ∷ word= (inPool 8 poolPrevious) 1 ∷ gives 48 0 48
+    emptied (word= (inPool 0 poolNext) 10 ∷ gives 48 6 0 ∷ word= (inPool 0 poolNext) 9 ∷ word= (inPool 8 poolPrevious) 1 ∷ word= (classHead 0) 10 ∷ gives 48 0 48
     ∷ word? (classHead 0) 9 ∷ word? (inPool 8 poolPrevious) 0 ∷ word? (inPool 0 poolNext) 0 ∷ word? (inArena 0 freedHead) 1 ∷ [])
 
 abbrev emptyPrevious : List Line
@@ -390,7 +392,35 @@ releaseWords =
     ∷ word? (inArena 0 arenaPrevious) 0 ∷ word? (inArena 0 6) 0 ∷ word? (inArena 0 7) 0 ∷ word? unusedHead 1 ∷ word? (inArena 1 arenaPrevious) 1 ∷ word? usableHead 0
     ∷ word? (inPool 0 class) 0 ∷ word? (inPool 0 freeblock) 48 ∷ word? (inPool 0 nextoffset) 64 ∷ asks 1 0 48 ∷ word? (inPool 0 freeblock) 56 ∷ []
 
+-- ---- other arenas, pools and classes: six asks fill arenas 0 and 1
+abbrev filled : List Line → List Line
+filled ls = asks 1 0 48 ∷ asks 9 0 4144 ∷ asks 17 0 8240 ∷ asks 25 0 12336 ∷ asks 33 0 16432 ∷ asks 41 0 20528 ∷ ls
+
+-- "Pool n is in arena n div P": blocks of arena 1 are given back, and it is newly usable, keeps its place, is released
+abbrev otherArena : List Line
+otherArena =
+    filled (word= (inPool 3 freeblock) 56 ∷ gives 12336 6 0 ∷ word= (inPool 3 freeblock) 80 ∷ gives 12336 0 12336
+    ∷ has (link 12336) 80 ∷ word? (classHead 3) 0 ∷ word? (inArena 1 freedHead) 4 ∷ word? (inArena 1 freePools) 1 ∷ word? usableHead 2 ∷ word? (inArena 0 freePools) 0
+    ∷ gives 16432 0 16432 ∷ word? (inPool 4 poolNext) 4 ∷ word? (inArena 1 freePools) 2
+    ∷ gives 20528 0 20528 ∷ word? unusedHead 2 ∷ word? usableHead 0 ∷ word? (inArena 1 openWord) 0 ∷ word? (inArena 0 openWord) 1 ∷ [])
+
+-- the links of the arena that is released, not of arena 0
+abbrev otherArenaLinks : List Line
+otherArenaLinks =
+    filled (gives 12336 0 12336 ∷ gives 16432 0 16432 ∷ word= (inArena 1 arenaNext) 4 ∷ gives 20528 6 0 ∷ word= (inArena 1 arenaNext) 0 ∷ word= (inArena 0 arenaNext) 4
+    ∷ gives 20528 0 20528 ∷ [])
+
+-- "its class list", not another: pool 3, of class 3, becomes full and joins again
+abbrev otherClass : List Line
+otherClass =
+    filled (word= (inPool 3 nextoffset) 4096 ∷ asks 25 0 12368 ∷ word? (classHead 3) 0 ∷ word? (classHead 0) 1
+    ∷ word= (classHead 3) 10 ∷ gives 12336 6 0 ∷ word= (classHead 3) 0 ∷ gives 12336 0 12336 ∷ word? (classHead 3) 4 ∷ word? (classHead 0) 1 ∷ [])
+
 -- ==== resize
+-- an ask that meets 6 is the resize's answer, and nothing changes
+abbrev resizeAskSix : List Line
+resizeAskSix = asks 1 0 48 ∷ word= (classHead 1) 10 ∷ resizes 48 9 6 0 ∷ bit? 0 0 1 ∷ word? (inPool 0 count) 1 ∷ word? (inArena 0 freePools) 2 ∷ []
+
 -- "a refused resize" keeps its block and its bytes: a first pool of three classes, and no arena left for a fourth
 abbrev resizeNoRoom : List Line
 resizeNoRoom =
@@ -448,15 +478,28 @@ orderOne =
 abbrev rangeEnds : List Line
 rangeEnds = word= 0 1 ∷ asks 1 2 0 ∷ word= 0 16 ∷ asks 1 2 0 ∷ word= 1 2 ∷ asks 1 2 0 ∷ word= 1 64 ∷ asks 1 2 0 ∷ formats 1 2 2 ∷ formats 16 64 2 ∷ formats 3 3 0 ∷ asks 1 0 48 ∷ []
 
--- 2 before 3, 5 and 7, for each buffer
+-- 2 before 3, 5 and 7, for each buffer that is one element short
+abbrev wrongLength : List Line
+wrongLength = asks 0 2 0 ∷ gives 56 2 0 ∷ resizes 48 0 2 0 ∷ writes 48 (1 ∷ 2 ∷ 3 ∷ 4 ∷ 5 ∷ 6 ∷ 7 ∷ 8 ∷ 9 ∷ []) 2 0 ∷ views 48 2 0 [] ∷ rolls [] 2 0 [] ∷ formats 3 3 2 ∷ []
+
 abbrev orderTwo : List Line
-orderTwo = memoryShort ∷ asks 0 2 0 ∷ gives 48 2 0 ∷ resizes 48 0 2 0 ∷ writes 48 (1 ∷ []) 2 0 ∷ views 48 2 0 [] ∷ rolls [] 2 0 [] ∷ formats 3 3 2 ∷ []
+orderTwo = asks 1 0 48 ∷ memoryShort ∷ wrongLength
 
 abbrev orderTwoBooks : List Line
-orderTwoBooks = spoil (onBooks (λ b. take 167 b)) ∷ asks 0 2 0 ∷ formats 3 3 2 ∷ []
+orderTwoBooks = asks 1 0 48 ∷ spoil (onBooks (take 167)) ∷ wrongLength
 
 abbrev orderTwoMap : List Line
-orderTwoMap = spoil (onMap (drop 1)) ∷ asks 0 2 0 ∷ formats 3 3 2 ∷ []
+orderTwoMap = asks 1 0 48 ∷ spoil (onMap (drop 1)) ∷ wrongLength
+
+-- "a lent length is not exact": one element long
+abbrev longMemory : List Line
+longMemory = asks 1 0 48 ∷ spoil (onMemory (λ m. 0 ∷ m)) ∷ wrongLength
+
+abbrev longBooks : List Line
+longBooks = asks 1 0 48 ∷ spoil (onBooks (λ b. b ++ (0 ∷ []))) ∷ wrongLength
+
+abbrev longMap : List Line
+longMap = asks 1 0 48 ∷ spoil (onMap (λ m. 0 ∷ m)) ∷ wrongLength
 
 -- 3 before 5, and before the step; 5 before 7, and before the step
 abbrev orderRest : List Line
@@ -466,12 +509,13 @@ orderRest =
     ∷ writes 48 (1 ∷ 2 ∷ 3 ∷ 4 ∷ 5 ∷ 6 ∷ 7 ∷ 8 ∷ 9 ∷ []) 7 0 ∷ word= (inPool 0 count) 0 ∷ gives 56 5 0 ∷ gives 48 6 0 ∷ []
 
 -- ==== view, write, roll call
--- the live test: "it lies in memory, its pool's class is at most 63 (R17: 5, never 6), it is a block start of that class and its map bit is set"
+-- the live test: "it lies in memory, its pool's class is at most 63, it is a block start of that class and its map bit is set". R17: a class above
+-- 63 is 5, never 6, and neither its bits nor those past the last block are in a roll; a pool of 512 has blocks 0 to 6
 abbrev notLive : List Line
 notLive =
-    asks 512 0 48 ∷ gives 49 5 0 ∷ gives 47 5 0 ∷ gives 560 5 0 ∷ gives 36912 5 0 ∷ bit= 0 7 1 ∷ gives 3632 5 0
+    asks 512 0 48 ∷ gives 49 5 0 ∷ gives 47 5 0 ∷ gives 560 5 0 ∷ gives 36912 5 0 ∷ bit= 0 6 1 ∷ bit= 0 7 1 ∷ gives 3632 5 0
     ∷ word= (inPool 0 class) 64 ∷ gives 48 5 0 ∷ views 48 5 0 [] ∷ rolls [] 0 0 []
-    ∷ word= (inPool 0 class) 63 ∷ word= (inPool 0 freeblock) 7 ∷ gives 48 6 0 ∷ rolls (9 ∷ 9 ∷ 9 ∷ []) 0 1 (48 ∷ 512 ∷ 9 ∷ []) ∷ []
+    ∷ word= (inPool 0 class) 63 ∷ word= (inPool 0 freeblock) 7 ∷ gives 48 6 0 ∷ rolls (9 ∷ 9 ∷ 9 ∷ 9 ∷ 9 ∷ []) 0 2 (48 ∷ 512 ∷ 3120 ∷ 512 ∷ 9 ∷ []) ∷ []
 
 -- "Write copies a lent text to the start of a block; the rest of the block stays." R22: an empty text is 0. A full one too
 abbrev writing : List Line
@@ -485,19 +529,23 @@ rolling =
     rolls [] 0 0 [] ∷ asks 1 0 48 ∷ asks 9 0 4144 ∷ asks 1 0 56 ∷ rolls (1 ∷ 2 ∷ 3 ∷ 4 ∷ 5 ∷ []) 7 0 (1 ∷ 2 ∷ 3 ∷ 4 ∷ 5 ∷ [])
     ∷ rolls (1 ∷ 2 ∷ 3 ∷ 4 ∷ 5 ∷ 6 ∷ []) 0 3 (48 ∷ 8 ∷ 56 ∷ 8 ∷ 4144 ∷ 16 ∷ []) ∷ rolls (1 ∷ 2 ∷ 3 ∷ 4 ∷ 5 ∷ 6 ∷ 7 ∷ []) 0 3 (48 ∷ 8 ∷ 56 ∷ 8 ∷ 4144 ∷ 16 ∷ 7 ∷ []) ∷ []
 
+-- the last block of the last pool
+abbrev rollingLast : List Line
+rollingLast = word= (inPool 8 class) 0 ∷ bit= 8 505 1 ∷ bit= 8 506 1 ∷ rolls (0 ∷ 0 ∷ []) 0 1 (36856 ∷ 8 ∷ []) ∷ []
+
 abbrev pub damaged : List (List Line)
 damaged =
     formatWords ∷ bookWords ∷ mapWords
     ∷ askClassHead ∷ askClass ∷ askMaxnextoffset ∷ askBothRead ∷ askCount ∷ askCountOfSeven ∷ askFreeblock ∷ askFreeblockOfSeven ∷ askFreeblockBit
-    ∷ askLink ∷ askNextBit ∷ askNextoffset ∷ askReadyOfSeven ∷ askNextoffsetUnread ∷ askItself ∷ askLastNext ∷ askLastPrevious
+    ∷ askLink ∷ askNextBit ∷ askNextoffset ∷ askReadyOfSeven ∷ askNextoffsetUnread ∷ askItself ∷ askLastNext ∷ askLastPrevious ∷ askLastItself
     ∷ noRoom ∷ noRoomButClass ∷ noRoomButUsable ∷ askUsableHead ∷ askUnusedHead ∷ openLinks ∷ opening ∷ askFreedHead ∷ askFreedNext
     ∷ askCarveMark ∷ askCarveMarkUnread ∷ carveFreePools ∷ freedFreePools ∷ spentNext ∷ spentPrevious ∷ anewBits ∷ anewWords
     ∷ againFreeblock ∷ againLink ∷ againNext ∷ againUntested ∷ spareWords
     ∷ backFreeblock ∷ backCount ∷ backCountOfSeven ∷ backJoins ∷ backJoinsItself ∷ backStays ∷ backJoinsEmpty ∷ emptyNext ∷ emptyPrevious ∷ emptyFreedHead ∷ emptyFreePools
-    ∷ backReturns ∷ releaseNext ∷ releasePrevious ∷ releaseWords
-    ∷ resizeNoRoom ∷ resizeCopies ∷ resizeKeeps ∷ halfDoneSix ∷ halfDoneFive ∷ resizeByNewClass
-    ∷ orderTwoWords ∷ orderOne ∷ rangeEnds ∷ orderTwo ∷ orderTwoBooks ∷ orderTwoMap ∷ orderRest
-    ∷ notLive ∷ writing ∷ rolling ∷ []
+    ∷ backReturns ∷ releaseNext ∷ releasePrevious ∷ releaseWords ∷ otherArena ∷ otherArenaLinks ∷ otherClass
+    ∷ resizeAskSix ∷ resizeNoRoom ∷ resizeCopies ∷ resizeKeeps ∷ halfDoneSix ∷ halfDoneFive ∷ resizeByNewClass
+    ∷ orderTwoWords ∷ orderOne ∷ rangeEnds ∷ orderTwo ∷ orderTwoBooks ∷ orderTwoMap ∷ longMemory ∷ longBooks ∷ longMap ∷ orderRest
+    ∷ notLive ∷ writing ∷ rolling ∷ rollingLast ∷ []
 
 -- the table holds of a fresh heap over these three buffers
 abbrev pub Holds : List ℕ → List ℕ → List ℕ → Type 0

@@ -1,14 +1,16 @@
 -- 01, "Give back": the path, decided from the books before, each rule of 6 where the path meets it; then the writes, in 01's order.
 -- Assumes nothing.
-use mathlib.Core.Bool.{Bool, true, false, _&&_, _||_}
+use mathlib.Core.Bool.{Bool, _&&_, _||_}
 use mathlib.Core.List.{List}
 use Prim.Native.Nat.{ℕ, _+_, _*_, _-_, _/_, _%_}
 use lib.Dec.{leb, eqb}
+use lib.ListN.{replicate}
+use lib.Seq.{sets}
 use Rattle.rules.specs.declared.Answer.{Answer}
 use Rattle.rules.specs.declared.BackPlan.{BackPlan}
 use Rattle.rules.specs.declared.BackPlan.the-variants.{Damaged, Joins, Stays, Empties, Returns, Releases}
 use Rattle.rules.specs.Say.{if_then_else_, _▷_}
-use Rattle.rules.specs.Books.{Heap, put, onMemory, onBooks, onMap, mark, usableHead, unusedHead, classHead, freePools, freedHead, arenaWord, arena, count, freeblock, poolNext, poolPrevious, poolWord, pool, putWord, rise, fall, none?, linkTo, offsetOf}
+use Rattle.rules.specs.Books.{Heap, put, onMemory, onBooks, onMap, putMapBit, usableHead, unusedHead, classHead, freePools, freedHead, arenaWord, arena, count, freeblock, poolNext, poolPrevious, poolWord, pool, putWord, rise, fall, none?, linkTo, offsetOf}
 use Rattle.rules.specs.Blocks.{sizeOf, isStart, blockNo, putLink, classAt}
 use Rattle.rules.specs.Lists.{mayLeave, mayJoin, arenaLinks, poolLinks, arenaLeaves, arenaJoins, poolLeaves, poolJoins}
 use Rattle.rules.specs.Outcome.{Outcome, outcome, answerOf}
@@ -53,7 +55,7 @@ module _ (al A P c p f : ℕ) where
   abbrev pub takeBack : Heap → Heap
   takeBack h =
       h
-      ▷ onMap (mark p (blockNo (sizeOf al c) f) 0)
+      ▷ onMap (putMapBit p (blockNo (sizeOf al c) f) 0)
       ▷ onMemory (putLink (offsetOf p f) (pool A (h .books) freeblock p))
       ▷ putWord (poolWord A freeblock p) f
       ▷ fall (poolWord A count p)
@@ -74,14 +76,7 @@ module _ (al A P c p f : ℕ) where
   release a h =
       h
       ▷ arenaLeaves usableHead a
-      ▷ putWord (arenaWord 0 a) 0
-      ▷ putWord (arenaWord 1 a) 0
-      ▷ putWord (arenaWord 2 a) 0
-      ▷ putWord (arenaWord 3 a) 0
-      ▷ putWord (arenaWord 4 a) 0
-      ▷ putWord (arenaWord 5 a) 0
-      ▷ putWord (arenaWord 6 a) 0
-      ▷ putWord (arenaWord 7 a) 0
+      ▷ onBooks (λ b. sets b (arenaWord 0 a) (replicate 8 0))
       ▷ arenaJoins unusedHead a
 
   unfoldable pub afterBack : BackPlan → Heap → Heap

@@ -10,13 +10,13 @@ use Rattle.rules.specs.declared.Rolled.{Rolled}
 use Rattle.rules.specs.Books.{Heap, at, inRange, exact, bit, putBit, mapWord}
 use Rattle.rules.specs.Blocks.{isStart, linkAt, putLink, live, liveNumber}
 use Rattle.rules.specs.Lists.{leaveBy, joinBy}
-use Rattle.rules.specs.Outcome.{Outcome, heapOf}
+use Rattle.rules.specs.Outcome.{heapOf}
 use Rattle.rules.specs.Format.{freshBooks}
-use Rattle.rules.specs.Ask.{noLink, fromListed, setAnew, takeAgain, fromMark, fromFreed, fromUsable, fromUnused, planAsk, takeFrom, afterAsk, askAnswer, askStep}
+use Rattle.rules.specs.Ask.{noLink, fromFreeblock, fromListed, setAnew, sameClass, takeAgain, fromMark, fromFreed, fromUsable, fromUnused, planAsk, takeFrom, afterAsk, askAnswer, askStep}
 use Rattle.rules.specs.GiveBack.{emptying, planBack, afterBack, backAnswer, backStep}
 use Rattle.rules.specs.Resize.{giveOld, moved, resizeStep}
 use Rattle.rules.specs.View.{rollBlocks, rollPool, rollPools}
-use Rattle.rules.specs.Numbers.{fitNumber, shapeNumber, sizeNumber, roomNumber, RollOutcome, format, ask, giveBack, resize, view, viewSize, write, rollCall}
+use Rattle.rules.specs.Numbers.{fitNumber, shapeNumber, sizeNumber, roomNumber, format, ask, giveBack, resize, view, viewSize, write, rollCall}
 
 -- a line of a case: a call with its answer, a look, or damage that is done
 pub data Line : Type 0 where
@@ -60,7 +60,7 @@ same (x ∷ xs) (y ∷ ys) = eqb x y && same xs ys
 
 -- every line holds, each over the heap that those before it leave
 unfoldable pub runs : List Line → Heap → Bool
-unfolding inRange exact bit putBit isStart linkAt putLink live liveNumber leaveBy joinBy freshBooks noLink fromListed setAnew takeAgain fromMark fromFreed fromUsable fromUnused planAsk takeFrom afterAsk askAnswer askStep emptying planBack afterBack backAnswer backStep giveOld moved resizeStep rollBlocks rollPool rollPools fitNumber shapeNumber sizeNumber roomNumber format ask giveBack resize view viewSize write rollCall link bitIn
+unfolding inRange exact bit putBit isStart linkAt putLink live liveNumber leaveBy joinBy freshBooks noLink fromFreeblock fromListed setAnew sameClass takeAgain fromMark fromFreed fromUsable fromUnused planAsk takeFrom afterAsk askAnswer askStep emptying planBack afterBack backAnswer backStep giveOld moved resizeStep rollBlocks rollPool rollPools fitNumber shapeNumber sizeNumber roomNumber format ask giveBack resize view viewSize write rollCall link bitIn
 runs [] h = true
 runs (formats A P k ∷ ls) h = answers k 0 (format h A P .answer) && runs ls (format h A P .heap)
 runs (asks n k o ∷ ls) h = answers k o (ask 8 h n .answer) && runs ls (ask 8 h n .heap)

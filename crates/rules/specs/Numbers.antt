@@ -1,8 +1,8 @@
 -- 01, "Numbers a call can return": the tests, their order, and the calls: tests first, then the step.
 -- Assumes nothing.
-use mathlib.Core.Bool.{Bool, not, _&&_}
+use mathlib.Core.Bool.{not, _&&_}
 use mathlib.Core.List.{List, [], _++_}
-use Prim.Native.Nat.{ℕ, zero, suc, _*_, _/_}
+use Prim.Native.Nat.{ℕ, _/_}
 use lib.Dec.{leb, ltb}
 use lib.ListN.{length, drop, replicate}
 use Rattle.rules.specs.declared.Sized.{Sized}

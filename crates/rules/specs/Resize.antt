@@ -1,7 +1,6 @@
 -- 01, "Resize", and "The half-done resize".
 -- Assumes nothing.
 use mathlib.Core.Bool.{Bool, _&&_}
-use mathlib.Core.List.{List}
 use Prim.Native.Nat.{ℕ, _*_, min}
 use lib.Dec.{leb, ltb}
 use lib.ListN.{take, drop}

@@ -1,8 +1,7 @@
 -- 01, "View", "Write" and "Roll call": what they hand back, copy and list, of a heap whose tests are passed.
 -- Assumes nothing.
-use mathlib.Core.Bool.{Bool}
 use mathlib.Core.List.{List, [], _∷_, _++_}
-use Prim.Native.Nat.{ℕ, zero, suc, _+_, _*_}
+use Prim.Native.Nat.{ℕ, zero, suc, _*_}
 use lib.Dec.{leb}
 use lib.ListN.{take, drop}
 use lib.Seq.{sets}

@@ -26,14 +26,15 @@ pub enum Source {
     Opened(usize),
 }
 
-// The path of an ask: a pool, the in-pool offset of the block that is handed out, and that of the one after it.
+// The path of an ask. Its numbers are the pool's and the in-pool offsets of the block that is handed out and of the block that becomes
+// freeblock; Again has the arena's before them. Anew hands out the block at 48.
 pub enum AskPlan {
     NoRoom,
     Damaged,
     Follow(usize, usize, usize),
     Ready(usize, usize, usize),
     Last(usize, usize),
-    Again(Source, usize, usize, usize),
+    Again(usize, usize, usize, usize),
     Anew(Source, usize),
 }
 
