@@ -1,0 +1,5 @@
+-- The pool record as a struct, and the laws of records, lists, block starts and tests that the steps cite.
+pub mod Records
+pub mod Lists
+pub mod Starts
+pub mod Tests

@@ -1,0 +1,2 @@
+-- What a heap and an offset are known to be once the tests of 01's numbers let them pass.
+-- Assumes nothing.
