@@ -16,7 +16,7 @@ use Rattle.rules.specs.Lists.{nextAt, previousAt, leaveBy, joinBy, leave, join,
 abbrev pub Within : ℕ → ℕ → ℕ → Type 0
 Within base words link = base + 8 * link ≤ words + 6
 
--- ---- lengths
+-- ---- the length stays
 length-only : (t : Bool) (i v : ℕ) (b : List ℕ) → length (only t (put i v) b) ≡ length b
 length-only true i v b = length-set b i v
 length-only false i v b = refl
@@ -43,7 +43,7 @@ pub pool-leaves : (A head next previous n : ℕ) (b : List ℕ) → pool A b poo
 pool-leaves A head next previous n b e f =
     leave-reads (poolLinks A) head next previous n b (ap (at b) (omega arith) ∙ e) (ap (at b) (omega arith) ∙ f)
 
--- ---- a word that they don't write
+-- ---- a word that they don't write stays
 only-keeps : (t : Bool) (i v : ℕ) (b : List ℕ) (j d : ℕ) → j ≢ i → getD (only t (put i v) b) j d ≡ getD b j d
 only-keeps true i v b j d h = getD-set-other b i j v d h
 only-keeps false i v b j d h = refl

@@ -18,9 +18,19 @@ use Rattle.books.specs.declared.pool.Pool.{Pool}
 abbrev pub spare : ℕ
 spare = 7
 
+-- a record by its words, in their order
 abbrev pub poolOf : ℕ → ℕ → ℕ → ℕ → ℕ → ℕ → ℕ → ℕ → Pool
-poolOf a b c d e f g h =
-    record { count = a; freeblock = b; next = c; previous = d; class = e; nextoffset = f; maxnextoffset = g; spare = h }
+poolOf count freeblock next previous class nextoffset maxnextoffset spare =
+    record {
+      count = count;
+      freeblock = freeblock;
+      next = next;
+      previous = previous;
+      class = class;
+      nextoffset = nextoffset;
+      maxnextoffset = maxnextoffset;
+      spare = spare;
+    }
 
 -- the record of pool n in books of A arenas
 abbrev pub poolAt : ℕ → List ℕ → ℕ → Pool
@@ -63,7 +73,7 @@ exposed p size =
 abbrev pub given : Pool → ℕ → Pool
 given p f = poolOf (p .count - 1) f (p .next) (p .previous) (p .class) (p .nextoffset) (p .maxnextoffset) (p .spare)
 
--- the pool is alone on its class list, its first block taken again, and freeblock becomes that block's link
+-- the pool is alone on the list of its own class, and its freeblock, which is taken, gives way to the link in it
 abbrev pub takenAgain : Pool → ℕ → Pool
 takenAgain p link = poolOf 1 link 0 0 (p .class) (p .nextoffset) (p .maxnextoffset) (p .spare)
 
@@ -72,6 +82,7 @@ abbrev pub setTo : Pool → ℕ → ℕ → Pool
 setTo p c size = poolOf 1 (48 + size) 0 0 c (48 + 2 * size) (lastStart size) (p .spare)
 
 -- ---- storing a record
+-- the length stays
 pub length-putPool : (A n : ℕ) (p : Pool) (b : List ℕ) → length (putPool A n p b) ≡ length b
 unfolding putPool
 length-putPool A n p b = simp length-set
@@ -80,9 +91,9 @@ length-putPool A n p b = simp length-set
 kept : (b : List ℕ) (i v : ℕ) → at b i ≡ v → put i v b ≡ b
 kept b i v e = ap (λ (x : ℕ). put i x b) (sym e) ∙ set-getD b i 0
 
--- another word of the same record
-other : (b : List ℕ) (q w v u : ℕ) → eqb u w ≡ false → at (put (q + w) v b) (q + u) ≡ at b (q + u)
-other b q w v u e =
+-- another word of the record than the one that is written
+pub other-word : (b : List ℕ) (q w v u : ℕ) → eqb u w ≡ false → at (put (q + w) v b) (q + u) ≡ at b (q + u)
+other-word b q w v u e =
     let h : u ≡ w → ⊥ = eqb-false u w e in
     getD-set-other b (q + w) (q + u) v 0 (omega arith)
 
@@ -92,7 +103,7 @@ module _ (A n : ℕ) (b : List ℕ) where
       → putPool A n (taken (poolAt A b n) link) b
       ≡ (b ▷ put (poolWord A count n) (pool A b count n + 1) ▷ put (poolWord A freeblock n) link)
   unfolding putPool
-  take-stored link = simp (kept, other)
+  take-stored link = simp (kept, other-word)
 
   -- a block was taken and the next one exposed
   pub expose-stored : (size : ℕ)
@@ -103,7 +114,7 @@ module _ (A n : ℕ) (b : List ℕ) where
       ▷ put (poolWord A nextoffset n) (pool A b nextoffset n + size))
   unfolding putPool
   expose-stored size =
-      simp (kept, other)
+      simp (kept, other-word)
       (set-comm
       (put (poolWord A count n) (pool A b count n + 1) b)
       (poolWord A nextoffset n)
@@ -118,7 +129,7 @@ module _ (A n : ℕ) (b : List ℕ) where
       ≡ (b ▷ put (poolWord A freeblock n) f ▷ (λ x. put (poolWord A count n) (at x (poolWord A count n) - 1) x))
   unfolding putPool
   give-stored f =
-      simp (kept, other)
+      simp (kept, other-word)
       (set-comm b (poolWord A count n) (poolWord A freeblock n) (pool A b count n - 1) f (omega arith))
 
   -- ---- the record was loaded from b and is stored in b′, the pool having been taken from its source in between
@@ -131,7 +142,7 @@ module _ (A n : ℕ) (b : List ℕ) where
       ▷ put (poolWord A count n) 1
       ▷ put (poolWord A freeblock n) link)
   unfolding putPool
-  again-stored b′ link h = simp (kept, other, h)
+  again-stored b′ link h = simp (kept, other-word, h)
 
   -- the pool is set to class c, of blocks of the given size, and its spare word stands in b′ as it stood in b
   pub anew-stored : (b′ : List ℕ) (c size : ℕ) → pool A b′ spare n ≡ pool A b spare n
@@ -145,4 +156,4 @@ module _ (A n : ℕ) (b : List ℕ) where
       ▷ put (poolWord A maxnextoffset n) (lastStart size)
       ▷ put (poolWord A freeblock n) (48 + size))
   unfolding putPool
-  anew-stored b′ c size h = simp (kept, other, h)
+  anew-stored b′ c size h = simp (kept, other-word, h)

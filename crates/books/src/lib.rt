@@ -2,5 +2,6 @@
 pub mod blocks;
 pub mod links;
 pub mod lists;
+pub mod numbers;
 pub mod pool;
 pub mod words;

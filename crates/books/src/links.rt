@@ -16,10 +16,11 @@ pub fn link_at(memory: &[u8], o: usize) -> u32
     requires { ⌜ o + 4 ≤ length (now memory) ⌝ }
     ensures { λ r. ⌜ r ≡ linkAt (now (memory .entry)) o ⌝ }
 {
-    wide(memory[o])
-        + 256 * wide(memory[o + 1])
-        + 65536 * wide(memory[o + 2])
-        + 16777216 * wide(memory[o + 3])
+    let first = wide(memory[o]);
+    let second = wide(memory[o + 1]);
+    let third = wide(memory[o + 2]);
+    let fourth = wide(memory[o + 3]);
+    first + 256 * second + 65536 * third + 16777216 * fourth
 }
 
 // The link in the four bytes from o on becomes v.

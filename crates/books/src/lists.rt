@@ -1,5 +1,6 @@
 // Lists threaded through the records: leaving one, and joining it at the front. Member 0's next word is `base`, a member's previous
 // word comes after its next, and a link to member n is n + 1.
+use crate::words;
 ghost use mathlib.Core.Path.{_≡_};
 ghost use mathlib.Core.Bool.{not};
 ghost use Prim.Native.Nat.{_+_, _*_, _^_, _<_, _≤_};
@@ -9,12 +10,12 @@ ghost use Rattle.rules.specs.Books.{put, none?, linkTo, linked};
 ghost use Rattle.rules.specs.Lists.{nextAt, previousAt, leaveBy, joinBy, poolLinks};
 ghost use Rattle.books.specs.Lists.{Within};
 
-// The base of the pools' lists, in books of so many arenas. That of the arenas' lists is ARENA_LINKS.
+// The base of the pools' lists, in books of so many arenas. That of the arenas' lists is `words::ARENA_LINKS`.
 pub fn pool_links(arenas: usize) -> usize
     requires { ⌜ arenas ≤ 16 ⌝ }
     ensures { λ r. ⌜ r ≡ poolLinks arenas ⌝ }
 {
-    74 + 8 * arenas
+    words::RECORDS + 8 * arenas + words::NEXT
 }
 
 // The link to member n.

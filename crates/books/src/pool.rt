@@ -1,13 +1,5 @@
 // A pool record: loaded from the books as a struct, changed by value, stored again.
-use crate::words::CLASS;
-use crate::words::COUNT;
-use crate::words::FREEBLOCK;
-use crate::words::MAXNEXTOFFSET;
-use crate::words::NEXT;
-use crate::words::NEXTOFFSET;
-use crate::words::PREVIOUS;
-use crate::words::RECORDS;
-use crate::words::SPARE;
+use crate::words;
 ghost use mathlib.Core.Path.{_≡_};
 ghost use Prim.Native.Nat.{_+_, _*_, _^_, _<_, _≤_};
 ghost use lib.ListN.{length};
@@ -30,16 +22,16 @@ pub fn load_pool(books: &[u32], arenas: usize, n: usize) -> Pool
     requires { ⌜ poolWord arenas 8 n ≤ length (now books) ⌝ }
     ensures { λ r. ⌜ r ≡ poolAt arenas (now (books .entry)) n ⌝ }
 {
-    let at = RECORDS + 8 * arenas + 8 * n;
+    let at = words::RECORDS + 8 * arenas + 8 * n;
     Pool {
-        count: books[at + COUNT],
-        freeblock: books[at + FREEBLOCK],
-        next: books[at + NEXT],
-        previous: books[at + PREVIOUS],
-        class: books[at + CLASS],
-        nextoffset: books[at + NEXTOFFSET],
-        maxnextoffset: books[at + MAXNEXTOFFSET],
-        spare: books[at + SPARE],
+        count: books[at + words::COUNT],
+        freeblock: books[at + words::FREEBLOCK],
+        next: books[at + words::NEXT],
+        previous: books[at + words::PREVIOUS],
+        class: books[at + words::CLASS],
+        nextoffset: books[at + words::NEXTOFFSET],
+        maxnextoffset: books[at + words::MAXNEXTOFFSET],
+        spare: books[at + words::SPARE],
     }
 }
 
@@ -48,15 +40,15 @@ pub fn store_pool(books: &mut [u32], arenas: usize, n: usize, p: Pool)
     requires { ⌜ poolWord arenas 8 n ≤ length (now books) ⌝ }
     ensures { λ _. ⌜ now (books .exit) ≡ putPool arenas n p (now (books .entry)) ⌝ }
 {
-    let at = RECORDS + 8 * arenas + 8 * n;
-    books[at + NEXT] = p.next;
-    books[at + PREVIOUS] = p.previous;
-    books[at + COUNT] = p.count;
-    books[at + CLASS] = p.class;
-    books[at + NEXTOFFSET] = p.nextoffset;
-    books[at + MAXNEXTOFFSET] = p.maxnextoffset;
-    books[at + FREEBLOCK] = p.freeblock;
-    books[at + SPARE] = p.spare;
+    let at = words::RECORDS + 8 * arenas + 8 * n;
+    books[at + words::NEXT] = p.next;
+    books[at + words::PREVIOUS] = p.previous;
+    books[at + words::COUNT] = p.count;
+    books[at + words::CLASS] = p.class;
+    books[at + words::NEXTOFFSET] = p.nextoffset;
+    books[at + words::MAXNEXTOFFSET] = p.maxnextoffset;
+    books[at + words::FREEBLOCK] = p.freeblock;
+    books[at + words::SPARE] = p.spare;
 }
 
 impl Pool {

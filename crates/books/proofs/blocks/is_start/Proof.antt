@@ -6,12 +6,12 @@ use borrow.Author.Needs.{needs}
 use Rattle.books.proofs.blocks.is_start.Statement.{statement}
 use Rattle.books.proofs.blocks.is_start.Tie as tie
 
+sub-last : tie.Need-sub-last
+sub-last c = search needs
+
 returns : tie.Need-returns
 unfolding isStart
 returns c = simp (lt-leb _ _ (c .if1 .taken))
-
-sub-if2 : tie.Need-sub-if2
-sub-if2 c = search needs
 
 returns-2 : tie.Need-returns-2
 unfolding isStart
@@ -25,4 +25,4 @@ unfolding isStart
 returns-3 c = simp (le-leb _ _ (c .before .if1 .left), le-leb _ _ (c .if2 .left))
 
 pub is-start-spec : {M : Type 1} → statement M
-is-start-spec = tie.close (tie.spec returns sub-if2 returns-2 rem-result returns-3)
+is-start-spec = tie.close (tie.spec sub-last returns returns-2 rem-result returns-3)

@@ -20,12 +20,6 @@ shared-slice-read-wide-2 c = search needs
 wide-requires-2 : tie.Need-wide-requires-2
 wide-requires-2 c κs = search needs
 
-mul-result : tie.Need-mul-result
-mul-result c = search needs
-
-add-result : tie.Need-add-result
-add-result c = search needs
-
 add-wide-2 : tie.Need-add-wide-2
 add-wide-2 c = search needs
 
@@ -35,12 +29,6 @@ shared-slice-read-wide-3 c = search needs
 wide-requires-3 : tie.Need-wide-requires-3
 wide-requires-3 c κs = search needs
 
-mul-result-2 : tie.Need-mul-result-2
-mul-result-2 c = search needs
-
-add-result-2 : tie.Need-add-result-2
-add-result-2 c = search needs
-
 add-wide-3 : tie.Need-add-wide-3
 add-wide-3 c = search needs
 
@@ -49,6 +37,18 @@ shared-slice-read-wide-4 c = search needs
 
 wide-requires-4 : tie.Need-wide-requires-4
 wide-requires-4 c κs = search needs
+
+mul-result : tie.Need-mul-result
+mul-result c = search needs
+
+add-result : tie.Need-add-result
+add-result c = search needs
+
+mul-result-2 : tie.Need-mul-result-2
+mul-result-2 c = search needs
+
+add-result-2 : tie.Need-add-result-2
+add-result-2 c = search needs
 
 mul-result-3 : tie.Need-mul-result-3
 mul-result-3 c = search needs
@@ -69,16 +69,16 @@ link-at-spec =
     add-wide
     shared-slice-read-wide-2
     wide-requires-2
-    mul-result
-    add-result
     add-wide-2
     shared-slice-read-wide-3
     wide-requires-3
-    mul-result-2
-    add-result-2
     add-wide-3
     shared-slice-read-wide-4
     wide-requires-4
+    mul-result
+    add-result
+    mul-result-2
+    add-result-2
     mul-result-3
     add-result-3
     returns)
