@@ -1,6 +1,7 @@
 // Where the words of the books stand: the heads, and the words of a record by their place in it. Records are eight words long,
 // the arenas' first and then the pools'.
 
+// The heads of the lists, and the first record.
 pub const USABLE_HEAD: usize = 2;
 
 pub const UNUSED_HEAD: usize = 3;
@@ -8,6 +9,7 @@ pub const UNUSED_HEAD: usize = 3;
 pub const CLASS_HEADS: usize = 4;
 
 pub const RECORDS: usize = 72;
+
 // Arena 0's next word; its previous word comes after it.
 pub const ARENA_LINKS: usize = 76;
 
