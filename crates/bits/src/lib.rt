@@ -2,7 +2,7 @@
 ghost use mathlib.Core.Path.{_≡_};
 ghost use Prim.Native.Nat.{_+_, _*_, _<_, _≤_};
 ghost use lib.ListN.{length};
-ghost use Rattle.rules.specs.Books.{isSet, mark};
+ghost use Rattle.rules.specs.Books.{isSet, putMapBit};
 
 // Block k of the pool is live.
 pub fn is_set(map: &[u64], pool: usize, k: usize) -> bool
@@ -16,7 +16,7 @@ pub fn is_set(map: &[u64], pool: usize, k: usize) -> bool
 // Block k of the pool becomes live.
 pub fn set_bit(map: &mut [u64], pool: usize, k: usize)
     requires { ⌜ (k < 512) × (8 * pool + 8 ≤ length (now map)) ⌝ }
-    ensures { λ _. ⌜ now (map .exit) ≡ mark pool k 1 (now (map .entry)) ⌝ }
+    ensures { λ _. ⌜ now (map .exit) ≡ putMapBit pool k 1 (now (map .entry)) ⌝ }
 {
     let word = 8 * pool + k / 64;
     map[word] |= 1 << (k % 64);
@@ -25,7 +25,7 @@ pub fn set_bit(map: &mut [u64], pool: usize, k: usize)
 // Block k of the pool is live no more.
 pub fn clear_bit(map: &mut [u64], pool: usize, k: usize)
     requires { ⌜ (k < 512) × (8 * pool + 8 ≤ length (now map)) ⌝ }
-    ensures { λ _. ⌜ now (map .exit) ≡ mark pool k 0 (now (map .entry)) ⌝ }
+    ensures { λ _. ⌜ now (map .exit) ≡ putMapBit pool k 0 (now (map .entry)) ⌝ }
 {
     let word = 8 * pool + k / 64;
     map[word] &= !(1 << (k % 64));
