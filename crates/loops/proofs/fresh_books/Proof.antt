@@ -1,0 +1,77 @@
+-- `loops::fresh_books` leaves the books of a fresh heap: heads, arena records and pool records, one after the other, take every word.
+-- Assumes nothing.
+use mathlib.Core.Path.{ap, _∙_}
+use mathlib.Core.List.{List}
+use Prim.Native.Nat.{ℕ, _+_, _*_}
+use lib.Seq.{sets}
+use Rattle.rules.specs.Format.{freshArenas, freshPools}
+use Rattle.loops.specs.Fresh.{fresh-whole}
+use borrow.Author.Needs.{needs}
+use Rattle.loops.proofs.fresh_books.Statement.{statement}
+use Rattle.loops.proofs.fresh_books.Tie as tie
+
+cast-heads : tie.Need-cast-heads
+cast-heads c = search needs
+
+array-write-heads : tie.Need-array-write-heads
+array-write-heads c = search needs
+
+cast-heads-2 : tie.Need-cast-heads-2
+cast-heads-2 c = search needs
+
+array-write-heads-2 : tie.Need-array-write-heads-2
+array-write-heads-2 c = search needs
+
+array-write-heads-3 : tie.Need-array-write-heads-3
+array-write-heads-3 c = search needs
+
+slice-aggregate-put-words : tie.Need-slice-aggregate-put-words
+slice-aggregate-put-words c = search needs
+
+put-words-requires : tie.Need-put-words-requires
+put-words-requires c κs = search needs
+
+put-arenas-requires : tie.Need-put-arenas-requires
+put-arenas-requires c κs = search needs
+
+mul-put-pools : tie.Need-mul-put-pools
+mul-put-pools c = search needs
+
+add-put-pools : tie.Need-add-put-pools
+add-put-pools c = search needs
+
+mul-put-pools-2 : tie.Need-mul-put-pools-2
+mul-put-pools-2 c = search needs
+
+put-pools-requires : tie.Need-put-pools-requires
+put-pools-requires c κs = search needs
+
+same-length : tie.Need-same-length
+same-length c = search needs
+
+returns : tie.Need-returns
+returns c =
+    let a = c .before .before .before .before .before .before .before .before .before .before .before .before .before .before .args in
+    c .before .before .put-pools .ensures
+    ∙ ap (λ (b : List ℕ). sets b (72 + 8 * a .arenas) (freshPools (a .arenas * a .pools)))
+    (c .before .before .before .before .before .before .put-arenas .ensures ∙ ap (λ (b : List ℕ). sets b 72 (freshArenas 0 (a .arenas))) (c .before .before .before .before .before .before .before .before .before .before .put-words .ensures))
+    ∙ fresh-whole (a .books .now) (a .arenas) (a .pools) (c .before .before .before .before .before .before .before .before .before .before .before .before .before .before .pre .2)
+
+pub fresh-books-spec : {M : Type 1} → statement M
+fresh-books-spec =
+    tie.close
+    (tie.spec
+    cast-heads
+    array-write-heads
+    cast-heads-2
+    array-write-heads-2
+    array-write-heads-3
+    slice-aggregate-put-words
+    put-words-requires
+    put-arenas-requires
+    mul-put-pools
+    add-put-pools
+    mul-put-pools-2
+    put-pools-requires
+    same-length
+    returns)
