@@ -3,3 +3,4 @@ pub mod Sets
 pub mod Left
 pub mod Fresh
 pub mod Copy
+pub mod Roll

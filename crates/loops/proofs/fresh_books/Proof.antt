@@ -31,20 +31,20 @@ slice-aggregate-put-words c = search needs
 put-words-requires : tie.Need-put-words-requires
 put-words-requires c κs = search needs
 
-put-arenas-requires : tie.Need-put-arenas-requires
-put-arenas-requires c κs = search needs
+fresh-arenas-requires : tie.Need-fresh-arenas-requires
+fresh-arenas-requires c κs = search needs
 
-mul-put-pools : tie.Need-mul-put-pools
-mul-put-pools c = search needs
+mul-fresh-pools : tie.Need-mul-fresh-pools
+mul-fresh-pools c = search needs
 
-add-put-pools : tie.Need-add-put-pools
-add-put-pools c = search needs
+add-fresh-pools : tie.Need-add-fresh-pools
+add-fresh-pools c = search needs
 
-mul-put-pools-2 : tie.Need-mul-put-pools-2
-mul-put-pools-2 c = search needs
+mul-fresh-pools-2 : tie.Need-mul-fresh-pools-2
+mul-fresh-pools-2 c = search needs
 
-put-pools-requires : tie.Need-put-pools-requires
-put-pools-requires c κs = search needs
+fresh-pools-requires : tie.Need-fresh-pools-requires
+fresh-pools-requires c κs = search needs
 
 same-length : tie.Need-same-length
 same-length c = search needs
@@ -52,9 +52,9 @@ same-length c = search needs
 returns : tie.Need-returns
 returns c =
     let a = c .before .before .before .before .before .before .before .before .before .before .before .before .before .before .args in
-    c .before .before .put-pools .ensures
+    c .before .before .fresh-pools .ensures
     ∙ ap (λ (b : List ℕ). sets b (72 + 8 * a .arenas) (freshPools (a .arenas * a .pools)))
-    (c .before .before .before .before .before .before .put-arenas .ensures ∙ ap (λ (b : List ℕ). sets b 72 (freshArenas 0 (a .arenas))) (c .before .before .before .before .before .before .before .before .before .before .put-words .ensures))
+    (c .before .before .before .before .before .before .fresh-arenas .ensures ∙ ap (λ (b : List ℕ). sets b 72 (freshArenas 0 (a .arenas))) (c .before .before .before .before .before .before .before .before .before .before .put-words .ensures))
     ∙ fresh-whole (a .books .now) (a .arenas) (a .pools) (c .before .before .before .before .before .before .before .before .before .before .before .before .before .before .pre .2)
 
 pub fresh-books-spec : {M : Type 1} → statement M
@@ -68,10 +68,10 @@ fresh-books-spec =
     array-write-heads-3
     slice-aggregate-put-words
     put-words-requires
-    put-arenas-requires
-    mul-put-pools
-    add-put-pools
-    mul-put-pools-2
-    put-pools-requires
+    fresh-arenas-requires
+    mul-fresh-pools
+    add-fresh-pools
+    mul-fresh-pools-2
+    fresh-pools-requires
     same-length
     returns)

@@ -1,4 +1,4 @@
--- `loops::put_arenas` stores the arena records: at turn i those from arena i on are left.
+-- `loops::fresh_arenas` stores the arena records: at turn i those from arena i on are left.
 -- Assumes nothing.
 use mathlib.Core.Path.{refl, ap, _∙_}
 use Prim.Native.Nat.{ℕ, _+_, _*_, _-_, _≤_}
@@ -7,8 +7,8 @@ use Rattle.rules.specs.Format.{freshArenas}
 use Rattle.loops.specs.Left.{Left, begin, turn, done}
 use Rattle.loops.specs.Fresh.{recordOf, arena-parts}
 use native.Mathlib.Omega.{arith}
-use Rattle.loops.proofs.put_arenas.Statement.{statement}
-use Rattle.loops.proofs.put_arenas.Tie as tie
+use Rattle.loops.proofs.fresh_arenas.Statement.{statement}
+use Rattle.loops.proofs.fresh_arenas.Tie as tie
 
 abbrev Inv-loop : tie.InvT-loop
 Inv-loop books₀ arenas i₀ books i = Left books₀ 72 (freshArenas 0 arenas) books (72 + 8 * i) (freshArenas i (arenas - i)) × (i ≤ arenas)
@@ -65,8 +65,8 @@ returns c =
     let p = c .before .loop in
     done (arena-parts (c .before .before .before .args .arenas)) (p .i) (omega arith) (p .inv .0) .same
 
-pub put-arenas-spec : {M : Type 1} → statement M
-put-arenas-spec =
+pub fresh-arenas-spec : {M : Type 1} → statement M
+fresh-arenas-spec =
     tie.close
     (tie.spec
     Inv-loop

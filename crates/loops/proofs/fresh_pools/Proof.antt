@@ -1,4 +1,4 @@
--- `loops::put_pools` stores the pool records: at turn i those from pool i on are left.
+-- `loops::fresh_pools` stores the pool records: at turn i those from pool i on are left.
 -- Assumes nothing.
 use mathlib.Core.Path.{_≡_, refl, ap, _∙_}
 use Prim.Native.Nat.{_+_, _*_, _-_, _≤_}
@@ -9,8 +9,8 @@ use Rattle.rules.specs.Format.{freshPools}
 use Rattle.loops.specs.Left.{Left, begin, turn, done}
 use Rattle.loops.specs.Fresh.{recordOf, pool-parts}
 use native.Mathlib.Omega.{arith}
-use Rattle.loops.proofs.put_pools.Statement.{statement}
-use Rattle.loops.proofs.put_pools.Tie as tie
+use Rattle.loops.proofs.fresh_pools.Statement.{statement}
+use Rattle.loops.proofs.fresh_pools.Tie as tie
 
 abbrev Inv-loop : tie.InvT-loop
 Inv-loop books₀ at n fresh i₀ books i = Left books₀ at (freshPools n) books (at + 8 * i) (freshPools (n - i)) × (i ≤ n) × (fresh ≡ recordOf noClass 0)
@@ -54,8 +54,8 @@ returns c =
     let p = c .before .loop in
     done (pool-parts (c .before .before .before .args .n)) (p .i) (omega arith) (p .inv .0) .same
 
-pub put-pools-spec : {M : Type 1} → statement M
-put-pools-spec =
+pub fresh-pools-spec : {M : Type 1} → statement M
+fresh-pools-spec =
     tie.close
     (tie.spec
     Inv-loop
