@@ -64,7 +64,8 @@ module _ {all : List ℕ} {n : ℕ} {rest part : ℕ → List ℕ} (parts : Part
   }
 
   -- a turn stores its part
-  pub turn : {x₀ x y : List ℕ} {at j k : ℕ} (i : ℕ) → i < n → Left x₀ at all x j (rest i) → Stored x j (part i) y k → Left x₀ at all y k (rest (i + 1))
+  pub turn : {x₀ x y : List ℕ} {at j k : ℕ} (i : ℕ) → i < n
+      → Left x₀ at all x j (rest i) → Stored x j (part i) y k → Left x₀ at all y k (rest (i + 1))
   turn {x = x} {j = j} i h l s = record {
     same =
         ap₂ (λ (z : List ℕ) (p : ℕ). sets z p (rest (i + 1))) (s .same) (s .place)

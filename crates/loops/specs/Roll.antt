@@ -1,23 +1,22 @@
 -- The roll as the parts that its loops store, and how long it can be.
 -- Assumes nothing.
-use mathlib.Core.Path.{_≡_, refl}
+use mathlib.Core.Path.{_≡_, refl, sym, ap, _∙_}
 use mathlib.Core.Bool.{Bool, true, false}
 use mathlib.Core.List.{List, [], _∷_}
-use Prim.Native.Nat.{ℕ, zero, suc, _+_, _*_, _-_, _≤_, _<_}
-use native.Mathlib.Nat.{div-add-mod', mul-le-mul}
+use Prim.Native.Nat.{ℕ, zero, suc, _+_, _*_, _-_, _/_, _≤_, _<_}
+use native.Mathlib.Nat.{div-le-of-le-mul, div-mul-le-self, mul-le-mul, mul-le-mul-right, suc-mul}
 use native.Mathlib.Omega.{arith}
 use lib.Dec.{leb}
 use lib.ListN.{length, length-append}
 use borrow.Author.Tests.{le-leb, lt-leb}
 use Rattle.rules.specs.Say.{if_then_else_}
-use Rattle.rules.specs.Books.{at, isSet, class, poolWord, offsetOf}
-use Rattle.rules.specs.Blocks.{sizeOf, lastClass, startOf, capacity}
+use Rattle.rules.specs.Books.{isSet, class, poolWord, pool, offsetOf}
+use Rattle.rules.specs.Blocks.{sizeOf, lastClass, startOf, capacity, classAt}
 use Rattle.rules.specs.View.{rollBlocks, rollPool, rollPools}
 use Rattle.loops.specs.Left.{Parts, counted}
 
 -- pool p has its record in the books of A arenas, and its words in the map
 pub record Stands (A p : ℕ) (b m : List ℕ) : Type 0 where
-  pub arenas : A ≤ 16
   pub pool : p < 1024
   pub books : poolWord A 8 p ≤ length b
   pub map : 8 * p + 8 ≤ length m
@@ -60,10 +59,10 @@ length-blocks m p s k (suc n) =
 
 -- "506 of 8 bytes": no pool holds more, and its blocks lie in it
 pub at-most-506 : (s : ℕ) → 8 ≤ s → capacity s ≤ 506
-at-most-506 s h = let e : capacity s * 8 ≤ capacity s * s = mul-le-mul (omega arith) h in omega (arith, div-add-mod' 4048 s)
+at-most-506 s h = div-le-of-le-mul s (omega arith)
 
 pub block-inside : (s k : ℕ) → k < capacity s → k * s ≤ 4048
-block-inside s k l = let e : k * s ≤ capacity s * s = mul-le-mul (omega arith) (omega arith) in omega (arith, div-add-mod' 4048 s)
+block-inside s k l = omega (arith, mul-le-mul-right s l, suc-mul k s, div-mul-le-self 4048 s)
 
 -- ---- the pools
 pub roll-parts : (al A : ℕ) (b m : List ℕ) (n : ℕ)
@@ -71,23 +70,27 @@ pub roll-parts : (al A : ℕ) (b m : List ℕ) (n : ℕ)
 unfolding rollPools
 roll-parts al A b m = counted (rollPools al A b m) (λ p n. rollPool al A b m p) (λ p. refl) (λ p n. refl)
 
-module _ (al A : ℕ) (b m : List ℕ) (p c : ℕ) (e : c ≡ at b (poolWord A class p)) where
-  -- a pool whose class c is above the last has no blocks
+-- pool p, whose class c is read at its first byte
+module _ (al A : ℕ) (b m : List ℕ) (p c : ℕ) (e : c ≡ classAt A b (4096 * p)) where
+  its-class : pool A b class p ≡ c
+  its-class = let f : p ≡ 4096 * p / 4096 = omega arith in ap (pool A b class) f ∙ sym e
+
+  -- above the last class it has no blocks
   pub no-class : lastClass al < c → rollPool al A b m p ≡ []
   unfolding rollPool
-  no-class h = rw (← e, lt-leb c (lastClass al) h)
+  no-class h = rw (its-class, lt-leb c (lastClass al) h)
 
-  -- a pool of class c
-  pub of-class : c ≤ lastClass al → rollPool al A b m p ≡ rollBlocks m p (sizeOf al c) 0 (capacity (sizeOf al c))
+  -- otherwise it has those of that class's size s
+  pub of-class : (s : ℕ) → s ≡ sizeOf al c → c ≤ lastClass al → rollPool al A b m p ≡ rollBlocks m p s 0 (capacity s)
   unfolding rollPool
-  of-class h = rw (← e, le-leb c (lastClass al) h)
+  of-class s f h = rw (its-class, le-leb c (lastClass al) h, f)
 
 -- ---- so the roll of n pools has 1,012 words for each at most
 module _ (al A : ℕ) (b m : List ℕ) (h : 8 ≤ al) where
   length-pool : (p : ℕ) → length (rollPool al A b m p) ≤ 1012
   unfolding rollPool
   length-pool p =
-      let c = at b (poolWord A class p) in
+      let c = pool A b class p in
       let e : 1 ≤ c + 1 = omega arith in
       go (leb c (lastClass al)) (sizeOf al c) (mul-le-mul h e)
     where

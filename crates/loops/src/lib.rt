@@ -1,9 +1,14 @@
 // The loops of format, write, resize and roll call.
+use books::blocks::LAST_CLASS;
+use books::blocks::class_at;
+use books::blocks::size_of;
+use books::words::RECORDS;
+use books::words::UNUSED_HEAD;
 ghost use mathlib.Core.Path.{_≡_};
 ghost use Prim.Native.Nat.{_+_, _*_, _≤_, _<_};
 ghost use lib.ListN.{length, take, drop, replicate};
 ghost use lib.Seq.{sets};
-ghost use Rattle.rules.specs.Books.{at, booksLength, class, poolWord};
+ghost use Rattle.rules.specs.Books.{booksLength};
 ghost use Rattle.rules.specs.Format.{freshArenas, freshPools, freshBooks};
 ghost use Rattle.rules.specs.Blocks.{capacity};
 ghost use Rattle.rules.specs.View.{rollBlocks, rollPool, rollPools};
@@ -42,7 +47,7 @@ fn fresh_arenas(books: &mut [u32], arenas: usize)
 {
     for i in 0..arenas {
         let next = next_of(i, arenas - (i + 1));
-        put_words(books, 72 + 8 * i, &[0, 0, 0, 0, next, i as u32, 0, 0]);
+        put_words(books, RECORDS + 8 * i, &[0, 0, 0, 0, next, i as u32, 0, 0]);
     }
 }
 
@@ -62,13 +67,13 @@ pub fn fresh_books(books: &mut [u32], arenas: usize, pools: usize)
     requires { ⌜ (arenas ≤ 16) × (pools ≤ 64) × (length (now books) ≡ booksLength arenas pools) ⌝ }
     ensures { λ _. ⌜ now (books .exit) ≡ freshBooks arenas pools ⌝ }
 {
-    let mut heads: [u32; 72] = [0; 72];
+    let mut heads: [u32; RECORDS] = [0; RECORDS];
     heads[0] = arenas as u32;
     heads[1] = pools as u32;
-    heads[3] = 1;
+    heads[UNUSED_HEAD] = 1;
     put_words(books, 0, &heads);
     fresh_arenas(books, arenas);
-    fresh_pools(books, 72 + 8 * arenas, arenas * pools);
+    fresh_pools(books, RECORDS + 8 * arenas, arenas * pools);
 }
 
 // The map of a fresh heap: no block is live.
@@ -104,14 +109,6 @@ pub fn copy_within(memory: &mut [u8], from: usize, to: usize, n: usize)
 
 // ---- roll call
 
-// The class of the pool.
-fn class_in(books: &[u32], arenas: usize, pool: usize) -> usize
-    requires { ⌜ (arenas ≤ 16) × (pool < 1024) × (poolWord arenas 8 pool ≤ length (now books)) ⌝ }
-    ensures { λ r. ⌜ r ≡ at (now (books .entry)) (poolWord arenas class pool) ⌝ }
-{
-    books[72 + 8 * arenas + 8 * pool + 4] as usize
-}
-
 // How many roll words the live blocks of the pool take, where its blocks have the size.
 fn count_blocks(map: &[u64], pool: usize, size: usize) -> usize
     requires { ⌜ (8 * pool + 8 ≤ length (now map)) × (8 ≤ size) ⌝ }
@@ -132,16 +129,16 @@ fn count_pool(books: &[u32], map: &[u64], arenas: usize, pool: usize) -> usize
     requires { ⌜ Stands arenas pool (now books) (now map) ⌝ }
     ensures { λ r. ⌜ r ≡ length (rollPool 8 arenas (now (books .entry)) (now (map .entry)) pool) ⌝ }
 {
-    let class = class_in(books, arenas, pool);
-    if class > 63 {
+    let class = class_at(books, arenas, 4096 * pool);
+    if LAST_CLASS < class {
         return 0;
     }
-    count_blocks(map, pool, 8 * (class + 1))
+    count_blocks(map, pool, size_of(class))
 }
 
 // How many roll words the live blocks of the n pools take.
 pub fn count_words(books: &[u32], map: &[u64], arenas: usize, n: usize) -> usize
-    requires { ⌜ (arenas ≤ 16) × (n ≤ 1024) × (length (now books) ≡ 72 + 8 * arenas + 8 * n) × (length (now map) ≡ 8 * n) ⌝ }
+    requires { ⌜ (n ≤ 1024) × (length (now books) ≡ 72 + 8 * arenas + 8 * n) × (length (now map) ≡ 8 * n) ⌝ }
     ensures { λ r. ⌜ r ≡ length (rollPools 8 arenas (now (books .entry)) (now (map .entry)) 0 n) ⌝ }
 {
     let mut words: usize = 0;
@@ -192,16 +189,16 @@ fn roll_pool(
         × (at + length (rollPool 8 arenas (now books) (now map) pool) ≤ length (now roll)) ⌝ }
     ensures { λ r. ⌜ Stored (now (roll .entry)) at (rollPool 8 arenas (now (books .entry)) (now (map .entry)) pool) (now (roll .exit)) r ⌝ }
 {
-    let class = class_in(books, arenas, pool);
-    if class > 63 {
+    let class = class_at(books, arenas, 4096 * pool);
+    if LAST_CLASS < class {
         return at;
     }
-    roll_blocks(map, pool, 8 * (class + 1), roll, at)
+    roll_blocks(map, pool, size_of(class), roll, at)
 }
 
 // Offset and size of each live block of the n pools, at the front of the roll.
 pub fn put_roll(books: &[u32], map: &[u64], arenas: usize, n: usize, roll: &mut [u32])
-    requires { ⌜ (arenas ≤ 16) × (n ≤ 1024) × (length (now books) ≡ 72 + 8 * arenas + 8 * n) × (length (now map) ≡ 8 * n)
+    requires { ⌜ (n ≤ 1024) × (length (now books) ≡ 72 + 8 * arenas + 8 * n) × (length (now map) ≡ 8 * n)
         × (length (rollPools 8 arenas (now books) (now map) 0 n) ≤ length (now roll)) ⌝ }
     ensures { λ _. ⌜ now (roll .exit) ≡ sets (now (roll .entry)) 0 (rollPools 8 arenas (now (books .entry)) (now (map .entry)) 0 n) ⌝ }
 {

@@ -2,11 +2,11 @@
 -- Assumes nothing.
 use mathlib.Core.Path.{ap}
 use Prim.Native.Nat.{_+_, _-_, _≤_}
+use native.Mathlib.Omega.{arith}
 use lib.ListN.{set, drop}
 use Rattle.rules.specs.View.{part}
 use Rattle.loops.specs.Left.{Left, listed, begin, turn, done}
 use Rattle.loops.specs.Copy.{length-part, still}
-use native.Mathlib.Omega.{arith}
 use Rattle.loops.proofs.copy_within.Statement.{statement}
 use Rattle.loops.proofs.copy_within.Tie as tie
 
@@ -45,8 +45,11 @@ loop-again c =
     let a = c .before .before .before .args in
     let m = a .memory .now in
     let e = length-part m (a .from) (a .n) (omega arith) in
-    let f = still m (a .from) (a .n) (omega arith) (a .to) (p .i) (c .before .before .before .pre .2) (omega arith) (p .inv .0) in
-    (turn (listed (part (a .from) (a .n) m)) (p .i) (omega arith) (p .inv .0) (record { same = ap (set (p .memory) (a .to + p .i)) f; place = omega arith }), omega arith)
+    let f = still m (a .from) (a .n) (omega arith) (a .to) (p .i) (c .before .before .before .pre .2) (omega arith) (p .inv .0) in (
+      turn (listed (part (a .from) (a .n) m)) (p .i) (omega arith) (p .inv .0)
+          (record { same = ap (set (p .memory) (a .to + p .i)) f; place = omega arith }),
+      omega arith,
+    )
 
 same-length : tie.Need-same-length Inv-loop μ-loop
 same-length c = c .before .loop .inv .0 .long

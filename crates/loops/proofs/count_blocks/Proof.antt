@@ -3,17 +3,18 @@
 use mathlib.Core.Path.{_≡_, sym, ap, _∙_}
 use mathlib.Core.Logic.{⊎-elim}
 use Prim.Native.Nat.{_+_, _-_, _≤_}
+use native.Mathlib.Omega.{arith}
 use lib.ListN.{length}
 use Rattle.rules.specs.Blocks.{capacity}
 use Rattle.rules.specs.View.{rollBlocks}
 use Rattle.loops.specs.Left.{fewer, none-left}
 use Rattle.loops.specs.Roll.{block-parts, live-block, no-block, length-blocks, at-most-506}
-use native.Mathlib.Omega.{arith}
 use Rattle.loops.proofs.count_blocks.Statement.{statement}
 use Rattle.loops.proofs.count_blocks.Tie as tie
 
 abbrev Inv-loop : tie.InvT-loop
-Inv-loop map pool size blocks words₀ k₀ words k = (words + length (rollBlocks map pool size k (blocks - k)) ≡ length (rollBlocks map pool size 0 blocks)) × (k ≤ blocks)
+Inv-loop map pool size blocks words₀ k₀ words k =
+    (words + length (rollBlocks map pool size k (blocks - k)) ≡ length (rollBlocks map pool size 0 blocks)) × (k ≤ blocks)
 
 abbrev μ-loop : tie.MeasureT-loop
 μ-loop map pool size blocks words₀ k₀ words k = blocks - k
@@ -46,7 +47,11 @@ loop-again c =
     let a = c .before .before .before .before .before .args in
     let m = a .map .now in
     let f = fewer (block-parts m (a .pool) (a .size) (capacity (a .size))) (p .k) (omega arith) in
-    ⊎-elim (λ w. (omega (arith, f, ap length (live-block m (a .pool) (a .size) (p .k) (sym (c .before .is-set .ensures) ∙ w .0 .taken))), omega arith)) (λ w. (omega (arith, f, ap length (no-block m (a .pool) (a .size) (p .k) (sym (c .before .is-set .ensures) ∙ w .0 .left))), omega arith)) (c .if1 .came)
+    let bit = sym (c .before .is-set .ensures) in
+    ⊎-elim
+    (λ w. omega (arith, ap length (live-block m (a .pool) (a .size) (p .k) (bit ∙ w .0 .taken))))
+    (λ w. omega (arith, ap length (no-block m (a .pool) (a .size) (p .k) (bit ∙ w .0 .left))))
+    (c .if1 .came)
 
 returns : tie.Need-returns Inv-loop μ-loop
 returns c =

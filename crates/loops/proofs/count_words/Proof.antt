@@ -2,16 +2,17 @@
 -- Assumes nothing.
 use mathlib.Core.Path.{_≡_, ap}
 use Prim.Native.Nat.{_+_, _-_, _≤_}
+use native.Mathlib.Omega.{arith}
 use lib.ListN.{length}
 use Rattle.rules.specs.View.{rollPools}
 use Rattle.loops.specs.Left.{fewer, none-left}
 use Rattle.loops.specs.Roll.{roll-parts, length-roll}
-use native.Mathlib.Omega.{arith}
 use Rattle.loops.proofs.count_words.Statement.{statement}
 use Rattle.loops.proofs.count_words.Tie as tie
 
 abbrev Inv-loop : tie.InvT-loop
-Inv-loop books map arenas n words₀ pool₀ words pool = (words + length (rollPools 8 arenas books map pool (n - pool)) ≡ length (rollPools 8 arenas books map 0 n)) × (pool ≤ n)
+Inv-loop books map arenas n words₀ pool₀ words pool =
+    (words + length (rollPools 8 arenas books map pool (n - pool)) ≡ length (rollPools 8 arenas books map 0 n)) × (pool ≤ n)
 
 abbrev μ-loop : tie.MeasureT-loop
 μ-loop books map arenas n words₀ pool₀ words pool = n - pool
@@ -27,12 +28,9 @@ count-pool-requires c κs = omega arith
 add-words : tie.Need-add-words Inv-loop μ-loop
 add-words c =
     let a = c .before .before .before .before .before .args in
-    omega (
-      arith,
-      fewer (roll-parts 8 (a .arenas) (a .books .now) (a .map .now) (a .n)) (c .before .before .loop .pool) (omega arith),
-      c .count-pool .ensures,
-      length-roll 8 (a .arenas) (a .books .now) (a .map .now) (omega arith) 0 (a .n),
-    )
+    let f = fewer (roll-parts 8 (a .arenas) (a .books .now) (a .map .now) (a .n)) (c .before .before .loop .pool) (omega arith) in
+    let l = length-roll 8 (a .arenas) (a .books .now) (a .map .now) (omega arith) 0 (a .n) in
+    omega (arith, c .count-pool .ensures)
 
 add-pool : tie.Need-add-pool Inv-loop μ-loop
 add-pool c = omega arith
@@ -44,7 +42,7 @@ loop-again : tie.Need-loop-again Inv-loop μ-loop
 loop-again c =
     let a = c .before .before .before .before .before .args in
     let f = fewer (roll-parts 8 (a .arenas) (a .books .now) (a .map .now) (a .n)) (c .before .before .loop .pool) (omega arith) in
-    (omega (arith, c .count-pool .ensures), omega arith)
+    omega (arith, c .count-pool .ensures)
 
 returns : tie.Need-returns Inv-loop μ-loop
 returns c =

@@ -2,11 +2,11 @@
 -- Assumes nothing.
 use mathlib.Core.Path.{refl, ap, _∙_}
 use Prim.Native.Nat.{ℕ, _+_, _*_, _-_, _≤_}
+use native.Mathlib.Omega.{arith}
 use lib.Seq.{sets}
 use Rattle.rules.specs.Format.{freshArenas}
 use Rattle.loops.specs.Left.{Left, begin, turn, done}
 use Rattle.loops.specs.Fresh.{recordOf, arena-parts}
-use native.Mathlib.Omega.{arith}
 use Rattle.loops.proofs.fresh_arenas.Statement.{statement}
 use Rattle.loops.proofs.fresh_arenas.Tie as tie
 
@@ -54,8 +54,11 @@ loop-again c =
     let p = c .before .before .before .before .before .before .before .loop in
     let a = c .before .before .before .before .before .before .before .before .before .args in
     let link =
-    ap (λ (x : ℕ). sets (p .books) (72 + 8 * p .i) (recordOf x (p .i))) (c .before .before .before .before .before .next-of .ensures) in
-    (turn (arena-parts (a .arenas)) (p .i) (omega arith) (p .inv .0) (record { same = c .before .before .put-words .ensures ∙ link; place = omega arith }), omega arith)
+    ap (λ (x : ℕ). sets (p .books) (72 + 8 * p .i) (recordOf x (p .i))) (c .before .before .before .before .before .next-of .ensures) in (
+      turn (arena-parts (a .arenas)) (p .i) (omega arith) (p .inv .0)
+          (record { same = c .before .before .put-words .ensures ∙ link; place = omega arith }),
+      omega arith,
+    )
 
 same-length : tie.Need-same-length Inv-loop μ-loop
 same-length c = c .before .loop .inv .0 .long

@@ -4,9 +4,9 @@ use mathlib.Core.Path.{ap, _∙_}
 use mathlib.Core.List.{List}
 use Prim.Native.Nat.{ℕ, _+_, _*_}
 use lib.Seq.{sets}
+use borrow.Author.Needs.{needs}
 use Rattle.rules.specs.Format.{freshArenas, freshPools}
 use Rattle.loops.specs.Fresh.{fresh-whole}
-use borrow.Author.Needs.{needs}
 use Rattle.loops.proofs.fresh_books.Statement.{statement}
 use Rattle.loops.proofs.fresh_books.Tie as tie
 
@@ -51,11 +51,13 @@ same-length c = search needs
 
 returns : tie.Need-returns
 returns c =
-    let a = c .before .before .before .before .before .before .before .before .before .before .before .before .before .before .args in
+    let b = c .before .before .before .before .before .before .before .before .before in
+    let a = b .before .before .before .before .before .args in
+    let arenas = c .before .before .before .before .before .before .fresh-arenas .ensures in
     c .before .before .fresh-pools .ensures
-    ∙ ap (λ (b : List ℕ). sets b (72 + 8 * a .arenas) (freshPools (a .arenas * a .pools)))
-    (c .before .before .before .before .before .before .fresh-arenas .ensures ∙ ap (λ (b : List ℕ). sets b 72 (freshArenas 0 (a .arenas))) (c .before .before .before .before .before .before .before .before .before .before .put-words .ensures))
-    ∙ fresh-whole (a .books .now) (a .arenas) (a .pools) (c .before .before .before .before .before .before .before .before .before .before .before .before .before .before .pre .2)
+    ∙ ap (λ (x : List ℕ). sets x (72 + 8 * a .arenas) (freshPools (a .arenas * a .pools)))
+    (arenas ∙ ap (λ (x : List ℕ). sets x 72 (freshArenas 0 (a .arenas))) (b .before .put-words .ensures))
+    ∙ fresh-whole (a .books .now) (a .arenas) (a .pools) (b .before .before .before .before .before .pre .2)
 
 pub fresh-books-spec : {M : Type 1} → statement M
 fresh-books-spec =

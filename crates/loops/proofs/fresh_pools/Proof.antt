@@ -2,13 +2,13 @@
 -- Assumes nothing.
 use mathlib.Core.Path.{_≡_, refl, ap, _∙_}
 use Prim.Native.Nat.{_+_, _*_, _-_, _≤_}
+use native.Mathlib.Omega.{arith}
 use lib.ListN.{length}
 use lib.Seq.{sets}
 use Rattle.rules.specs.Books.{noClass}
 use Rattle.rules.specs.Format.{freshPools}
 use Rattle.loops.specs.Left.{Left, begin, turn, done}
 use Rattle.loops.specs.Fresh.{recordOf, pool-parts}
-use native.Mathlib.Omega.{arith}
 use Rattle.loops.proofs.fresh_pools.Statement.{statement}
 use Rattle.loops.proofs.fresh_pools.Tie as tie
 
@@ -43,8 +43,12 @@ loop-again : tie.Need-loop-again Inv-loop μ-loop
 loop-again c =
     let p = c .before .before .before .before .before .before .loop in
     let a = c .before .before .before .before .before .before .before .before .args in
-    let words = ap (sets (p .books) (a .at + 8 * p .i)) (p .inv .2) in
-    (turn (pool-parts (a .n)) (p .i) (omega arith) (p .inv .0) (record { same = c .before .before .put-words .ensures ∙ words; place = omega arith }), omega arith, p .inv .2)
+    let words = ap (sets (p .books) (a .at + 8 * p .i)) (p .inv .2) in (
+      turn (pool-parts (a .n)) (p .i) (omega arith) (p .inv .0)
+          (record { same = c .before .before .put-words .ensures ∙ words; place = omega arith }),
+      omega arith,
+      p .inv .2,
+    )
 
 same-length : tie.Need-same-length Inv-loop μ-loop
 same-length c = c .before .loop .inv .0 .long

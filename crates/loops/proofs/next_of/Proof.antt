@@ -1,7 +1,7 @@
 -- `loops::next_of` answers the link: 0 for the last arena.
 -- Assumes nothing.
-use borrow.Author.Tests.{eq-eqb, ne-eqb}
 use native.Mathlib.Omega.{arith}
+use borrow.Author.Tests.{eq-eqb, ne-eqb}
 use borrow.Author.Needs.{needs}
 use Rattle.loops.proofs.next_of.Statement.{statement}
 use Rattle.loops.proofs.next_of.Tie as tie

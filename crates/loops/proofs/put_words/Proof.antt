@@ -2,9 +2,9 @@
 -- Assumes nothing.
 use mathlib.Core.Path.{_≡_, refl}
 use Prim.Native.Nat.{_+_, _-_, _≤_}
+use native.Mathlib.Omega.{arith}
 use lib.ListN.{length, drop}
 use Rattle.loops.specs.Left.{Left, listed, begin, turn, done}
-use native.Mathlib.Omega.{arith}
 use Rattle.loops.proofs.put_words.Statement.{statement}
 use Rattle.loops.proofs.put_words.Tie as tie
 

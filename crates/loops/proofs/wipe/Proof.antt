@@ -2,16 +2,17 @@
 -- Assumes nothing.
 use mathlib.Core.Path.{_≡_, refl, _∙_}
 use Prim.Native.Nat.{_-_, _≤_}
+use native.Mathlib.Omega.{arith}
 use lib.ListN.{length, replicate, length-replicate}
 use Rattle.loops.specs.Sets.{sets-all}
 use Rattle.loops.specs.Left.{Left, begin, turn, done}
 use Rattle.loops.specs.Fresh.{zero-parts}
-use native.Mathlib.Omega.{arith}
 use Rattle.loops.proofs.wipe.Statement.{statement}
 use Rattle.loops.proofs.wipe.Tie as tie
 
 abbrev Inv-loop : tie.InvT-loop
-Inv-loop map₀ i₀ i-end map i = Left map₀ 0 (replicate (length map₀) 0) map i (replicate (length map₀ - i) 0) × (i ≤ length map₀) × (i-end ≡ length map₀)
+Inv-loop map₀ i₀ i-end map i =
+    Left map₀ 0 (replicate (length map₀) 0) map i (replicate (length map₀ - i) 0) × (i ≤ length map₀) × (i-end ≡ length map₀)
 
 abbrev μ-loop : tie.MeasureT-loop
 μ-loop map₀ i₀ i-end map i = length map₀ - i
