@@ -10,11 +10,12 @@ use lib.Seq.{getD-take, getD-drop, length-take-le}
 use Rattle.rules.specs.View.{part}
 use Rattle.loops.specs.Left.{Left, untouched}
 
--- the n places from one on, and those from the other on
+-- the n places from `from` on and the n from `to` on have none in common
 abbrev pub Apart : ℕ → ℕ → ℕ → Type 0
 Apart from to n = (from + n ≤ to) ⊎ (to + n ≤ from)
 
 module _ (m : List ℕ) (from n : ℕ) (h : from + n ≤ length m) where
+  -- a part that lies in the list has its length
   pub length-part : length (part from n m) ≡ n
   length-part = length-take-le n (drop from m) (omega (arith, length-drop from m))
 

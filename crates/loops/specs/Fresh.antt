@@ -13,7 +13,7 @@ use Rattle.rules.specs.Format.{freshArenas, freshPools, freshBooks}
 use Rattle.loops.specs.Sets.{sets-append, sets-all}
 use Rattle.loops.specs.Left.{Parts, counted}
 
--- the link of arena i to the next, where k arenas come after it
+-- the link from arena i to the next, where k arenas come after it
 abbrev pub nextOf : ℕ → ℕ → ℕ
 nextOf i k = if eqb k 0 then 0 else linkTo (i + 1)
 
@@ -21,6 +21,7 @@ nextOf i k = if eqb k 0 then 0 else linkTo (i + 1)
 abbrev pub recordOf : ℕ → ℕ → List ℕ
 recordOf x y = 0 ∷ 0 ∷ 0 ∷ 0 ∷ x ∷ y ∷ 0 ∷ 0 ∷ []
 
+-- ---- zeros, arena records and pool records, one by one
 pub zero-parts : (n : ℕ) → Parts (replicate n 0) n (λ i. replicate (n - i) 0) (λ i. 0 ∷ [])
 zero-parts = counted (λ i k. replicate k 0) (λ i k. 0 ∷ []) (λ i. refl) (λ i k. refl)
 
@@ -30,6 +31,7 @@ arena-parts = counted freshArenas (λ i k. recordOf (nextOf i k) i) (λ i. refl)
 pub pool-parts : (n : ℕ) → Parts (freshPools n) n (λ i. freshPools (n - i)) (λ i. recordOf noClass 0)
 pool-parts = counted (λ i. freshPools) (λ i k. recordOf noClass 0) (λ i. refl) (λ i k. refl)
 
+-- ---- records are eight words long
 length-arenas : (i k : ℕ) → length (freshArenas i k) ≡ 8 * k
 length-arenas i zero = refl
 length-arenas i (suc k) = omega (arith, length-arenas (suc i) k)

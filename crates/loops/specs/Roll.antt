@@ -33,6 +33,7 @@ live-block m p s k e = rw e
 pub no-block : (m : List ℕ) (p s k : ℕ) → isSet m p k ≡ false → rollBlock m p s k ≡ []
 no-block m p s k e = rw e
 
+-- the pool's words, block by block
 pub block-parts : (m : List ℕ) (p s n : ℕ)
     → Parts (rollBlocks m p s 0 n) n (λ k. rollBlocks m p s k (n - k)) (λ k. rollBlock m p s k)
 unfolding rollBlocks
@@ -65,6 +66,7 @@ pub block-inside : (s k : ℕ) → k < capacity s → k * s ≤ 4048
 block-inside s k l = omega (arith, mul-le-mul-right s l, suc-mul k s, div-mul-le-self 4048 s)
 
 -- ---- the pools
+-- the roll, pool by pool
 pub roll-parts : (al A : ℕ) (b m : List ℕ) (n : ℕ)
     → Parts (rollPools al A b m 0 n) n (λ p. rollPools al A b m p (n - p)) (λ p. rollPool al A b m p)
 unfolding rollPools
@@ -85,7 +87,7 @@ module _ (al A : ℕ) (b m : List ℕ) (p c : ℕ) (e : c ≡ classAt A b (4096 
   unfolding rollPool
   of-class s f h = rw (its-class, le-leb c (lastClass al) h, f)
 
--- ---- so the roll of n pools has 1,012 words for each at most
+-- ---- so the roll of n pools has 1,012 words for each of them at most
 module _ (al A : ℕ) (b m : List ℕ) (h : 8 ≤ al) where
   length-pool : (p : ℕ) → length (rollPool al A b m p) ≤ 1012
   unfolding rollPool

@@ -29,7 +29,7 @@ fn put_words(books: &mut [u32], at: usize, words: &[u32])
     }
 }
 
-// The link of arena i to the next, where k arenas come after it.
+// The link from arena i to the next, where k arenas come after it.
 fn next_of(i: usize, k: usize) -> u32
     requires { ⌜ i < 16 ⌝ }
     ensures { λ r. ⌜ r ≡ nextOf i k ⌝ }
@@ -62,7 +62,7 @@ fn fresh_pools(books: &mut [u32], at: usize, n: usize)
     }
 }
 
-// The books of a fresh heap.
+// The books of a fresh heap: the numbers and heads, the arena records, the pool records.
 pub fn fresh_books(books: &mut [u32], arenas: usize, pools: usize)
     requires { ⌜ (arenas ≤ 16) × (pools ≤ 64) × (length (now books) ≡ booksLength arenas pools) ⌝ }
     ensures { λ _. ⌜ now (books .exit) ≡ freshBooks arenas pools ⌝ }
