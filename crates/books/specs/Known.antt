@@ -91,7 +91,7 @@ live-is al A P b m o l h e =
     let class : classAt A b o ≤ lastClass al = leb-true (classAt A b o) (lastClass al) (v .1) in
     let low = size-low al (classAt A b o) in
     let high = size-high al (classAt A b o) class in
-    let begins : Start s (o % 4096) = start s (o % 4096) (omega arith) (omega arith) (u .1) in
+    let begins : Start s (o % 4096) = start s (o % 4096) (omega arith) (u .1) in
     record {
       inside = inside;
       pool = omega arith;

@@ -19,13 +19,13 @@ pub record Start (s o : ℕ) : Type 0 where
   pub few : blockNo s o < 506
 
 -- the largest capacity is that of blocks of 8 bytes
-capacity-le : (s : ℕ) → 8 ≤ s → capacity s ≤ 506
+pub capacity-le : (s : ℕ) → 8 ≤ s → capacity s ≤ 506
 capacity-le s h = omega (arith, div-mul-le-self 4048 s, mul-le-mul-left (capacity s) h)
 
 -- a start that passes the test is one
-pub start : (s o : ℕ) → 8 ≤ s → s ≤ 4096 → isStart s o ≡ true → Start s o
+pub start : (s o : ℕ) → 8 ≤ s → isStart s o ≡ true → Start s o
 unfolding isStart
-start s o h k e =
+start s o h e =
     let t = both (leb 48 o && leb o (lastStart s)) (eqb ((o - 48) % s) 0) e in
     let r = both (leb 48 o) (leb o (lastStart s)) (t .0) in
     let low : 48 ≤ o = leb-true 48 o (r .0) in

@@ -4,7 +4,7 @@ use mathlib.Core.Path.{_≡_, refl, sym, ap, _∙_}
 use mathlib.Core.Bool.{Bool, true, false}
 use mathlib.Core.List.{List, [], _∷_}
 use Prim.Native.Nat.{ℕ, zero, suc, _+_, _*_, _-_, _/_, _≤_, _<_}
-use native.Mathlib.Nat.{div-le-of-le-mul, div-mul-le-self, mul-le-mul, mul-le-mul-right, suc-mul}
+use native.Mathlib.Nat.{div-mul-le-self, mul-le-mul, mul-le-mul-right, suc-mul}
 use native.Mathlib.Omega.{arith}
 use lib.Dec.{leb}
 use lib.ListN.{length, length-append}
@@ -14,6 +14,7 @@ use Rattle.rules.specs.Books.{isSet, class, poolWord, pool, offsetOf}
 use Rattle.rules.specs.Blocks.{sizeOf, lastClass, startOf, capacity, classAt}
 use Rattle.rules.specs.View.{rollBlocks, rollPool, rollPools}
 use Rattle.loops.specs.Left.{Parts, counted}
+use Rattle.books.specs.Starts.{capacity-le}
 
 -- pool p has its record in the books of A arenas, and its words in the map
 pub record Stands (A p : ℕ) (b m : List ℕ) : Type 0 where
@@ -58,10 +59,7 @@ length-blocks m p s k (suc n) =
       length-blocks m p s (suc k) n,
     )
 
--- "506 of 8 bytes": no pool holds more, and its blocks lie in it
-pub at-most-506 : (s : ℕ) → 8 ≤ s → capacity s ≤ 506
-at-most-506 s h = div-le-of-le-mul s (omega arith)
-
+-- a block lies in its pool
 pub block-inside : (s k : ℕ) → k < capacity s → k * s ≤ 4048
 block-inside s k l = omega (arith, mul-le-mul-right s l, suc-mul k s, div-mul-le-self 4048 s)
 
@@ -97,7 +95,7 @@ module _ (al A : ℕ) (b m : List ℕ) (h : 8 ≤ al) where
       go (leb c (lastClass al)) (sizeOf al c) (mul-le-mul h e)
     where
       go : (t : Bool) (s : ℕ) → 8 ≤ s → length (if t then rollBlocks m p s 0 (capacity s) else []) ≤ 1012
-      go true s l = omega (arith, length-blocks m p s 0 (capacity s), at-most-506 s l)
+      go true s l = omega (arith, length-blocks m p s 0 (capacity s), capacity-le s l)
       go false s l = omega arith
 
   pub length-roll : (p n : ℕ) → length (rollPools al A b m p n) ≤ 1012 * n

@@ -39,15 +39,27 @@ FitsSource A P b (Freed a) p = Gives A P a b × (pool A b poolNext p ≤ A * P)
 FitsSource A P b (Carved a) p = Gives A P a b × (p ≡ a * P + arena b carveMark a) × (arena b carveMark a < P)
 FitsSource A P b (Opened a) p = (a < A) × (p ≡ a * P) × Links A arenaLinks a b
 
--- the numbers of a path, in books b of A arenas of P pools, for blocks of size s
-abbrev pub FitsAsk : ℕ → ℕ → ℕ → List ℕ → AskPlan → Type 0
-FitsAsk s A P b NoRoom = Unit
-FitsAsk s A P b Damaged = Unit
-FitsAsk s A P b (Follow p f l) = (p < A * P) × (pool A b count p ≤ 505) × Start s f × Start s l
-FitsAsk s A P b (Ready p f m) = (p < A * P) × (pool A b count p ≤ 505) × Start s f × Start s m
-FitsAsk s A P b (Last p f) = (p < A * P) × (pool A b count p ≤ 505) × Start s f × Links (A * P) (poolLinks A) p b
-FitsAsk s A P b (Again a p f l) = (p < A * P) × FitsSource A P b (Freed a) p × Start s f × (l ≤ 4096)
-FitsAsk s A P b (Anew src p) = (p < A * P) × FitsSource A P b src p
+-- a block of size s at f in pool p, which is there, and whose bit in the map m is clear
+pub record Spare (A P s : ℕ) (m : List ℕ) (p f : ℕ) : Type 0 where
+  pub there : p < A * P
+  pub start : Start s f
+  pub clear : isSet m p (blockNo s f) ≡ false
+
+-- the same of a listed pool, which is of class c and has room for one more
+pub record Listed (A P s c : ℕ) (b m : List ℕ) (p f : ℕ) : Type 0 where
+  pub spare : Spare A P s m p f
+  pub class : pool A b class p ≡ c
+  pub count : pool A b count p ≤ 505
+
+-- the numbers of a path for class c, of blocks of size s, in books b and map m of A arenas of P pools
+abbrev pub FitsAsk : ℕ → ℕ → ℕ → ℕ → List ℕ → List ℕ → AskPlan → Type 0
+FitsAsk A P s c b m NoRoom = Unit
+FitsAsk A P s c b m Damaged = Unit
+FitsAsk A P s c b m (Follow p f l) = Listed A P s c b m p f × Start s l
+FitsAsk A P s c b m (Ready p f n) = Listed A P s c b m p f × (n ≡ pool A b nextoffset p) × Start s n
+FitsAsk A P s c b m (Last p f) = Listed A P s c b m p f × Links (A * P) (poolLinks A) p b
+FitsAsk A P s c b m (Again a p f l) = FitsSource A P b (Freed a) p × Spare A P s m p f × (pool A b class p ≡ c) × (l ≤ 4096)
+FitsAsk A P s c b m (Anew src p) = FitsSource A P b src p × Spare A P s m p 48
 
 -- ---- what holds after a choice, and after a rule that keeps the path from the answer `damaged`
 module _ {X : Type 0} (F : X → Type 0) where
@@ -72,70 +84,79 @@ links most base n b e = record {
 }
 
 -- ---- the path, from its ends to its beginning
-module _ (al A P : ℕ) (h : Heap) (c : ℕ) (al-low : 8 ≤ sizeOf al c) (al-high : sizeOf al c ≤ 4096) where
+module _ (al A P : ℕ) (h : Heap) (c : ℕ) (low : 8 ≤ sizeOf al c) where
   abbrev s : ℕ
   s = sizeOf al c
 
   abbrev b : List ℕ
   b = h .books
 
+  abbrev m : List ℕ
+  m = h .map
+
   abbrev F : AskPlan → Type 0
-  F = FitsAsk s A P b
+  F = FitsAsk A P s c b m
 
-  started : (p f : ℕ) → spare al A P h c p f ≡ true → Start s f
-  started p f e = start s f al-low al-high (both (isStart s f) (not (isSet (h .map) p (blockNo s f))) e .0)
+  spared : (p f : ℕ) → p < A * P → spare al A P h c p f ≡ true → Spare A P s m p f
+  spared p f there e =
+      let t = both (isStart s f) (not (isSet m p (blockNo s f))) e in
+      record { there = there; start = start s f low (t .0); clear = not-true (isSet m p (blockNo s f)) (t .1) }
 
-  -- a link that is not 0
-  linked-on : (p l : ℕ) → (none? l || spare al A P h c p l) ≡ true → none? l ≡ false → Start s l
-  linked-on p l e n = started p l (rw n at e)
+  -- a link that is not 0, and any link
+  linked-on : (p l : ℕ) → p < A * P → (none? l || spare al A P h c p l) ≡ true → none? l ≡ false → Start s l
+  linked-on p l there e n = spared p l there (rw n at e) .start
 
-  -- any link
-  linked-low : (p l : ℕ) → (none? l || spare al A P h c p l) ≡ true → l ≤ 4096
-  linked-low p l e = go (none? l) refl
+  linked-low : (p l : ℕ) → p < A * P → (none? l || spare al A P h c p l) ≡ true → l ≤ 4096
+  linked-low p l there e = go (none? l) refl
     where
       go : (t : Bool) → none? l ≡ t → l ≤ 4096
       go true z = omega (arith, eqb-true l 0 z)
-      go false n = omega (arith, linked-on p l e n .ends)
+      go false n = omega (arith, linked-on p l there e n .ends)
 
-  fits-noLink : (p : ℕ) → p < A * P → pool A b count p ≤ 505 → Start s (pool A b freeblock p) → F (noLink al A P h c p)
+  fits-noLink : (p : ℕ) → Listed A P s c b m p (pool A b freeblock p) → F (noLink al A P h c p)
   unfolding noLink
-  fits-noLink p there few block =
+  fits-noLink p listed =
       either F (leb (pool A b nextoffset p) (pool A b maxnextoffset p)) _ _
-      (λ e. after F (spare al A P h c p (pool A b nextoffset p)) _ _ tt (λ r. (there, few, block, started p (pool A b nextoffset p) r)))
-      (λ e. after F (mayLeave (A * P) (poolLinks A) p b) _ _ tt (λ r. (there, few, block, links (A * P) (poolLinks A) p b r)))
+      (λ _. after F (spare al A P h c p (pool A b nextoffset p)) _ _ tt
+      (λ r. (listed, refl, spared p (pool A b nextoffset p) (listed .spare .there) r .start)))
+      (λ _. after F (mayLeave (A * P) (poolLinks A) p b) _ _ tt (λ r. (listed, links (A * P) (poolLinks A) p b r)))
 
-  fits-freeblock : (p : ℕ) → p < A * P → pool A b count p ≤ 505 → F (fromFreeblock al A P h c p)
+  fits-freeblock : (p : ℕ) → p < A * P → pool A b class p ≡ c → pool A b count p ≤ 505 → F (fromFreeblock al A P h c p)
   unfolding fromFreeblock
-  fits-freeblock p there few =
+  fits-freeblock p there class few =
       after F (spare al A P h c p (pool A b freeblock p)) _ _ tt
-      (λ block. after F (none? (linkIn al A P h c p) || spare al A P h c p (linkIn al A P h c p)) _ _ tt
-      (λ link. either F (none? (linkIn al A P h c p)) _ _
-      (λ e. fits-noLink p there few (started p _ block))
-      (λ e. (there, few, started p _ block, linked-on p _ link e))))
+      (λ block.
+      let listed : Listed A P s c b m p (pool A b freeblock p) = record { spare = spared p _ there block; class = class; count = few } in
+      after F (none? (linkIn al A P h c p) || spare al A P h c p (linkIn al A P h c p)) _ _ tt
+      (λ link. either F (none? (linkIn al A P h c p)) _ _ (λ _. fits-noLink p listed) (λ e. (listed, linked-on p _ there link e))))
 
   fits-listed : (p : ℕ) → p < A * P → F (fromListed al A P h c p)
   unfolding fromListed
   fits-listed p there =
       after F (eqb (pool A b class p) c) _ _ tt
-      (λ _. after F (eqb (pool A b maxnextoffset p) (4096 - s)) _ _ tt
-      (λ _. after F (leb (pool A b count p) 505) _ _ tt (λ few. fits-freeblock p there (leb-true _ 505 few))))
+      (λ class. after F (eqb (pool A b maxnextoffset p) (4096 - s)) _ _ tt
+      (λ _. after F (leb (pool A b count p) 505) _ _ tt
+      (λ few. fits-freeblock p there (eqb-true _ c class) (leb-true _ 505 few))))
 
   fits-anew : (src : Source) (p : ℕ) → p < A * P → FitsSource A P b src p → F (setAnew al A P h c src p)
   unfolding setAnew
   fits-anew src p there source =
-      after F (spare al A P h c p 48) _ _ tt (λ _. after F (spare al A P h c p (48 + s)) _ _ tt (λ _. (there, source)))
+      after F (spare al A P h c p 48) _ _ tt
+      (λ first. after F (spare al A P h c p (48 + s)) _ _ tt (λ _. (source, spared p 48 there first)))
 
-  fits-same : (a p : ℕ) → p < A * P → FitsSource A P b (Freed a) p → F (sameClass al A P h c a p)
+  fits-same : (a p : ℕ) → p < A * P → pool A b class p ≡ c → FitsSource A P b (Freed a) p → F (sameClass al A P h c a p)
   unfolding sameClass
-  fits-same a p there source =
+  fits-same a p there class source =
       after F (spare al A P h c p (pool A b freeblock p)) _ _ tt
       (λ block. after F (none? (linkIn al A P h c p) || spare al A P h c p (linkIn al A P h c p)) _ _ tt
-      (λ link. (there, source, started p _ block, linked-low p _ link)))
+      (λ link. (source, spared p _ there block, class, linked-low p _ there link)))
 
   fits-again : (a p : ℕ) → p < A * P → FitsSource A P b (Freed a) p → F (takeAgain al A P h c a p)
   unfolding takeAgain
   fits-again a p there source =
-      either F (eqb (pool A b class p) c) _ _ (λ _. fits-same a p there source) (λ _. fits-anew (Freed a) p there source)
+      either F (eqb (pool A b class p) c) _ _
+      (λ class. fits-same a p there (eqb-true _ c class) source)
+      (λ _. fits-anew (Freed a) p there source)
 
   -- an arena that gives a pool
   fits-counted : (a : ℕ) (rest : AskPlan) → a < A → (Gives A P a b → F rest) → F (counted al A P h c a rest)

@@ -8,7 +8,8 @@ use lib.ListN.{length}
 use Rattle.rules.specs.Blocks.{capacity}
 use Rattle.rules.specs.View.{rollBlocks}
 use Rattle.loops.specs.Left.{fewer, none-left}
-use Rattle.loops.specs.Roll.{block-parts, live-block, no-block, length-blocks, at-most-506}
+use Rattle.books.specs.Starts.{capacity-le}
+use Rattle.loops.specs.Roll.{block-parts, live-block, no-block, length-blocks}
 use Rattle.loops.proofs.count_blocks.Statement.{statement}
 use Rattle.loops.proofs.count_blocks.Tie as tie
 
@@ -28,15 +29,15 @@ loop-holds c =
     (omega (arith, ap length (block-parts (a .map .now) (a .pool) (a .size) (capacity (a .size)) .first)), omega arith)
 
 is-set-requires : tie.Need-is-set-requires Inv-loop μ-loop
-is-set-requires c κs = omega (arith, at-most-506 (c .before .before .before .args .size) (omega arith))
+is-set-requires c κs = omega (arith, capacity-le (c .before .before .before .args .size) (omega arith))
 
 add-words : tie.Need-add-words Inv-loop μ-loop
 add-words c =
     let a = c .before .before .before .before .before .args in
-    omega (arith, length-blocks (a .map .now) (a .pool) (a .size) 0 (capacity (a .size)), at-most-506 (a .size) (omega arith))
+    omega (arith, length-blocks (a .map .now) (a .pool) (a .size) 0 (capacity (a .size)), capacity-le (a .size) (omega arith))
 
 add-k : tie.Need-add-k Inv-loop μ-loop
-add-k c = omega (arith, at-most-506 (c .before .before .before .before .before .args .size) (omega arith))
+add-k c = omega (arith, capacity-le (c .before .before .before .before .before .args .size) (omega arith))
 
 loop-less : tie.Need-loop-less Inv-loop μ-loop
 loop-less c = omega arith

@@ -11,12 +11,13 @@ use borrow.Author.Tests.{not-true, not-false}
 use borrow.Author.Needs.{needs}
 use Rattle.rules.specs.Books.{offsetOf}
 use Rattle.rules.specs.Blocks.{startOf}
-use Rattle.loops.specs.Roll.{rollBlock, live-block, no-block, at-most-506, block-inside}
+use Rattle.books.specs.Starts.{capacity-le}
+use Rattle.loops.specs.Roll.{rollBlock, live-block, no-block, block-inside}
 use Rattle.loops.proofs.roll_block.Statement.{statement}
 use Rattle.loops.proofs.roll_block.Tie as tie
 
 is-set-requires : tie.Need-is-set-requires
-is-set-requires c κs = omega (arith, at-most-506 (c .before .before .args .size) (omega arith))
+is-set-requires c κs = omega (arith, capacity-le (c .before .before .args .size) (omega arith))
 
 returns : tie.Need-returns
 returns c =

@@ -6,7 +6,8 @@ use native.Mathlib.Omega.{arith}
 use Rattle.rules.specs.Blocks.{capacity}
 use Rattle.rules.specs.View.{rollBlocks}
 use Rattle.loops.specs.Left.{Left, fewer, begin, turn, done}
-use Rattle.loops.specs.Roll.{block-parts, at-most-506}
+use Rattle.books.specs.Starts.{capacity-le}
+use Rattle.loops.specs.Roll.{block-parts}
 use Rattle.loops.proofs.roll_blocks.Statement.{statement}
 use Rattle.loops.proofs.roll_blocks.Tie as tie
 
@@ -32,7 +33,7 @@ roll-block-requires c κs =
     omega arith
 
 add-k : tie.Need-add-k Inv-loop μ-loop
-add-k c = omega (arith, at-most-506 (c .before .before .before .before .before .before .before .before .args .size) (omega arith))
+add-k c = omega (arith, capacity-le (c .before .before .before .before .before .before .before .before .args .size) (omega arith))
 
 loop-less : tie.Need-loop-less Inv-loop μ-loop
 loop-less c = omega arith

@@ -34,7 +34,7 @@ add-link-at c = search needs
 
 -- src/ask.rt:122:23
 link-at-requires : tie.Need-link-at-requires
-link-at-requires c κs = let s = start (c .before .before .before .before .before .before .args .size) (c .before .before .pool-word .result) (omega arith) (omega arith) (both _ _ (sym (c .before .spare .ensures) ∙ c .if1 .taken) .0) in omega (arith, s .ends)
+link-at-requires c κs = let s = start (c .before .before .before .before .before .before .args .size) (c .before .before .pool-word .result) (omega arith) (both _ _ (sym (c .before .spare .ensures) ∙ c .if1 .taken) .0) in omega (arith, s .ends)
 
 -- src/ask.rt:122:13
 index-requires : tie.Need-index-requires

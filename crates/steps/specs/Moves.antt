@@ -1,6 +1,7 @@
 -- A resize that moves a block, whatever the books hold: the bytes that it copies and the place where they go do not meet.
 -- Assumes nothing.
-use mathlib.Core.Path.{_≡_, sym, ap, ap₂, _∙_}
+use mathlib.Core.Path.{_≡_, refl, sym, ap, ap₂, _∙_}
+use mathlib.Core.List.{List}
 use mathlib.Core.Bool.{Bool, true, false, not, _&&_}
 use mathlib.Core.Logic.{_⊎_, inl, inr}
 use Prim.Native.Nat.{ℕ, zero, suc, _+_, _-_, _/_, _%_, _≤_, _<_, min}
@@ -11,26 +12,18 @@ use lib.Dec.{leb, eqb}
 use borrow.Author.Tests.{leb-true, not-true}
 use Rattle.rules.specs.Books.{Heap, memoryLength, isSet, class, pool, offsetOf}
 use Rattle.rules.specs.Blocks.{classOf, sizeOf, startOf, lastStart, isStart, blockNo, sizeAt}
-use Rattle.rules.specs.Ask.{askStep}
-use Rattle.books.specs.Tests.{both}
-use Rattle.books.specs.Starts.{Start, start}
+use Rattle.rules.specs.declared.AskPlan.{AskPlan}
+use Rattle.rules.specs.declared.AskPlan.the-variants.{NoRoom, Damaged, Follow, Ready, Last, Again, Anew}
+use Rattle.rules.specs.Ask.{planAsk, askAnswer, askStep}
 use Rattle.books.specs.Known.{LiveBlock}
 use Rattle.loops.specs.Copy.{Apart}
-use Rattle.loops.specs.Hands.{Handed, plan-hands}
+use Rattle.steps.specs.Fits.{Spare, FitsAsk, fits-ask}
 
 -- ---- sizes
 -- a size and the alignment are at most the block size of the size's class
 pub class-holds : (al n : ℕ) → 1 ≤ al → (n ≤ sizeOf al (classOf al n)) × (al ≤ sizeOf al (classOf al n))
 class-holds al n h =
     omega (arith, div-add-mod (n - 1) al, mod-lt (n - 1) {m = al} h, mul-add al (classOf al n) 1, mul-one al)
-
--- a size that has a block start fits in a pool
-size-fits : (s o : ℕ) → isStart s o ≡ true → s ≤ 4096
-unfolding isStart
-size-fits s o e =
-    let t = both (leb 48 o && leb o (lastStart s)) (eqb ((o - 48) % s) 0) e in
-    let u = both (leb 48 o) (leb o (lastStart s)) (t .0) in
-    omega (arith, leb-true 48 o (u .0), leb-true o (lastStart s) (u .1))
 
 -- a heap that an offset lies in has pools
 some-pools : (A P o : ℕ) → o < memoryLength A P → 1 ≤ P
@@ -61,6 +54,24 @@ pub record Moves (A P from to k : ℕ) : Type 0 where
   pub old-inside : from + k ≤ memoryLength A P
   pub new-inside : to + k ≤ memoryLength A P
 
+-- ---- what an ask hands out: a spare block, in a pool of the class, or the first of a pool that is set to it
+pub record Handed (A P s c : ℕ) (b m : List ℕ) (o : ℕ) : Type 0 where
+  pub p : ℕ
+  pub f : ℕ
+  pub place : o ≡ offsetOf p f
+  pub spare : Spare A P s m p f
+  pub kind : (pool A b class p ≡ c) ⊎ (f ≡ 48)
+
+handed : (A P s c : ℕ) (b m : List ℕ) (q : AskPlan) → FitsAsk A P s c b m q → askAnswer q .number ≡ 0 → Handed A P s c b m (askAnswer q .offset)
+unfolding askAnswer
+handed A P s c b m NoRoom t e = absurd (omega arith)
+handed A P s c b m Damaged t e = absurd (omega arith)
+handed A P s c b m (Follow p f l) t e = record { p = p; f = f; place = refl; spare = t .0 .spare; kind = inl (t .0 .class) }
+handed A P s c b m (Ready p f n) t e = record { p = p; f = f; place = refl; spare = t .0 .spare; kind = inl (t .0 .class) }
+handed A P s c b m (Last p f) t e = record { p = p; f = f; place = refl; spare = t .0 .spare; kind = inl (t .0 .class) }
+handed A P s c b m (Again a p f l) t e = record { p = p; f = f; place = refl; spare = t .1; kind = inl (t .2) }
+handed A P s c b m (Anew src p) t e = record { p = p; f = 48; place = refl; spare = t .1; kind = inr refl }
+
 -- ---- the resize of the live block at o to n bytes
 module _ (al A P : ℕ) (h : Heap) (o n : ℕ) (low : 8 ≤ al) (old : LiveBlock al A P (h .books) (h .map) o) where
   abbrev c : ℕ
@@ -80,17 +91,9 @@ module _ (al A P : ℕ) (h : Heap) (o n : ℕ) (low : 8 ≤ al) (old : LiveBlock
   k = min n s₀
 
   -- the new block
-  module _ (to : ℕ) (g : Handed al A P h c to) where
+  module _ (to : ℕ) (g : Handed A P (sizeOf al c) c (h .books) (h .map) to) where
     abbrev s : ℕ
     s = sizeOf al c
-
-    free : (isStart s (g .f) ≡ true) × (isSet (h .map) (g .p) (blockNo s (g .f)) ≡ false)
-    free =
-        let t = both (isStart s (g .f)) (not (isSet (h .map) (g .p) (blockNo s (g .f)))) (g .free) in
-        (t .0, not-true (isSet (h .map) (g .p) (blockNo s (g .f))) (t .1))
-
-    new : Start s (g .f)
-    new = start s (g .f) (omega (arith, class-holds al n (omega arith))) (size-fits s (g .f) (free .0)) (free .0)
 
     -- in the old block's pool, at place j by the old block's size, where none is live: so not at the old block's place
     at-place : (j : ℕ) → p₀ ≡ g .p → g .f ≡ startOf s₀ j → isSet (h .map) (g .p) j ≡ false → Apart o to k
@@ -107,9 +110,9 @@ module _ (al A P : ℕ) (h : Heap) (o n : ℕ) (low : 8 ≤ al) (old : LiveBlock
     in-pool : p₀ ≡ g .p → (pool A (h .books) class (g .p) ≡ c) ⊎ (g .f ≡ 48) → Apart o to k
     in-pool e (inl z) =
         let w : s ≡ s₀ = sym (ap (sizeOf al) (ap (pool A (h .books) class) e ∙ z)) in
-        at-place (blockNo s (g .f)) e (sym (new .place) ∙ ap (λ (x : ℕ). startOf x (blockNo s (g .f))) w) (free .1)
+        at-place (blockNo s (g .f)) e (sym (g .spare .start .place) ∙ ap (λ (x : ℕ). startOf x (blockNo s (g .f))) w) (g .spare .clear)
     in-pool e (inr z) =
-        at-place 0 e (omega arith) (sym (ap (isSet (h .map) (g .p)) (ap (blockNo s) z ∙ zero-div s)) ∙ free .1)
+        at-place 0 e (omega arith) (sym (ap (isSet (h .map) (g .p)) (ap (blockNo s) z ∙ zero-div s)) ∙ g .spare .clear)
 
     moves : Moves A P o to k
     moves =
@@ -118,7 +121,7 @@ module _ (al A P : ℕ) (h : Heap) (o n : ℕ) (low : 8 ≤ al) (old : LiveBlock
         record {
           apart = go (ℕ-discrete p₀ (g .p)) a b;
           old-inside = omega (arith, old .ends);
-          new-inside = omega (arith, new .ends, g .place, g .inside);
+          new-inside = omega (arith, g .spare .start .ends, g .place, g .spare .there);
         }
       where
         go : Dec (p₀ ≡ g .p) → k ≤ s₀ → k ≤ s → Apart o to k
@@ -126,9 +129,12 @@ module _ (al A P : ℕ) (h : Heap) (o n : ℕ) (low : 8 ≤ al) (old : LiveBlock
         go (no e) a b =
             pools-apart o to k p₀ (g .p) f₀ (g .f) (omega arith) (g .place) e
             (omega (arith, old .start .ends))
-            (omega (arith, new .ends))
+            (omega (arith, g .spare .start .ends))
 
   -- "copy the first min(n, s) bytes": where the ask is done, they can be copied to the block that it hands out
   pub moves-apart : askStep al A P h n .answer .number ≡ 0 → Moves A P o (askStep al A P h n .answer .offset) (min n s₀)
   unfolding askStep
-  moves-apart e = moves (askStep al A P h n .answer .offset) (plan-hands al A P h c (some-pools A P o (old .inside)) .handed e)
+  moves-apart e =
+      moves (askStep al A P h n .answer .offset)
+      (handed A P (sizeOf al c) c (h .books) (h .map) (planAsk al A P h c)
+      (fits-ask al A P h c (omega (arith, class-holds al n (omega arith))) (some-pools A P o (old .inside))) e)
