@@ -20,7 +20,7 @@ ghost use Rattle.loops.specs.Copy.{Apart};
 // ---- format
 
 // The words are stored in the books from word `at` on.
-fn put_words(books: &mut [u32], at: usize, words: &[u32])
+pub fn put_words(books: &mut [u32], at: usize, words: &[u32])
     requires { ⌜ at + length (now words) ≤ length (now books) ⌝ }
     ensures { λ _. ⌜ now (books .exit) ≡ sets (now (books .entry)) at (now (words .entry)) ⌝ }
 {

@@ -1,0 +1,141 @@
+-- The books after each part of a give-back, and the words that a part leaves as they were for the next.
+-- Assumes nothing.
+use mathlib.Core.Path.{_≡_, refl, ap, _∙_}
+use mathlib.Core.Logic.{_≢_, inl}
+use mathlib.Core.List.{List, []}
+use Prim.Native.Nat.{ℕ, _+_, _*_, _-_, _/_, _≤_, _<_}
+use native.Mathlib.Omega.{arith}
+use lib.ListN.{length, length-set, replicate}
+use lib.Seq.{getD-set-other, sets, length-sets}
+use Rattle.rules.specs.Say.{_▷_}
+use Rattle.rules.specs.Books.{Heap, at, put, usableHead, unusedHead, classHead, freePools, freedHead, arenaWord, arena, count, freeblock, poolNext, poolPrevious, poolWord, pool}
+use Rattle.rules.specs.Lists.{nextAt, previousAt, arenaLinks, poolLinks, leave}
+use Rattle.rules.specs.GiveBack.{takeBack, empty, release, afterBack}
+use Rattle.rules.specs.declared.BackPlan.the-variants.{Empties}
+use Rattle.rules.specs.Outcome.{heapOf}
+use Rattle.books.specs.Lists.{leave-keeps, length-leaveBy, pool-leave-keeps}
+use Rattle.loops.specs.Sets.{sets-other}
+use Rattle.steps.specs.Fits.{Links}
+use Rattle.steps.specs.FitsBack.{FitsEmpty}
+
+-- ---- the books' part of each write
+abbrev pub takenBack : ℕ → ℕ → ℕ → List ℕ → List ℕ
+takenBack A p f b = takeBack 8 A 0 0 p f (heapOf [] b []) .books
+
+-- pool p at the front of arena a's freed pools: what `empty` writes after leaving
+abbrev pub freedFirst : ℕ → ℕ → ℕ → List ℕ → List ℕ
+freedFirst A a p b =
+    b
+    ▷ (λ x. put (poolWord A poolNext p) (arena x freedHead a) x)
+    ▷ put (poolWord A poolPrevious p) 0
+    ▷ put (arenaWord freedHead a) (p + 1)
+    ▷ (λ x. put (arenaWord freePools a) (at x (arenaWord freePools a) + 1) x)
+
+abbrev pub emptied : ℕ → ℕ → ℕ → ℕ → List ℕ → List ℕ
+emptied A P c p b = empty 8 A P c p 0 (heapOf [] b []) .books
+
+abbrev pub released : ℕ → List ℕ → List ℕ
+released a b = release 8 0 0 0 0 0 a (heapOf [] b []) .books
+
+-- ---- the pool's freeblock and count are all that the block's return writes
+module _ (A p f : ℕ) (b : List ℕ) where
+  pub taken-keeps : (j : ℕ) → j ≢ poolWord A freeblock p → j ≢ poolWord A count p → at (takenBack A p f b) j ≡ at b j
+  taken-keeps j g h = simp (getD-set-other, g, h)
+
+  pub length-taken : length (takenBack A p f b) ≡ length b
+  length-taken = simp length-set
+
+  -- so what its path knows stays
+  pub taken-links : (most base n : ℕ) → nextAt base n ≢ poolWord A freeblock p → nextAt base n ≢ poolWord A count p
+      → previousAt base n ≢ poolWord A freeblock p → previousAt base n ≢ poolWord A count p → Links most base n b → Links most base n (takenBack A p f b)
+  taken-links most base n g h k l t = record {
+    next = rw (taken-keeps (nextAt base n) g h) (t .next);
+    previous = rw (taken-keeps (previousAt base n) k l) (t .previous);
+  }
+
+-- ---- the return of the pool to its arena leaves the first heads and the arenas' links
+-- a place before the first link is none of the links
+before-links : (base j n : ℕ) → j < base → (j ≢ nextAt base n) × (j ≢ previousAt base n)
+before-links base j n h = (omega arith, omega arith)
+
+module _ (A P c p : ℕ) (b : List ℕ) where
+  -- word j stands before the pool records and is neither the class head nor the arena's freed-pool head or free pools
+  pub emptied-keeps : (j : ℕ) → j < 72 + 8 * A → j ≢ classHead c → j ≢ arenaWord freedHead (p / P) → j ≢ arenaWord freePools (p / P)
+      → at (emptied A P c p b) j ≡ at b j
+  emptied-keeps j h k l m =
+      let base = poolLinks A in
+      let next = at b (nextAt base p) in
+      let previous = at b (previousAt base p) in
+      let o : j < poolLinks A = omega arith in
+      let d : (j ≢ poolWord A poolPrevious p) × (j ≢ poolWord A poolNext p) = (omega arith, omega arith) in
+      simp (getD-set-other, m, l, d .0, d .1)
+      (leave-keeps base (classHead c) next previous p b j
+      (k, before-links base j (previous - 1) o .0, before-links base j (next - 1) o .1, before-links base j p o .0, before-links base j p o .1))
+
+  pub length-emptied : length (emptied A P c p b) ≡ length b
+  length-emptied = simp (length-set, length-leaveBy)
+
+-- ---- what the code reads before its writes, the rules read after some of them
+pub freed-reads : (A a p v w : ℕ) (b : List ℕ) → a < A
+    → at (b ▷ put (poolWord A poolNext p) v ▷ put (poolWord A poolPrevious p) 0 ▷ put (arenaWord freedHead a) w) (arenaWord freePools a) ≡ arena b freePools a
+freed-reads A a p v w b l =
+    let d : (arenaWord freePools a ≢ arenaWord freedHead a) × (arenaWord freePools a ≢ poolWord A poolPrevious p) × (arenaWord freePools a ≢ poolWord A poolNext p) = (omega arith, omega arith, omega arith) in
+    simp (getD-set-other, d .0, d .1, d .2)
+
+-- leaving the class list keeps the books' length and the arena's free pools
+pub left-keeps : (A c p a : ℕ) (b : List ℕ) → a < A → classHead c < 72
+    → (length (leave (poolLinks A) (classHead c) p b) ≡ length b) × (arena (leave (poolLinks A) (classHead c) p b) freePools a ≡ arena b freePools a)
+left-keeps A c p a b l h = (length-leaveBy (poolLinks A) (classHead c) _ _ p b, pool-leave-keeps A (classHead c) _ _ p b freePools a h l (omega arith))
+
+-- the books in the middle of a release: the arena has left the usable list, and its record is 0
+abbrev pub zeroed : ℕ → List ℕ → List ℕ
+zeroed a b = sets (leave arenaLinks usableHead a b) (arenaWord 0 a) (replicate 8 0)
+
+-- they keep their length and the unused head
+pub zeroed-keeps : (a : ℕ) (b : List ℕ) → (length (zeroed a b) ≡ length b) × (at (zeroed a b) unusedHead ≡ at b unusedHead)
+zeroed-keeps a b =
+    let next = at b (nextAt arenaLinks a) in
+    let previous = at b (previousAt arenaLinks a) in
+    let before : 3 < arenaLinks = omega arith in (
+      length-sets (leave arenaLinks usableHead a b) (arenaWord 0 a) (replicate 8 0) ∙ length-leaveBy arenaLinks usableHead next previous a b,
+      sets-other (leave arenaLinks usableHead a b) (arenaWord 0 a) (replicate 8 0) unusedHead (inl (omega arith))
+          ∙ leave-keeps arenaLinks usableHead next previous a b unusedHead
+          (omega arith, before-links arenaLinks 3 (previous - 1) before .0, before-links arenaLinks 3 (next - 1) before .1, before-links arenaLinks 3 a before .0, before-links arenaLinks 3 a before .1),
+    )
+
+-- ---- what the next part of a give-back knows of the books that the parts before it leave
+module _ (A P c p f : ℕ) (b : List ℕ) where
+  pub taken-before : (j : ℕ) → j < 72 + 8 * A → at (takenBack A p f b) j ≡ at b j
+  taken-before j h = taken-keeps A p f b j (omega arith) (omega arith)
+
+  pub taken-fits : p / P < A → FitsEmpty A P p b → FitsEmpty A P p (takenBack A p f b)
+  taken-fits l t = record {
+    links = taken-links A p f b (A * P) (poolLinks A) p (omega arith) (omega arith) (omega arith) (omega arith) (t .links);
+    head = rw (taken-before (arenaWord freedHead (p / P)) (omega arith)) (t .head);
+    free = rw (taken-before (arenaWord freePools (p / P)) (omega arith)) (t .free);
+  }
+
+  abbrev last : List ℕ
+  last = emptied A P c p (takenBack A p f b)
+
+  pub last-length : length last ≡ length b
+  last-length = length-emptied A P c p (takenBack A p f b) ∙ length-taken A p f b
+
+  -- a head of the arenas' lists, and the links of the pool's arena
+  pub last-head : (j : ℕ) → j < 4 → at last j ≡ at b j
+  last-head j h = emptied-keeps A P c p (takenBack A p f b) j (omega arith) (omega arith) (omega arith) (omega arith) ∙ taken-before j (omega arith)
+
+  pub last-links : c ≤ 63 → p / P < A → Links A arenaLinks (p / P) b → Links A arenaLinks (p / P) last
+  last-links few l t = record {
+    next = rw (kept (nextAt arenaLinks (p / P)) (omega arith) (omega arith) (omega arith)) (t .next);
+    previous = rw (kept (previousAt arenaLinks (p / P)) (omega arith) (omega arith) (omega arith)) (t .previous);
+  }
+    where
+      kept : (j : ℕ) → j < 72 + 8 * A → 76 ≤ j → (j ≡ arenaWord freedHead (p / P) → ⊥) × (j ≡ arenaWord freePools (p / P) → ⊥) → at last j ≡ at b j
+      kept j h k d = emptied-keeps A P c p (takenBack A p f b) j h (omega arith) (d .0) (d .1) ∙ taken-before j h
+
+-- the books of a heap after a give-back that emptied its pool
+pub last-books : (A P c p f : ℕ) (m b k m′ b′ k′ : List ℕ) → heapOf m′ b′ k′ ≡ afterBack 8 A P c p f Empties (heapOf m b k)
+    → b′ ≡ emptied A P c p (takenBack A p f b)
+unfolding afterBack
+last-books A P c p f m b k m′ b′ k′ e = ap (λ (h : Heap). h .books) e
