@@ -1,0 +1,2 @@
+-- The laws of 01's order of tests.
+pub mod Order

@@ -1,0 +1,169 @@
+// The calls of 01, over three lent buffers: memory, books and map. Each tests in 01's order and then takes its step. None requires anything
+// of its caller, and the promise of each is one equation: what it answers and what it leaves is what the rules say.
+use books::blocks::class_at;
+use books::blocks::size_of;
+use books::numbers::fit_number;
+use books::numbers::live_number;
+use books::numbers::shape_number;
+use loops::copy_in;
+use loops::count_words;
+use loops::fresh_books;
+use loops::put_roll;
+use loops::wipe;
+use rules::Answer;
+use rules::Rolled;
+use rules::Sized;
+use steps::put_back::back_step;
+use steps::words::word;
+ghost use mathlib.Core.Path.{_≡_};
+ghost use Prim.Native.Nat.{_+_, _/_, _<_, _≤_};
+ghost use denote.Ref.{ptr};
+ghost use lib.ListN.{length};
+ghost use Rattle.rules.specs.Books.{at, poolWord};
+ghost use Rattle.rules.specs.Blocks.{classAt, sizeAt};
+ghost use Rattle.rules.specs.Outcome.{heapOf, outcome};
+ghost use Rattle.rules.specs.Numbers as N;
+ghost use Rattle.rules.specs.Numbers.{inOrder, shapeNumber, offsetNumber};
+ghost use Rattle.heap.specs.Order.{Passed, viewAt};
+
+// A refusal: the number, and offset 0.
+fn refuse(number: u32) -> Answer
+    ensures { λ r. ⌜ r ≡ record { number = number; offset = 0 } ⌝ }
+{
+    Answer { number, offset: 0 }
+}
+
+// Format: all books and map are written, and no memory.
+pub fn format(
+    memory: &[u8],
+    books: &mut [u32],
+    map: &mut [u64],
+    arenas: usize,
+    pools: usize,
+) -> Answer
+    ensures { λ r. ⌜ outcome r (heapOf (now (memory .exit)) (now (books .exit)) (now (map .exit)))
+        ≡ N.format (heapOf (now (memory .entry)) (now (books .entry)) (now (map .entry))) arenas pools ⌝ }
+{
+    let number = fit_number(memory, books, map, arenas, pools);
+    if number != 0 {
+        return refuse(number);
+    }
+    fresh_books(books, arenas, pools);
+    wipe(map);
+    Answer {
+        number: 0,
+        offset: 0,
+    }
+}
+
+// The number of the tests of a call on an offset: 1, 2 or 5, and 0 where the offset is live.
+fn offset_test(memory: &[u8], books: &[u32], map: &[u64], offset: usize) -> u32
+    ensures { λ r. ⌜ (r ≡ inOrder (shapeNumber (heapOf (now (memory .entry)) (now (books .entry)) (now (map .entry)))) 0
+        (offsetNumber 8 (heapOf (now (memory .entry)) (now (books .entry)) (now (map .entry))) offset) 0)
+        × (r ≡ 0 → Passed (now (memory .entry)) (now (books .entry)) (now (map .entry)) offset) ⌝ }
+{
+    let number = shape_number(memory, books, map);
+    if number != 0 {
+        return number;
+    }
+    live_number(books, map, word(books, 0), word(books, 1), offset)
+}
+
+// Give back.
+pub fn give_back(memory: &mut [u8], books: &mut [u32], map: &mut [u64], offset: usize) -> Answer
+    ensures { λ r. ⌜ outcome r (heapOf (now (memory .exit)) (now (books .exit)) (now (map .exit)))
+        ≡ N.giveBack 8 (heapOf (now (memory .entry)) (now (books .entry)) (now (map .entry))) offset ⌝ }
+{
+    let number = offset_test(memory, books, map, offset);
+    if number != 0 {
+        return refuse(number);
+    }
+    let arenas = word(books, 0);
+    let pools = word(books, 1);
+    back_step(memory, books, map, arenas, pools, offset)
+}
+
+// The block size at a live offset.
+fn block_size(books: &[u32], offset: usize) -> usize
+    requires { ⌜ (0 < length (now books)) × (poolWord (at (now books) 0) 8 (offset / 4096) ≤ length (now books)) × (classAt (at (now books) 0) (now books) offset ≤ 63) ⌝ }
+    ensures { λ r. ⌜ (r ≡ sizeAt 8 (at (now (books .entry)) 0) (now (books .entry)) offset) × (r ≤ 512) ⌝ }
+{
+    size_of(class_at(books, word(books, 0), offset))
+}
+
+// View: the block's own part of memory, from its offset on for its size, or the empty part at memory's start.
+pub fn view<'a, 'b, 'c>(
+    memory: &'a [u8],
+    books: &'b [u32],
+    map: &'c [u64],
+    offset: usize,
+) -> &'a [u8]
+    ensures what { λ r. ⌜ now r ≡ N.view 8 (heapOf (now (memory .entry)) (now (books .entry)) (now (map .entry))) offset ⌝ }
+    ensures wherever { λ r. ⌜ (ptr r .0 ≡ ptr (memory .entry) .0) × (ptr r .1
+        ≡ viewAt (heapOf (now (memory .entry)) (now (books .entry)) (now (map .entry))) offset + ptr (memory .entry) .1) ⌝ }
+{
+    let number = offset_test(memory, books, map, offset);
+    if number != 0 {
+        return &memory[0..0];
+    }
+    let end = offset + block_size(books, offset);
+    &memory[offset..end]
+}
+
+// View's companion: the number and, when done, the block size.
+pub fn view_size(memory: &[u8], books: &[u32], map: &[u64], offset: usize) -> Sized
+    ensures { λ r. ⌜ r ≡ N.viewSize 8 (heapOf (now (memory .entry)) (now (books .entry)) (now (map .entry))) offset ⌝ }
+{
+    let number = offset_test(memory, books, map, offset);
+    if number != 0 {
+        return Sized { number, size: 0 };
+    }
+    Sized {
+        number: 0,
+        size: block_size(books, offset) as u32,
+    }
+}
+
+// Write: the text is copied to the start of the block.
+pub fn write(memory: &mut [u8], books: &[u32], map: &[u64], offset: usize, text: &[u8]) -> Answer
+    ensures { λ r. ⌜ outcome r (heapOf (now (memory .exit)) (now (books .exit)) (now (map .exit)))
+        ≡ N.write 8 (heapOf (now (memory .entry)) (now (books .entry)) (now (map .entry))) offset (now (text .entry)) ⌝ }
+{
+    let number = offset_test(memory, books, map, offset);
+    if number != 0 {
+        return refuse(number);
+    }
+    if block_size(books, offset) < text.len() {
+        return refuse(7);
+    }
+    copy_in(memory, offset, text);
+    Answer {
+        number: 0,
+        offset: offset as u32,
+    }
+}
+
+// Roll call: nothing is written before the room is known to be enough.
+pub fn roll_call(memory: &[u8], books: &[u32], map: &[u64], roll: &mut [u32]) -> Rolled
+    ensures { λ r. ⌜ record { answer = r; words = now (roll .exit) }
+        ≡ N.rollCall 8 (heapOf (now (memory .entry)) (now (books .entry)) (now (map .entry))) (now (roll .entry)) ⌝ }
+{
+    let number = shape_number(memory, books, map);
+    if number != 0 {
+        return Rolled { number, count: 0 };
+    }
+    let arenas = word(books, 0);
+    let all = arenas * word(books, 1);
+    let words = count_words(books, map, arenas, all);
+    if roll.len() < words {
+        return Rolled {
+            number: 7,
+            count: 0,
+        };
+    }
+    put_roll(books, map, arenas, all, roll);
+    Rolled {
+        number: 0,
+        count: (words / 2) as u32,
+    }
+}
