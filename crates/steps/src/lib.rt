@@ -1,5 +1,6 @@
 // The steps of ask and give back: each is planned from the heap before it, and then written.
 pub mod ask;
 pub mod back;
+pub mod moves;
 pub mod put_back;
 pub mod words;

@@ -4,7 +4,7 @@ use mathlib.Core.List.{List}
 use Rattle.rules.specs.Numbers.{format}
 use Rattle.rules.specs.Outcome.{heapOf, done}
 use mathlib.Core.Path.{_≡_, refl, sym, ap, ap₂, subst, _∙_}
-use Rattle.heap.specs.Order.{stopped, passed, last-test, refusal, step}
+use Rattle.steps.specs.Passing.{stopped, passed, last-test, refusal, step}
 use native.Mathlib.Omega.{arith}
 use lib.ListN.{length-set}
 use borrow.Author.Needs.{needs}

@@ -3,7 +3,7 @@ use Rattle.rules.specs.GiveBack.{backStep}
 use Rattle.rules.specs.Outcome.{heapOf}
 use Prim.Native.Nat.{ℕ}
 use mathlib.Core.Path.{_≡_, ap₂, _∙_}
-use Rattle.heap.specs.Order.{refusal, step}
+use Rattle.steps.specs.Passing.{refusal, step}
 use native.Mathlib.Omega.{arith}
 use lib.ListN.{length-set}
 use borrow.Author.Needs.{needs}

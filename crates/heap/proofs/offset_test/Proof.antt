@@ -1,7 +1,7 @@
 use Prim.Native.Nat.{ℕ}
 use Rattle.rules.specs.Blocks.{liveNumber}
 use mathlib.Core.Path.{_≡_, refl, sym, ap, ap₂, subst, _∙_}
-use Rattle.heap.specs.Order.{stopped, passed, last-test, refusal, step}
+use Rattle.steps.specs.Passing.{stopped, passed, last-test, refusal, step}
 use native.Mathlib.Omega.{arith}
 use lib.ListN.{length-set}
 use borrow.Author.Needs.{needs}

@@ -7,7 +7,8 @@ use lib.Seq.{sets}
 use lib.ListN.{length}
 use mathlib.Core.List.{List}
 use Prim.Native.Nat.{ℕ, _+_, _*_, _/_}
-use Rattle.heap.specs.Order.{stopped, passed, too-little, enough}
+use Rattle.steps.specs.Passing.{stopped, passed}
+use Rattle.heap.specs.Order.{too-little, enough}
 use mathlib.Core.Path.{_≡_, refl, sym, ap, ap₂, _∙_}
 use native.Mathlib.Omega.{arith}
 use lib.ListN.{length-set}

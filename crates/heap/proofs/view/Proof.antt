@@ -3,7 +3,8 @@ use native.Mathlib.Nat.{add-sub-cancel-left}
 use lib.ListN.{take, drop}
 use mathlib.Core.List.{List, []}
 use Prim.Native.Nat.{ℕ, _+_, _*_}
-use Rattle.heap.specs.Order.{stopped, passed, last-test, refusal, step, room-after, too-little, enough}
+use Rattle.steps.specs.Passing.{stopped, passed, last-test, refusal, step}
+use Rattle.heap.specs.Order.{room-after, too-little, enough}
 use mathlib.Core.Path.{_≡_, refl, sym, ap, ap₂, _∙_}
 use native.Mathlib.Omega.{arith}
 use lib.ListN.{length-set}

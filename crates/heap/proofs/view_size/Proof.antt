@@ -1,6 +1,7 @@
 use Rattle.rules.specs.Numbers.{viewSize, sizedOf}
 use Prim.Native.Nat.{ℕ, _+_, _*_}
-use Rattle.heap.specs.Order.{stopped, passed, last-test, refusal, step, room-after, too-little, enough}
+use Rattle.steps.specs.Passing.{stopped, passed, last-test, refusal, step}
+use Rattle.heap.specs.Order.{room-after, too-little, enough}
 use mathlib.Core.Path.{_≡_, refl, sym, ap, ap₂, _∙_}
 use native.Mathlib.Omega.{arith}
 use lib.ListN.{length-set}
