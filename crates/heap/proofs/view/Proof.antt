@@ -1,63 +1,48 @@
-use Rattle.rules.specs.Numbers.{view}
+-- `heap::view` meets its contract: it hands back the part from the offset on, which a live offset has inside memory.
+-- Assumes nothing.
+use mathlib.Core.List.{[]}
+use mathlib.Core.Path.{refl, sym, ap, _∙_}
+use Prim.Native.Nat.{ℕ, _+_}
 use native.Mathlib.Nat.{add-sub-cancel-left}
-use lib.ListN.{take, drop}
-use mathlib.Core.List.{List, []}
-use Prim.Native.Nat.{ℕ, _+_, _*_}
-use Rattle.steps.specs.Passing.{stopped, passed, last-test, refusal, step}
-use Rattle.heap.specs.Order.{room-after, too-little, enough}
-use mathlib.Core.Path.{_≡_, refl, sym, ap, ap₂, _∙_}
 use native.Mathlib.Omega.{arith}
-use lib.ListN.{length-set}
+use lib.ListN.{take, drop}
 use borrow.Author.Needs.{needs}
+use Rattle.rules.specs.Numbers.{view}
+use Rattle.steps.specs.Passing.{stopped, passed}
 use Rattle.heap.proofs.view.Statement.{statement}
 use Rattle.heap.proofs.view.Tie as tie
-use Rattle.heap.proofs.view.Reads as reads
-use Rattle.heap.proofs.view.Lts as lts
-use Rattle.heap.proofs.block_size.Reads as block-size-reads
-use Rattle.heap.proofs.offset_test.Reads as offset-test-reads
 
--- src/lib.rt:82:9
 offset-test-requires : tie.Need-offset-test-requires
 offset-test-requires c κs = search needs
 
--- src/lib.rt:84:16
 sub-result : tie.Need-sub-result
 sub-result c = search needs
 
--- src/lib.rt:84:16
 part-result-start : tie.Need-part-result-start
 part-result-start c = search needs
 
--- src/lib.rt:84:16
 part-result-end : tie.Need-part-result-end
 part-result-end c = search needs
 
--- src/lib.rt:84:9
 returns : tie.Need-returns
 unfolding view
 returns c = (sym (stopped (λ k. []) _ _ (λ z. c .before .if1 .taken (c .before .before .offset-test .ensures .0 ∙ z))), (refl, ap (λ (x : ℕ). x + c .before .before .before .before .before .before .args .memory .ptr .1) (sym (stopped (λ k. 0) _ _ (λ z. c .before .if1 .taken (c .before .before .offset-test .ensures .0 ∙ z))))))
 
--- src/lib.rt:86:24
 block-size-requires : tie.Need-block-size-requires
 block-size-requires c κs = let t = c .before .offset-test .ensures .1 (c .if1 .left) in (omega (arith, t .shaped .books), omega (arith, t .shaped .books, t .live .pool), t .live .class)
 
--- src/lib.rt:86:15
 add-end : tie.Need-add-end
 add-end c = let t = c .before .before .offset-test .ensures .1 (c .before .if1 .left) in omega (arith, t .shaped .memory, t .shaped .all, t .live .inside, c .block-size .ensures .1)
 
--- src/lib.rt:87:5
 sub-result-2 : tie.Need-sub-result-2
 sub-result-2 c = search needs
 
--- src/lib.rt:87:5
 part-result-start-2 : tie.Need-part-result-start-2
 part-result-start-2 c = search needs
 
--- src/lib.rt:87:5
 part-result-end-2 : tie.Need-part-result-end-2
 part-result-end-2 c = let t = c .before .before .offset-test .ensures .1 (c .before .if1 .left) in omega (arith, t .shaped .memory, t .live .ends, c .block-size .ensures .0)
 
--- src/lib.rt:77:1
 returns-2 : tie.Need-returns-2
 unfolding view
 returns-2 c = (

@@ -1,17 +1,14 @@
-use native.Mathlib.Nat.{mul-le-mul-right}
+-- `steps::ask::first_pool` meets its contract: it stays below the number of all pools: the arena is one of A.
+-- Assumes nothing.
 use mathlib.Core.Path.{refl}
+use native.Mathlib.Nat.{mul-le-mul-right}
 use native.Mathlib.Omega.{arith}
-use lib.ListN.{length-set}
 use Rattle.steps.proofs.ask.first_pool.Statement.{statement}
 use Rattle.steps.proofs.ask.first_pool.Tie as tie
-use Rattle.steps.proofs.ask.first_pool.Reads as reads
-use Rattle.steps.proofs.ask.first_pool.Lts as lts
 
--- src/ask.rt:211:5
 mul-result : tie.Need-mul-result
 mul-result c = omega (arith, mul-le-mul-right (c .args .pools) (c .pre .1))
 
--- src/ask.rt:207:1
 returns : tie.Need-returns
 returns c = (refl, omega (arith, mul-le-mul-right (c .args .pools) (c .pre .1)))
 

@@ -1,17 +1,12 @@
-use native.Mathlib.Omega.{arith}
-use lib.ListN.{length-set}
+-- `steps::ask::follows` meets its contract: it puts the two tests together, as the rule does.
+-- Assumes nothing.
 use borrow.Author.Needs.{needs}
 use Rattle.steps.proofs.ask.follows.Statement.{statement}
 use Rattle.steps.proofs.ask.follows.Tie as tie
-use Rattle.steps.proofs.ask.follows.Reads as reads
-use Rattle.steps.proofs.ask.follows.Lts as lts
-use Rattle.steps.proofs.ask.spare.Reads as spare-reads
 
--- src/ask.rt:47:16
 spare-requires : tie.Need-spare-requires
 spare-requires c κs = search needs
 
--- src/ask.rt:43:1
 returns : tie.Need-returns
 returns c = cc
 

@@ -1,21 +1,17 @@
-use native.Mathlib.Nat.{mul-le-mul-right}
+-- `steps::ask::pool_at` meets its contract: it stays below the number of all pools: the arena is one of A, and the mark below P.
+-- Assumes nothing.
 use mathlib.Core.Path.{refl}
+use native.Mathlib.Nat.{mul-le-mul-right}
 use native.Mathlib.Omega.{arith}
-use lib.ListN.{length-set}
 use Rattle.steps.proofs.ask.pool_at.Statement.{statement}
 use Rattle.steps.proofs.ask.pool_at.Tie as tie
-use Rattle.steps.proofs.ask.pool_at.Reads as reads
-use Rattle.steps.proofs.ask.pool_at.Lts as lts
 
--- src/ask.rt:156:5
 mul-result : tie.Need-mul-result
 mul-result c = omega (arith, mul-le-mul-right (c .args .pools) (c .pre .1))
 
--- src/ask.rt:156:5
 add-result : tie.Need-add-result
 add-result c = omega (arith, mul-le-mul-right (c .args .pools) (c .pre .1))
 
--- src/ask.rt:152:1
 returns : tie.Need-returns
 returns c = (refl, omega (arith, mul-le-mul-right (c .args .pools) (c .pre .1)))
 

@@ -1,17 +1,12 @@
-use native.Mathlib.Omega.{arith}
-use lib.ListN.{length-set}
+-- `steps::back::freeblock_fits` meets its contract: it puts the two tests together, as the rule does.
+-- Assumes nothing.
 use borrow.Author.Needs.{needs}
 use Rattle.steps.proofs.back.freeblock_fits.Statement.{statement}
 use Rattle.steps.proofs.back.freeblock_fits.Tie as tie
-use Rattle.steps.proofs.back.freeblock_fits.Reads as reads
-use Rattle.steps.proofs.back.freeblock_fits.Lts as lts
-use Rattle.books.proofs.blocks.is_start.Reads as is-start-reads
 
--- src/back.rt:89:19
 is-start-requires : tie.Need-is-start-requires
 is-start-requires c κs = search needs
 
--- src/back.rt:85:1
 returns : tie.Need-returns
 returns c = cc
 

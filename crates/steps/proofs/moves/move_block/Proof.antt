@@ -1,64 +1,48 @@
-use Rattle.rules.specs.Resize.{giveOld, halfDone}
-use Rattle.rules.specs.Outcome.{heapOf, outcome, answerOf, done}
-use Rattle.steps.specs.Passing.{stopped, passed}
-use Prim.Native.Nat.{ℕ}
+-- `steps::moves::move_block` meets its contract: it copies, gives back, and answers by the number of the give-back.
+-- Assumes nothing.
 use mathlib.Core.List.{List}
-use mathlib.Core.Path.{_≡_, refl, sym, ap, _∙_}
-use native.Mathlib.Omega.{arith}
-use lib.ListN.{length-set}
+use mathlib.Core.Path.{sym, ap, _∙_}
+use Prim.Native.Nat.{ℕ}
 use borrow.Author.Needs.{needs}
+use Rattle.rules.specs.Outcome.{heapOf, outcome, answerOf, done}
+use Rattle.rules.specs.Resize.{giveOld, halfDone}
+use Rattle.steps.specs.Passing.{stopped, passed}
 use Rattle.steps.proofs.moves.move_block.Statement.{statement}
 use Rattle.steps.proofs.moves.move_block.Tie as tie
-use Rattle.steps.proofs.moves.move_block.Reads as reads
-use Rattle.steps.proofs.moves.move_block.Lts as lts
-use Rattle.loops.proofs.copy_within.Reads as copy-within-reads
-use Rattle.steps.proofs.moves.give_old.Reads as give-old-reads
 
--- src/moves.rt:35:5
 copy-within-requires : tie.Need-copy-within-requires
 copy-within-requires c κs = search needs
 
--- src/moves.rt:36:9
 give-old-requires : tie.Need-give-old-requires
 give-old-requires c κs = search needs
 
--- src/moves.rt:38:44
 cast-t20 : tie.Need-cast-t20
 cast-t20 c = search needs
 
--- src/moves.rt:38:9
 same-length : tie.Need-same-length
 same-length c = search needs
 
--- src/moves.rt:38:9
 same-length-2 : tie.Need-same-length-2
 same-length-2 c = search needs
 
--- src/moves.rt:38:9
 same-length-3 : tie.Need-same-length-3
 same-length-3 c = search needs
 
--- src/moves.rt:38:9
 returns : tie.Need-returns
 returns c = let e = c .before .before .before .before .before .before .before .before .give-old .ensures ∙ ap (λ (m : List ℕ). giveOld 8 (c .before .before .before .before .before .before .before .before .before .before .before .before .before .before .before .before .before .before .before .args .arenas) (c .before .before .before .before .before .before .before .before .before .before .before .before .before .before .before .before .before .before .before .args .pools) (heapOf m (c .before .before .before .before .before .before .before .before .before .before .before .before .before .before .before .before .before .before .before .args .books .now) (c .before .before .before .before .before .before .before .before .before .before .before .before .before .before .before .before .before .before .before .args .map .now)) (c .before .before .before .before .before .before .before .before .before .before .before .before .before .before .before .before .before .before .before .args .from)) (c .before .before .before .before .before .before .before .before .before .before .before .before .before .before .copy-within .ensures) in sym (stopped (λ j. outcome (answerOf 6 (c .before .before .before .before .before .before .before .before .before .before .before .before .before .before .before .before .before .before .before .args .to)) (heapOf (c .before .before .before .before .before .before .before .before .give-old .last .0) (c .before .before .before .before .before .before .before .before .give-old .last .1 .0) (c .before .before .before .before .before .before .before .before .give-old .last .1 .1 .0))) (done (c .before .before .before .before .before .before .before .before .before .before .before .before .before .before .before .before .before .before .before .args .to) (heapOf (c .before .before .before .before .before .before .before .before .give-old .last .0) (c .before .before .before .before .before .before .before .before .give-old .last .1 .0) (c .before .before .before .before .before .before .before .before .give-old .last .1 .1 .0))) (c .before .before .before .before .before .before .before .before .give-old .result .number) (c .if1 .taken)) ∙ ap (halfDone 8 (c .before .before .before .before .before .before .before .before .before .before .before .before .before .before .before .before .before .before .before .args .arenas) (c .before .before .before .before .before .before .before .before .before .before .before .before .before .before .before .before .before .before .before .args .pools) (c .before .before .before .before .before .before .before .before .before .before .before .before .before .before .before .before .before .before .before .args .to)) e
 
--- src/moves.rt:40:33
 cast-t21 : tie.Need-cast-t21
 cast-t21 c = search needs
 
--- src/moves.rt:28:1
 same-length-4 : tie.Need-same-length-4
 same-length-4 c = search needs
 
--- src/moves.rt:28:1
 same-length-5 : tie.Need-same-length-5
 same-length-5 c = search needs
 
--- src/moves.rt:28:1
 same-length-6 : tie.Need-same-length-6
 same-length-6 c = search needs
 
--- src/moves.rt:28:1
 returns-2 : tie.Need-returns-2
 returns-2 c = let e = c .before .before .before .before .before .before .before .before .give-old .ensures ∙ ap (λ (m : List ℕ). giveOld 8 (c .before .before .before .before .before .before .before .before .before .before .before .before .before .before .before .before .before .before .before .args .arenas) (c .before .before .before .before .before .before .before .before .before .before .before .before .before .before .before .before .before .before .before .args .pools) (heapOf m (c .before .before .before .before .before .before .before .before .before .before .before .before .before .before .before .before .before .before .before .args .books .now) (c .before .before .before .before .before .before .before .before .before .before .before .before .before .before .before .before .before .before .before .args .map .now)) (c .before .before .before .before .before .before .before .before .before .before .before .before .before .before .before .before .before .before .before .args .from)) (c .before .before .before .before .before .before .before .before .before .before .before .before .before .before .copy-within .ensures) in sym (passed (λ j. outcome (answerOf 6 (c .before .before .before .before .before .before .before .before .before .before .before .before .before .before .before .before .before .before .before .args .to)) (heapOf (c .before .before .before .before .before .before .before .before .give-old .last .0) (c .before .before .before .before .before .before .before .before .give-old .last .1 .0) (c .before .before .before .before .before .before .before .before .give-old .last .1 .1 .0))) (done (c .before .before .before .before .before .before .before .before .before .before .before .before .before .before .before .before .before .before .before .args .to) (heapOf (c .before .before .before .before .before .before .before .before .give-old .last .0) (c .before .before .before .before .before .before .before .before .give-old .last .1 .0) (c .before .before .before .before .before .before .before .before .give-old .last .1 .1 .0))) (c .before .before .before .before .before .before .before .before .give-old .result .number) (c .if1 .left)) ∙ ap (halfDone 8 (c .before .before .before .before .before .before .before .before .before .before .before .before .before .before .before .before .before .before .before .args .arenas) (c .before .before .before .before .before .before .before .before .before .before .before .before .before .before .before .before .before .before .before .args .pools) (c .before .before .before .before .before .before .before .before .before .before .before .before .before .before .before .before .before .before .before .args .to)) e
 

@@ -1,34 +1,25 @@
-use Rattle.steps.specs.FitsBack.{FitsBack, fits-back}
+-- `steps::put_back::back_step` meets its contract: it plans and then writes; a live offset has a class, a start and a pool, and the planned path fits.
+-- Assumes nothing.
+use mathlib.Core.Path.{sym, ap, subst, _∙_}
+use Prim.Native.Nat.{ℕ, _/_}
+use native.Mathlib.Omega.{arith}
+use borrow.Author.Needs.{needs}
 use Rattle.rules.specs.GiveBack.{planBack, givenBack, backStep}
 use Rattle.rules.specs.Outcome.{heapOf}
 use Rattle.rules.specs.declared.BackPlan.{BackPlan}
-use Prim.Native.Nat.{ℕ, _/_}
-use mathlib.Core.Path.{_≡_, sym, ap, subst, _∙_}
-use native.Mathlib.Omega.{arith}
-use lib.ListN.{length-set}
-use borrow.Author.Needs.{needs}
+use Rattle.steps.specs.FitsBack.{FitsBack, fits-back}
 use Rattle.steps.proofs.put_back.back_step.Statement.{statement}
 use Rattle.steps.proofs.put_back.back_step.Tie as tie
-use Rattle.steps.proofs.put_back.back_step.Reads as reads
-use Rattle.steps.proofs.put_back.back_step.Lts as lts
-use Rattle.books.proofs.blocks.class_at.Reads as class-at-reads
-use Rattle.books.proofs.blocks.size_of.Reads as size-of-reads
-use Rattle.steps.proofs.back.plan_back.Reads as plan-back-reads
-use Rattle.steps.proofs.put_back.write_back.Reads as write-back-reads
 
--- src/put_back.rt:179:9
 class-at-requires : tie.Need-class-at-requires
 class-at-requires c κs = search needs
 
--- src/put_back.rt:180:9
 size-of-requires : tie.Need-size-of-requires
 size-of-requires c κs = search needs
 
--- src/put_back.rt:181:9
 plan-back-requires : tie.Need-plan-back-requires
 plan-back-requires c κs = search needs
 
--- src/put_back.rt:182:5
 write-back-requires : tie.Need-write-back-requires
 write-back-requires c κs = let a = c .before .before .before .before .before .before .before .before .before .before .before .args in (
   c .before .before .before .before .before .before .before .before .before .before .before .pre .0,
@@ -39,19 +30,15 @@ write-back-requires c κs = let a = c .before .before .before .before .before .b
       (fits-back 8 (a .arenas) (a .pools) (a .books .now) (c .before .before .before .before .before .before .class-at .result) (a .offset / 4096)),
 )
 
--- src/put_back.rt:174:1
 same-length : tie.Need-same-length
 same-length c = search needs
 
--- src/put_back.rt:174:1
 same-length-2 : tie.Need-same-length-2
 same-length-2 c = search needs
 
--- src/put_back.rt:174:1
 same-length-3 : tie.Need-same-length-3
 same-length-3 c = search needs
 
--- src/put_back.rt:174:1
 returns : tie.Need-returns
 unfolding backStep
 returns c = let a = c .before .before .before .before .before .before .before .before .before .before .before .before .before .before .before .before .before .before .args in let h = heapOf (a .memory .now) (a .books .now) (a .map .now) in

@@ -1,52 +1,39 @@
+-- `steps::put_back::empty_pool` meets its contract: it leaves the class list and then joins the freed pools; leaving keeps the arena's words.
+-- Assumes nothing.
+use mathlib.Core.Path.{_≡_, ap, _∙_}
+use Prim.Native.Nat.{ℕ, _+_}
+use native.Mathlib.Omega.{arith}
+use lib.ListN.{length}
+use borrow.Author.Needs.{needs}
 use Rattle.rules.specs.Books.{arena, freePools}
 use Rattle.rules.specs.Lists as L
-use Prim.Native.Nat.{ℕ, _+_, _*_}
-use lib.ListN.{length}
-use mathlib.Core.Path.{_≡_, sym, ap, _∙_}
-use Rattle.steps.specs.Backs.{freed-reads, left-keeps, freedFirst}
-use native.Mathlib.Omega.{arith}
-use lib.ListN.{length-set}
-use borrow.Author.Needs.{needs}
+use Rattle.steps.specs.Backs.{left-keeps, freedFirst}
 use Rattle.steps.proofs.put_back.empty_pool.Statement.{statement}
 use Rattle.steps.proofs.put_back.empty_pool.Tie as tie
-use Rattle.steps.proofs.put_back.empty_pool.Reads as reads
-use Rattle.steps.proofs.put_back.empty_pool.Lts as lts
-use Rattle.books.proofs.lists.pool_links.Reads as pool-links-reads
-use Rattle.steps.proofs.back.arena_of.Reads as arena-of-reads
-use Rattle.steps.proofs.put_back.free_pool.Reads as free-pool-reads
-use Rattle.steps.proofs.put_back.leave.Reads as leave-reads
 
--- src/put_back.rt:77:9
 arena-of-requires : tie.Need-arena-of-requires
 arena-of-requires c κs = search needs
 
--- src/put_back.rt:78:18
 mul-leave : tie.Need-mul-leave
 mul-leave c = search needs
 
--- src/put_back.rt:78:34
 pool-links-requires : tie.Need-pool-links-requires
 pool-links-requires c κs = search needs
 
--- src/put_back.rt:78:54
 add-leave : tie.Need-add-leave
 add-leave c = search needs
 
--- src/put_back.rt:78:5
 leave-requires : tie.Need-leave-requires
 leave-requires c κs = (omega arith, omega arith, omega arith, rw (c .pool-links .ensures) (c .before .before .before .before .pre .4 .links))
 
--- src/put_back.rt:79:5
 free-pool-requires : tie.Need-free-pool-requires
 free-pool-requires c κs = let e : c .before .before .before .leave .last .0 ≡ L.leave (L.poolLinks (c .before .before .before .before .before .before .before .before .args .arenas)) (4 + c .before .before .before .before .before .before .before .before .args .class) (c .before .before .before .before .before .before .before .before .args .p) (c .before .before .before .before .before .before .before .before .args .books .now) = c .before .before .before .leave .ensures ∙ ap (λ (x : ℕ). L.leave x (4 + c .before .before .before .before .before .before .before .before .args .class) (c .before .before .before .before .before .before .before .before .args .p) (c .before .before .before .before .before .before .before .before .args .books .now)) (c .before .before .before .before .pool-links .ensures) in
     let k = left-keeps (c .before .before .before .before .before .before .before .before .args .arenas) (c .before .before .before .before .before .before .before .before .args .class) (c .before .before .before .before .before .before .before .before .args .p) (c .before .before .before .before .before .before .arena-of .result) (c .before .before .before .before .before .before .before .before .args .books .now) (omega arith) (omega arith) in
     (omega arith, omega arith, omega arith, omega (arith, ap length e), rw e (omega (arith, k .1, c .before .before .before .before .before .before .before .before .pre .4 .free, ap (λ (x : ℕ). arena (c .before .before .before .before .before .before .before .before .args .books .now) freePools x) (c .before .before .before .before .before .before .arena-of .ensures .0))))
 
--- src/put_back.rt:73:1
 same-length : tie.Need-same-length
 same-length c = search needs
 
--- src/put_back.rt:73:1
 returns : tie.Need-returns
 returns c = let e : c .before .before .before .before .before .before .leave .last .0 ≡ L.leave (L.poolLinks (c .before .before .before .before .before .before .before .before .before .before .before .args .arenas)) (4 + c .before .before .before .before .before .before .before .before .before .before .before .args .class) (c .before .before .before .before .before .before .before .before .before .before .before .args .p) (c .before .before .before .before .before .before .before .before .before .before .before .args .books .now) = c .before .before .before .before .before .before .leave .ensures ∙ ap (λ (x : ℕ). L.leave x (4 + c .before .before .before .before .before .before .before .before .before .before .before .args .class) (c .before .before .before .before .before .before .before .before .before .before .before .args .p) (c .before .before .before .before .before .before .before .before .before .before .before .args .books .now)) (c .before .before .before .before .before .before .before .pool-links .ensures) in
     c .before .before .free-pool .ensures ∙ ap (freedFirst (c .before .before .before .before .before .before .before .before .before .before .before .args .arenas) (c .before .before .before .before .before .before .before .before .before .arena-of .result) (c .before .before .before .before .before .before .before .before .before .before .before .args .p)) e

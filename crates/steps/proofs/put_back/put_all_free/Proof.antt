@@ -1,32 +1,24 @@
-use Rattle.steps.specs.Backs.{last-books, last-length, last-head, last-links, released}
+-- `steps::put_back::put_all_free` meets its contract: it empties the pool and then releases the arena, whose links and unused head that leaves alone.
+-- Assumes nothing.
+use mathlib.Core.List.{List}
+use mathlib.Core.Path.{ap, _∙_}
+use Prim.Native.Nat.{ℕ, _/_, _<_}
+use native.Mathlib.Omega.{arith}
+use lib.ListN.{length}
+use borrow.Author.Needs.{needs}
+use Rattle.rules.specs.Books.{onBooks, unusedHead}
 use Rattle.rules.specs.GiveBack.{afterBack}
 use Rattle.rules.specs.Outcome.{heapOf}
-use Rattle.rules.specs.Books.{Heap, onBooks, classHead, usableHead, unusedHead}
-use Rattle.rules.specs.Lists as L
-use Prim.Native.Nat.{ℕ, _+_, _*_, _/_, _<_}
-use lib.ListN.{length}
-use mathlib.Core.List.{List}
-use mathlib.Core.Path.{_≡_, ap, _∙_}
-use native.Mathlib.Omega.{arith}
-use lib.ListN.{length-set}
-use borrow.Author.Needs.{needs}
+use Rattle.steps.specs.Backs.{last-books, last-length, last-head, last-links, released}
 use Rattle.steps.proofs.put_back.put_all_free.Statement.{statement}
 use Rattle.steps.proofs.put_back.put_all_free.Tie as tie
-use Rattle.steps.proofs.put_back.put_all_free.Reads as reads
-use Rattle.steps.proofs.put_back.put_all_free.Lts as lts
-use Rattle.steps.proofs.back.arena_of.Reads as arena-of-reads
-use Rattle.steps.proofs.put_back.put_last.Reads as put-last-reads
-use Rattle.steps.proofs.put_back.release.Reads as release-reads
 
--- src/put_back.rt:133:5
 put-last-requires : tie.Need-put-last-requires
 put-last-requires c κs = search needs
 
--- src/put_back.rt:134:9
 arena-of-requires : tie.Need-arena-of-requires
 arena-of-requires c κs = search needs
 
--- src/put_back.rt:135:5
 release-requires : tie.Need-release-requires
 release-requires c κs = let a = c .before .before .before .before .before .before .before .before .before .before .before .before .before .before .before .args in let e = last-books (a .arenas) (a .pools) (a .class) (a .p) (a .f) (a .memory .now) (a .books .now) (a .map .now) _ _ _ (c .before .before .before .before .before .before .before .before .put-last .ensures) in
     let n = last-length (a .arenas) (a .pools) (a .class) (a .p) (a .f) (a .books .now) in
@@ -38,19 +30,15 @@ release-requires c κs = let a = c .before .before .before .before .before .befo
       rw (e, last-head (a .arenas) (a .pools) (a .class) (a .p) (a .f) (a .books .now) unusedHead (omega arith)) (c .before .before .before .before .before .before .before .before .before .before .before .before .before .before .before .pre .4 .3),
     )
 
--- src/put_back.rt:127:1
 same-length : tie.Need-same-length
 same-length c = search needs
 
--- src/put_back.rt:127:1
 same-length-2 : tie.Need-same-length-2
 same-length-2 c = search needs
 
--- src/put_back.rt:127:1
 same-length-3 : tie.Need-same-length-3
 same-length-3 c = search needs
 
--- src/put_back.rt:127:1
 returns : tie.Need-returns
 unfolding afterBack
 returns c = let a = c .before .before .before .before .before .before .before .before .before .before .before .before .before .before .before .before .before .before .args in

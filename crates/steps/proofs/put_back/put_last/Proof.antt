@@ -1,28 +1,22 @@
+-- `steps::put_back::put_last` meets its contract: it takes the block back and then empties the pool, whose links and arena the first leaves alone.
+-- Assumes nothing.
+use mathlib.Core.List.{List}
+use mathlib.Core.Path.{ap, _∙_}
+use Prim.Native.Nat.{ℕ, _/_, _<_}
 use native.Mathlib.Nat.{div-lt-iff-lt-mul}
-use Rattle.steps.specs.Backs.{length-taken, taken-fits, emptied}
+use native.Mathlib.Omega.{arith}
+use lib.ListN.{length}
+use borrow.Author.Needs.{needs}
+use Rattle.rules.specs.Books.{Heap, onBooks}
 use Rattle.rules.specs.GiveBack.{afterBack}
 use Rattle.rules.specs.Outcome.{heapOf}
-use Rattle.rules.specs.Books.{Heap, onBooks, classHead, usableHead, unusedHead}
-use Rattle.rules.specs.Lists as L
-use Prim.Native.Nat.{ℕ, _+_, _*_, _/_, _<_}
-use lib.ListN.{length}
-use mathlib.Core.List.{List}
-use mathlib.Core.Path.{_≡_, ap, _∙_}
-use native.Mathlib.Omega.{arith}
-use lib.ListN.{length-set}
-use borrow.Author.Needs.{needs}
+use Rattle.steps.specs.Backs.{length-taken, taken-fits, emptied}
 use Rattle.steps.proofs.put_back.put_last.Statement.{statement}
 use Rattle.steps.proofs.put_back.put_last.Tie as tie
-use Rattle.steps.proofs.put_back.put_last.Reads as reads
-use Rattle.steps.proofs.put_back.put_last.Lts as lts
-use Rattle.steps.proofs.put_back.empty_pool.Reads as empty-pool-reads
-use Rattle.steps.proofs.put_back.take_back.Reads as take-back-reads
 
--- src/put_back.rt:110:5
 take-back-requires : tie.Need-take-back-requires
 take-back-requires c κs = search needs
 
--- src/put_back.rt:111:5
 empty-pool-requires : tie.Need-empty-pool-requires
 empty-pool-requires c κs = let a = c .before .before .before .before .before .before .before .before .before .before .before .before .before .before .args in let e = ap (λ (h : Heap). h .books) (c .before .before .before .before .before .before .before .take-back .ensures) in
     let there : a .p / a .pools < a .arenas = div-lt-iff-lt-mul {k = a .pools} {x = a .p} {y = a .arenas} (omega arith) .1 (c .before .before .before .before .before .before .before .before .before .before .before .before .before .before .pre .2) in (
@@ -33,19 +27,15 @@ empty-pool-requires c κs = let a = c .before .before .before .before .before .b
       rw e (taken-fits (a .arenas) (a .pools) (a .class) (a .p) (a .f) (a .books .now) there (c .before .before .before .before .before .before .before .before .before .before .before .before .before .before .pre .4 .1)),
     )
 
--- src/put_back.rt:104:1
 same-length : tie.Need-same-length
 same-length c = search needs
 
--- src/put_back.rt:104:1
 same-length-2 : tie.Need-same-length-2
 same-length-2 c = search needs
 
--- src/put_back.rt:104:1
 same-length-3 : tie.Need-same-length-3
 same-length-3 c = search needs
 
--- src/put_back.rt:104:1
 returns : tie.Need-returns
 unfolding afterBack
 returns c = let a = c .before .before .before .before .before .before .before .before .before .before .before .before .before .before .before .before .before .args in

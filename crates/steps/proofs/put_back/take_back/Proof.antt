@@ -1,74 +1,54 @@
+-- `steps::put_back::take_back` meets its contract: it stores the changed record, which writes freeblock and count and nothing else.
+-- Assumes nothing.
+use mathlib.Core.Path.{ap, _∙_}
+use Prim.Native.Nat.{ℕ, _+_, _*_}
+use native.Mathlib.Omega.{arith}
+use borrow.Author.Needs.{needs}
 use Rattle.rules.specs.Blocks.{blockNo, putLink}
 use Rattle.rules.specs.Books.{putMapBit}
-use Prim.Native.Nat.{ℕ, _+_, _*_}
 use Rattle.books.specs.Records.{putPool, given, give-stored}
-use Rattle.steps.specs.Heaps.{heap-is}
-use Rattle.books.specs.declared.pool.Pool.{Pool}
-use mathlib.Core.Path.{sym, ap, _∙_}
 use Rattle.books.specs.Starts.{start}
-use native.Mathlib.Omega.{arith}
-use lib.ListN.{length-set}
-use borrow.Author.Needs.{needs}
+use Rattle.books.specs.declared.pool.Pool.{Pool}
+use Rattle.steps.specs.Heaps.{heap-is}
 use Rattle.steps.proofs.put_back.take_back.Statement.{statement}
 use Rattle.steps.proofs.put_back.take_back.Tie as tie
-use Rattle.steps.proofs.put_back.take_back.Reads as reads
-use Rattle.steps.proofs.put_back.take_back.Lts as lts
-use Rattle.bits.proofs.clear_bit.Reads as clear-bit-reads
-use Rattle.books.proofs.blocks.block_no.Reads as block-no-reads
-use Rattle.books.proofs.links.put_link.Reads as put-link-reads
-use Rattle.books.proofs.pool.Pool.give.Reads as give-reads
-use Rattle.books.proofs.pool.load_pool.Reads as load-pool-reads
-use Rattle.books.proofs.pool.store_pool.Reads as store-pool-reads
 
--- src/put_back.rt:33:9
 load-pool-requires : tie.Need-load-pool-requires
 load-pool-requires c κs = search needs
 
--- src/put_back.rt:34:41
 cast-give : tie.Need-cast-give
 cast-give c = let s = start (c .before .before .before .before .before .before .args .size) (c .before .before .before .before .before .before .args .f) (omega arith) (c .before .before .before .before .before .before .pre .3) in omega (arith, s .ends)
 
--- src/put_back.rt:34:34
 give-requires : tie.Need-give-requires
 give-requires c κs = let e = ap (λ (q : Pool). q .count) (c .before .load-pool .ensures) in omega arith
 
--- src/put_back.rt:34:5
 store-pool-requires : tie.Need-store-pool-requires
 store-pool-requires c κs = search needs
 
--- src/put_back.rt:35:22
 mul-put-link : tie.Need-mul-put-link
 mul-put-link c = search needs
 
--- src/put_back.rt:35:22
 add-put-link : tie.Need-add-put-link
 add-put-link c = let s = start (c .before .before .before .before .before .before .before .before .before .before .before .args .size) (c .before .before .before .before .before .before .before .before .before .before .before .args .f) (omega arith) (c .before .before .before .before .before .before .before .before .before .before .before .pre .3) in omega (arith, s .ends)
 
--- src/put_back.rt:35:5
 put-link-requires : tie.Need-put-link-requires
 put-link-requires c κs = let s = start (c .before .before .before .before .before .before .before .before .before .before .before .args .size) (c .before .before .before .before .before .before .before .before .before .before .before .args .f) (omega arith) (c .before .before .before .before .before .before .before .before .before .before .before .pre .3) in omega (arith, s .ends)
 
--- src/put_back.rt:36:23
 block-no-requires : tie.Need-block-no-requires
 block-no-requires c κs = search needs
 
--- src/put_back.rt:36:5
 clear-bit-requires : tie.Need-clear-bit-requires
 clear-bit-requires c κs = search needs
 
--- src/put_back.rt:27:1
 same-length : tie.Need-same-length
 same-length c = search needs
 
--- src/put_back.rt:27:1
 same-length-2 : tie.Need-same-length-2
 same-length-2 c = search needs
 
--- src/put_back.rt:27:1
 same-length-3 : tie.Need-same-length-3
 same-length-3 c = search needs
 
--- src/put_back.rt:27:1
 returns : tie.Need-returns
 returns c = let a = c .before .before .before .before .before .before .before .before .before .before .before .before .before .before .before .before .before .before .before .args in
     heap-is

@@ -1,157 +1,117 @@
-use Rattle.steps.specs.FitsBack.{FitsBack}
+-- `steps::put_back::write_back` meets its contract: it has an arm for each path, and the path's numbers are those that the arm asks for.
+-- Assumes nothing.
+use mathlib.Core.Path.{ap, subst}
+use Prim.Native.Nat.{_/_}
+use borrow.Author.Needs.{needs}
+use Rattle.rules.specs.Books.{Heap}
 use Rattle.rules.specs.GiveBack.{afterBack, backAnswer}
 use Rattle.rules.specs.Outcome.{outcome, answerOf}
-use Rattle.rules.specs.Books.{Heap}
 use Rattle.rules.specs.declared.BackPlan.{BackPlan}
-use Prim.Native.Nat.{ℕ, _/_}
-use mathlib.Core.Path.{_≡_, sym, ap, subst, _∙_}
-use native.Mathlib.Omega.{arith}
-use lib.ListN.{length-set}
-use borrow.Author.Needs.{needs}
+use Rattle.steps.specs.FitsBack.{FitsBack}
 use Rattle.steps.proofs.put_back.write_back.Statement.{statement}
 use Rattle.steps.proofs.put_back.write_back.Tie as tie
-use Rattle.steps.proofs.put_back.write_back.Reads as reads
-use Rattle.steps.proofs.put_back.write_back.Lts as lts
-use Rattle.steps.proofs.put_back.put_all_free.Reads as put-all-free-reads
-use Rattle.steps.proofs.put_back.put_first_free.Reads as put-first-free-reads
-use Rattle.steps.proofs.put_back.put_full.Reads as put-full-reads
-use Rattle.steps.proofs.put_back.put_last.Reads as put-last-reads
-use Rattle.steps.proofs.put_back.take_back.Reads as take-back-reads
 
--- src/put_back.rt:147:44
 cast-t13 : tie.Need-cast-t13
 cast-t13 c = search needs
 
--- src/put_back.rt:149:30
 enum-told : tie.Need-enum-told
 enum-told c = search needs
 
--- src/put_back.rt:151:22
 enum-told-2 : tie.Need-enum-told-2
 enum-told-2 c = search needs
 
--- src/put_back.rt:151:13
 put-full-requires : tie.Need-put-full-requires
 put-full-requires c κs = (c .before .before .before .before .before .before .before .before .pre .0, c .before .before .before .before .before .before .before .before .pre .1, c .before .before .before .before .before .before .before .before .pre .2, c .before .before .before .before .before .before .before .before .pre .3, subst (λ (x : BackPlan). FitsBack (c .before .before .before .before .before .before .before .before .args .arenas) (c .before .before .before .before .before .before .before .before .args .pools) (c .before .before .before .before .before .before .before .before .args .class) (c .before .before .before .before .before .before .before .before .args .offset / 4096) (c .before .before .before .before .before .before .before .before .args .books .now) x) (c .before .before .before .enum-told2 .given .1) (c .before .before .before .before .before .before .before .before .pre .4))
 
--- src/put_back.rt:155:23
 enum-told-3 : tie.Need-enum-told-3
 enum-told-3 c = search needs
 
--- src/put_back.rt:155:13
 take-back-requires : tie.Need-take-back-requires
 take-back-requires c κs = (c .before .before .before .before .before .before .before .before .pre .0, c .before .before .before .before .before .before .before .before .pre .1, c .before .before .before .before .before .before .before .before .pre .2, c .before .before .before .before .before .before .before .before .pre .3, subst (λ (x : BackPlan). FitsBack (c .before .before .before .before .before .before .before .before .args .arenas) (c .before .before .before .before .before .before .before .before .args .pools) (c .before .before .before .before .before .before .before .before .args .class) (c .before .before .before .before .before .before .before .before .args .offset / 4096) (c .before .before .before .before .before .before .before .before .args .books .now) x) (c .before .before .before .enum-told3 .given .1) (c .before .before .before .before .before .before .before .before .pre .4))
 
--- src/put_back.rt:159:22
 enum-told-4 : tie.Need-enum-told-4
 enum-told-4 c = search needs
 
--- src/put_back.rt:159:13
 put-last-requires : tie.Need-put-last-requires
 put-last-requires c κs = (c .before .before .before .before .before .before .before .before .pre .0, c .before .before .before .before .before .before .before .before .pre .1, c .before .before .before .before .before .before .before .before .pre .2, c .before .before .before .before .before .before .before .before .pre .3, subst (λ (x : BackPlan). FitsBack (c .before .before .before .before .before .before .before .before .args .arenas) (c .before .before .before .before .before .before .before .before .args .pools) (c .before .before .before .before .before .before .before .before .args .class) (c .before .before .before .before .before .before .before .before .args .offset / 4096) (c .before .before .before .before .before .before .before .before .args .books .now) x) (c .before .before .before .enum-told4 .given .1) (c .before .before .before .before .before .before .before .before .pre .4))
 
--- src/put_back.rt:163:28
 enum-told-5 : tie.Need-enum-told-5
 enum-told-5 c = search needs
 
--- src/put_back.rt:163:13
 put-first-free-requires : tie.Need-put-first-free-requires
 put-first-free-requires c κs = (c .before .before .before .before .before .before .before .before .pre .0, c .before .before .before .before .before .before .before .before .pre .1, c .before .before .before .before .before .before .before .before .pre .2, c .before .before .before .before .before .before .before .before .pre .3, subst (λ (x : BackPlan). FitsBack (c .before .before .before .before .before .before .before .before .args .arenas) (c .before .before .before .before .before .before .before .before .args .pools) (c .before .before .before .before .before .before .before .before .args .class) (c .before .before .before .before .before .before .before .before .args .offset / 4096) (c .before .before .before .before .before .before .before .before .args .books .now) x) (c .before .before .before .enum-told5 .given .1) (c .before .before .before .before .before .before .before .before .pre .4))
 
--- src/put_back.rt:167:26
 enum-told-6 : tie.Need-enum-told-6
 enum-told-6 c = search needs
 
--- src/put_back.rt:167:13
 put-all-free-requires : tie.Need-put-all-free-requires
 put-all-free-requires c κs = (c .before .before .before .before .before .before .before .before .pre .0, c .before .before .before .before .before .before .before .before .pre .1, c .before .before .before .before .before .before .before .before .pre .2, c .before .before .before .before .before .before .before .before .pre .3, subst (λ (x : BackPlan). FitsBack (c .before .before .before .before .before .before .before .before .args .arenas) (c .before .before .before .before .before .before .before .before .args .pools) (c .before .before .before .before .before .before .before .before .args .class) (c .before .before .before .before .before .before .before .before .args .offset / 4096) (c .before .before .before .before .before .before .before .before .args .books .now) x) (c .before .before .before .enum-told6 .given .1) (c .before .before .before .before .before .before .before .before .pre .4))
 
--- src/put_back.rt:139:1
 returns : tie.Need-returns
 unfolding afterBack backAnswer
 returns c = rw (c .enum-told .given .1)
 
--- src/put_back.rt:139:1
 same-length : tie.Need-same-length
 same-length c = search needs
 
--- src/put_back.rt:139:1
 same-length-2 : tie.Need-same-length-2
 same-length-2 c = search needs
 
--- src/put_back.rt:139:1
 same-length-3 : tie.Need-same-length-3
 same-length-3 c = search needs
 
--- src/put_back.rt:139:1
 returns-2 : tie.Need-returns-2
 unfolding afterBack backAnswer
 returns-2 c = rw (c .before .before .before .before .before .before .before .before .before .before .enum-told2 .given .1) (ap (λ (h : Heap). outcome (answerOf 0 (c .before .before .before .before .before .before .before .before .before .before .before .before .before .before .before .args .offset)) h) (c .before .before .before .before .before .before .put-full .ensures))
 
--- src/put_back.rt:139:1
 same-length-4 : tie.Need-same-length-4
 same-length-4 c = search needs
 
--- src/put_back.rt:139:1
 same-length-5 : tie.Need-same-length-5
 same-length-5 c = search needs
 
--- src/put_back.rt:139:1
 same-length-6 : tie.Need-same-length-6
 same-length-6 c = search needs
 
--- src/put_back.rt:139:1
 returns-3 : tie.Need-returns-3
 unfolding afterBack backAnswer
 returns-3 c = rw (c .before .before .before .before .before .before .before .before .before .before .enum-told3 .given .1) (ap (λ (h : Heap). outcome (answerOf 0 (c .before .before .before .before .before .before .before .before .before .before .before .before .before .before .before .args .offset)) h) (c .before .before .before .before .before .before .take-back .ensures))
 
--- src/put_back.rt:139:1
 same-length-7 : tie.Need-same-length-7
 same-length-7 c = search needs
 
--- src/put_back.rt:139:1
 same-length-8 : tie.Need-same-length-8
 same-length-8 c = search needs
 
--- src/put_back.rt:139:1
 same-length-9 : tie.Need-same-length-9
 same-length-9 c = search needs
 
--- src/put_back.rt:139:1
 returns-4 : tie.Need-returns-4
 unfolding afterBack backAnswer
 returns-4 c = rw (c .before .before .before .before .before .before .before .before .before .before .enum-told4 .given .1) (ap (λ (h : Heap). outcome (answerOf 0 (c .before .before .before .before .before .before .before .before .before .before .before .before .before .before .before .args .offset)) h) (c .before .before .before .before .before .before .put-last .ensures))
 
--- src/put_back.rt:139:1
 same-length-10 : tie.Need-same-length-10
 same-length-10 c = search needs
 
--- src/put_back.rt:139:1
 same-length-11 : tie.Need-same-length-11
 same-length-11 c = search needs
 
--- src/put_back.rt:139:1
 same-length-12 : tie.Need-same-length-12
 same-length-12 c = search needs
 
--- src/put_back.rt:139:1
 returns-5 : tie.Need-returns-5
 unfolding afterBack backAnswer
 returns-5 c = rw (c .before .before .before .before .before .before .before .before .before .before .enum-told5 .given .1) (ap (λ (h : Heap). outcome (answerOf 0 (c .before .before .before .before .before .before .before .before .before .before .before .before .before .before .before .args .offset)) h) (c .before .before .before .before .before .before .put-first-free .ensures))
 
--- src/put_back.rt:139:1
 same-length-13 : tie.Need-same-length-13
 same-length-13 c = search needs
 
--- src/put_back.rt:139:1
 same-length-14 : tie.Need-same-length-14
 same-length-14 c = search needs
 
--- src/put_back.rt:139:1
 same-length-15 : tie.Need-same-length-15
 same-length-15 c = search needs
 
--- src/put_back.rt:139:1
 returns-6 : tie.Need-returns-6
 unfolding afterBack backAnswer
 returns-6 c = rw (c .before .before .before .before .before .before .before .before .before .before .enum-told6 .given .1) (ap (λ (h : Heap). outcome (answerOf 0 (c .before .before .before .before .before .before .before .before .before .before .before .before .before .before .before .args .offset)) h) (c .before .before .before .before .before .before .put-all-free .ensures))
