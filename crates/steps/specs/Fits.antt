@@ -37,7 +37,7 @@ pub record Gives (A P a : ℕ) (b : List ℕ) : Type 0 where
 abbrev pub FitsSource : ℕ → ℕ → List ℕ → Source → ℕ → Type 0
 FitsSource A P b (Freed a) p = Gives A P a b × (pool A b poolNext p ≤ A * P)
 FitsSource A P b (Carved a) p = Gives A P a b × (p ≡ a * P + arena b carveMark a) × (arena b carveMark a < P)
-FitsSource A P b (Opened a) p = (a < A) × (p ≡ a * P) × Links A arenaLinks a b
+FitsSource A P b (Opened a) p = (a < A) × (p ≡ a * P) × Links A arenaLinks a b × (at b usableHead ≡ 0)
 
 -- a block of size s at f in pool p, which is there, and whose bit in the map m is clear
 pub record Spare (A P s : ℕ) (m : List ℕ) (p f : ℕ) : Type 0 where
@@ -71,10 +71,10 @@ module _ {X : Type 0} (F : X → Type 0) where
   after rule rest damaged d f = either rule rest damaged f (λ _. d)
 
 -- and from a list's head
-front : (F : AskPlan → Type 0) (l most : ℕ) (f : ℕ → AskPlan) (otherwise : AskPlan) → F Damaged → ((n : ℕ) → n < most → F (f n)) → F otherwise
-    → F (frontOf l most f otherwise)
+front : (F : AskPlan → Type 0) (l most : ℕ) (f : ℕ → AskPlan) (otherwise : AskPlan) → F Damaged → ((n : ℕ) → n < most → F (f n))
+    → (l ≡ 0 → F otherwise) → F (frontOf l most f otherwise)
 front F l most f otherwise d k o =
-    either F (none? l) otherwise (leb l most ⇛ f (linked l)) (λ e. o)
+    either F (none? l) otherwise (leb l most ⇛ f (linked l)) (λ e. o (eqb-true l 0 e))
     (λ e. after F (leb l most) (f (linked l)) Damaged d (λ u. k (linked l) (omega (arith, leb-true l most u, eqb-false l 0 e))))
 
 pub links : (most base n : ℕ) (b : List ℕ) → mayLeave most base n b ≡ true → Links most base n b
@@ -187,17 +187,17 @@ module _ (al A P : ℕ) (h : Heap) (c : ℕ) (low : 8 ≤ sizeOf al c) where
   fits-usable : (a : ℕ) → a < A → F (fromUsable al A P h c a)
   unfolding fromUsable
   fits-usable a there =
-      front F (arena b freedHead a) (A * P) (fromFreed al A P h c a) (fromMark al A P h c a) tt (λ p l. fits-freed a p there l) (fits-mark a there)
+      front F (arena b freedHead a) (A * P) (fromFreed al A P h c a) (fromMark al A P h c a) tt (λ p l. fits-freed a p there l) (λ _. fits-mark a there)
 
-  fits-unused : (a : ℕ) → a < A → 1 ≤ P → F (fromUnused al A P h c a)
+  fits-unused : (a : ℕ) → a < A → 1 ≤ P → at b usableHead ≡ 0 → F (fromUnused al A P h c a)
   unfolding fromUnused
-  fits-unused a there some =
+  fits-unused a there some empty =
       after F (mayLeave A arenaLinks a b) _ _ tt
-      (λ leaves. fits-anew (Opened a) (a * P) (omega (arith, mul-le-mul-right P there)) (there, refl, links A arenaLinks a b leaves))
+      (λ leaves. fits-anew (Opened a) (a * P) (omega (arith, mul-le-mul-right P there)) (there, refl, links A arenaLinks a b leaves, empty))
 
   pub fits-ask : 1 ≤ P → F (planAsk al A P h c)
   unfolding planAsk
   fits-ask some =
       front F (at b (classHead c)) (A * P) (fromListed al A P h c) _ tt fits-listed
-      (front F (at b usableHead) A (fromUsable al A P h c) _ tt fits-usable
-      (front F (at b unusedHead) A (fromUnused al A P h c) _ tt (λ a l. fits-unused a l some) tt))
+      (λ _. front F (at b usableHead) A (fromUsable al A P h c) _ tt fits-usable
+      (λ empty. front F (at b unusedHead) A (fromUnused al A P h c) _ tt (λ a l. fits-unused a l some empty) (λ _. tt)))

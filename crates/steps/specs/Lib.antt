@@ -2,4 +2,5 @@
 pub mod Class
 pub mod Fits
 pub mod FitsBack
+pub mod HandOut
 pub mod Moves

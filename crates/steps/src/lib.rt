@@ -1,4 +1,5 @@
 // The steps of ask and give back: each is planned from the heap before it, and then written.
 pub mod ask;
 pub mod back;
+pub mod hand_out;
 pub mod words;
