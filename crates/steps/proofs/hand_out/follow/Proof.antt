@@ -3,9 +3,9 @@
 use mathlib.Core.Path.{ap}
 use mathlib.Core.List.{List}
 use Prim.Native.Nat.{ℕ}
+use borrow.Author.Needs.{needs}
 use Rattle.rules.specs.Outcome.{heapOf}
 use Rattle.books.specs.Records.{take-stored}
-use borrow.Author.Needs.{needs}
 use Rattle.steps.proofs.hand_out.follow.Statement.{statement}
 use Rattle.steps.proofs.hand_out.follow.Tie as tie
 
@@ -25,10 +25,12 @@ same-length : tie.Need-same-length
 same-length c = search needs
 
 returns : tie.Need-returns
-returns c m k =
+returns c =
     let a = c .before .before .before .before .before .before .before .before .args in
-    simp (c .before .before .store-pool .ensures, c .before .before .before .take .ensures, c .before .before .before .before .before .load-pool .ensures)
-    (ap (λ (x : List ℕ). heapOf m x k) (take-stored (a .arenas) (a .p) (a .books .now) (a .l)))
+    record {
+      same = λ m k. simp (c .before .before .store-pool .ensures, c .before .before .before .take .ensures, c .before .before .before .before .before .load-pool .ensures)
+          (ap (λ (x : List ℕ). heapOf m x k) (take-stored (a .arenas) (a .p) (a .books .now) (a .l)));
+    }
 
 pub follow-spec : {M : Type 1} → statement M
 follow-spec =

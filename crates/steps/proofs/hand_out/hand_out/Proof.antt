@@ -1,7 +1,7 @@
 -- `steps::hand_out::hand_out` sets the bit of a block whose start passes the test, and answers its offset.
 -- Assumes nothing.
-use Rattle.steps.specs.HandOut.{starts}
 use borrow.Author.Needs.{needs}
+use Rattle.steps.specs.HandOut.{starts}
 use Rattle.steps.proofs.hand_out.hand_out.Statement.{statement}
 use Rattle.steps.proofs.hand_out.hand_out.Tie as tie
 

@@ -3,11 +3,11 @@
 use mathlib.Core.Path.{ap}
 use mathlib.Core.List.{List}
 use Prim.Native.Nat.{ℕ}
+use native.Mathlib.Omega.{arith}
+use borrow.Author.Needs.{needs}
 use Rattle.rules.specs.Books.{classHead}
 use Rattle.rules.specs.Outcome.{heapOf}
 use Rattle.steps.specs.HandOut.{taken-leaves}
-use native.Mathlib.Omega.{arith}
-use borrow.Author.Needs.{needs}
 use Rattle.steps.proofs.hand_out.last.Statement.{statement}
 use Rattle.steps.proofs.hand_out.last.Tie as tie
 
@@ -33,10 +33,12 @@ same-length : tie.Need-same-length
 same-length c = search needs
 
 returns : tie.Need-returns
-returns c m k =
+returns c =
     let a = c .before .before .before .before .before .before .before .before .before .before .before .before .before .args in
-    simp (c .before .before .leave-by .ensures, c .before .before .before .pool-links .ensures, c .before .before .before .before .before .before .before .store-pool .ensures, c .before .before .before .before .before .before .before .before .take .ensures, c .before .before .before .before .before .before .before .before .before .before .load-pool .ensures)
-    (ap (λ (x : List ℕ). heapOf m x k) (taken-leaves (a .arenas) (classHead (a .class)) 0 (a .p) (a .books .now)))
+    record {
+      same = λ m k. simp (c .before .before .leave-by .ensures, c .before .before .before .pool-links .ensures, c .before .before .before .before .before .before .before .store-pool .ensures, c .before .before .before .before .before .before .before .before .take .ensures, c .before .before .before .before .before .before .before .before .before .before .load-pool .ensures)
+          (ap (λ (x : List ℕ). heapOf m x k) (taken-leaves (a .arenas) (classHead (a .class)) 0 (a .p) (a .books .now)));
+    }
 
 pub last-spec : {M : Type 1} → statement M
 last-spec =

@@ -3,10 +3,10 @@
 use mathlib.Core.Path.{ap}
 use mathlib.Core.List.{List}
 use Prim.Native.Nat.{ℕ}
-use Rattle.rules.specs.Outcome.{heapOf}
-use Rattle.books.specs.Records.{expose-stored}
 use native.Mathlib.Omega.{arith}
 use borrow.Author.Needs.{needs}
+use Rattle.rules.specs.Outcome.{heapOf}
+use Rattle.books.specs.Records.{expose-stored}
 use Rattle.steps.proofs.hand_out.ready.Statement.{statement}
 use Rattle.steps.proofs.hand_out.ready.Tie as tie
 
@@ -39,9 +39,12 @@ same-length-2 c = search needs
 
 returns : tie.Need-returns
 returns c =
-    let a = c .before .before .before .before .before .before .before .before .before .before .before .before .before .args in (
-      (λ m k. simp (c .before .before .before .before .before .before .store-pool .ensures, c .before .before .before .before .before .before .before .expose .ensures, c .before .before .before .before .before .before .before .before .before .load-pool .ensures, c .before .before .before .before .before .before .before .before .before .before .before .before .before .pre .2)
-          (ap (λ (x : List ℕ). heapOf m x k) (expose-stored (a .arenas) (a .p) (a .books .now) (a .size)))),
+    let start = c .before .before .before .before .before .before .before .before .before .before .before .before .before in
+    let a = start .args in (
+      record {
+        same = λ m k. simp (c .before .before .before .before .before .before .store-pool .ensures, c .before .before .before .before .before .before .before .expose .ensures, c .before .before .before .before .before .before .before .before .before .load-pool .ensures, start .pre .2)
+            (ap (λ (x : List ℕ). heapOf m x k) (expose-stored (a .arenas) (a .p) (a .books .now) (a .size)));
+      },
       c .before .before .put-link .ensures,
     )
 
