@@ -15,8 +15,8 @@ use Rattle.rules.specs.declared.BackPlan.the-variants.{Empties}
 use Rattle.rules.specs.Outcome.{heapOf}
 use Rattle.books.specs.Lists.{leave-keeps, length-leaveBy, pool-leave-keeps}
 use Rattle.loops.specs.Sets.{sets-other}
-use Rattle.steps.specs.Fits.{Links}
-use Rattle.steps.specs.FitsBack.{FitsEmpty}
+use Rattle.plans.specs.Fits.{Links}
+use Rattle.plans.specs.FitsBack.{FitsEmpty}
 
 -- ---- the books' part of each write
 abbrev pub takenBack : ℕ → ℕ → ℕ → List ℕ → List ℕ

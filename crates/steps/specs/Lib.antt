@@ -1,8 +1,6 @@
--- What a planned path knows of its numbers, and the block that a moving resize copies to.
-pub mod Class
+-- The laws of the writes: which words each leaves as they were for the next, and the block that a moving resize copies to.
 pub mod Heaps
 pub mod Passing
-pub mod Fits
-pub mod FitsBack
+pub mod HandOut
 pub mod Backs
 pub mod Moves

@@ -17,7 +17,7 @@ use Rattle.rules.specs.declared.AskPlan.the-variants.{NoRoom, Damaged, Follow, 
 use Rattle.rules.specs.Ask.{planAsk, askAnswer, askStep}
 use Rattle.books.specs.Known.{LiveBlock}
 use Rattle.loops.specs.Copy.{Apart}
-use Rattle.steps.specs.Fits.{Spare, FitsAsk, fits-ask}
+use Rattle.plans.specs.Fits.{Spare, FitsAsk, fits-ask}
 
 -- ---- sizes
 -- a size and the alignment are at most the block size of the size's class

@@ -1,6 +1,4 @@
-// The steps of ask and give back: each is planned from the heap before it, and then written.
-pub mod ask;
-pub mod back;
+// The writes of the steps: what an ask hands out, what a give-back puts back, and what a resize moves.
+pub mod hand_out;
 pub mod moves;
 pub mod put_back;
-pub mod words;

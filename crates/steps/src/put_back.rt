@@ -1,6 +1,4 @@
 // The writes of a give-back: the block, then its pool's list, then its arena's.
-use crate::back::arena_of;
-use crate::back::plan_back;
 use bits::clear_bit;
 use books::blocks::block_no;
 use books::blocks::class_at;
@@ -23,6 +21,8 @@ use books::words::RECORDS;
 use books::words::UNUSED_HEAD;
 use books::words::USABLE_HEAD;
 use loops::put_words;
+use plans::back::arena_of;
+use plans::back::plan_back;
 use rules::Answer;
 use rules::BackPlan;
 ghost use mathlib.Core.Path.{_≡_};
@@ -36,9 +36,9 @@ ghost use Rattle.rules.specs.Lists.{arenaLinks, poolLinks};
 ghost use Rattle.rules.specs.Outcome.{heapOf, outcome};
 ghost use Rattle.rules.specs.GiveBack.{takeBack, afterBack, givenBack, backStep};
 ghost use Rattle.books.specs.Known.{Shaped, LiveBlock};
-ghost use Rattle.steps.specs.Class.{Range, Class};
-ghost use Rattle.steps.specs.Fits.{Links};
-ghost use Rattle.steps.specs.FitsBack.{FitsEmpty, FitsBack};
+ghost use Rattle.plans.specs.Class.{Range, Class};
+ghost use Rattle.plans.specs.Fits.{Links};
+ghost use Rattle.plans.specs.FitsBack.{FitsEmpty, FitsBack};
 ghost use Rattle.steps.specs.Backs.{freedFirst, emptied, released};
 
 // The block at f goes to the front of its pool's freed blocks.

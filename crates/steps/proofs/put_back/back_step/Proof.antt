@@ -7,7 +7,7 @@ use borrow.Author.Needs.{needs}
 use Rattle.rules.specs.GiveBack.{planBack, givenBack, backStep}
 use Rattle.rules.specs.Outcome.{heapOf}
 use Rattle.rules.specs.declared.BackPlan.{BackPlan}
-use Rattle.steps.specs.FitsBack.{FitsBack, fits-back}
+use Rattle.plans.specs.FitsBack.{FitsBack, fits-back}
 use Rattle.steps.proofs.put_back.back_step.Statement.{statement}
 use Rattle.steps.proofs.put_back.back_step.Tie as tie
 

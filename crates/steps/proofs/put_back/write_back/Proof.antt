@@ -7,7 +7,7 @@ use Rattle.rules.specs.Books.{Heap}
 use Rattle.rules.specs.GiveBack.{afterBack, backAnswer}
 use Rattle.rules.specs.Outcome.{outcome, answerOf}
 use Rattle.rules.specs.declared.BackPlan.{BackPlan}
-use Rattle.steps.specs.FitsBack.{FitsBack}
+use Rattle.plans.specs.FitsBack.{FitsBack}
 use Rattle.steps.proofs.put_back.write_back.Statement.{statement}
 use Rattle.steps.proofs.put_back.write_back.Tie as tie
 

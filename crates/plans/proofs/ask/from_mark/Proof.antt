@@ -1,0 +1,39 @@
+-- `plans::ask::from_mark` meets its contract: it carves only below the mark's bound, where the pool is one of the heap's.
+-- Assumes nothing.
+use native.Mathlib.Omega.{arith}
+use borrow.Author.Needs.{needs}
+use borrow.Author.Tests.{lt-ltb, le-ltb}
+use Rattle.rules.specs.Ask.{fromMark, setAnew}
+use Rattle.plans.proofs.ask.from_mark.Statement.{statement}
+use Rattle.plans.proofs.ask.from_mark.Tie as tie
+
+arena-word-requires : tie.Need-arena-word-requires
+arena-word-requires c κs = search needs
+
+pool-at-requires : tie.Need-pool-at-requires
+pool-at-requires c κs = search needs
+
+set-anew-requires : tie.Need-set-anew-requires
+set-anew-requires c κs = search needs
+
+count-free-requires : tie.Need-count-free-requires
+count-free-requires c κs = search needs
+
+returns : tie.Need-returns
+unfolding fromMark setAnew
+returns c = simp (← c .before .before .before .before .arena-word .ensures .0, lt-ltb (c .before .before .before .before .arena-word .result) (c .before .before .before .before .before .before .before .before .args .pools) (omega arith), ← c .before .before .before .before .before .before .before .before .pre .1 .size) (cc)
+
+returns-2 : tie.Need-returns-2
+unfolding fromMark setAnew
+returns-2 c = simp (← c .before .arena-word .ensures .0, le-ltb (c .before .arena-word .result) (c .before .before .before .before .before .args .pools) (omega arith))
+
+pub from-mark-spec : {M : Type 1} → statement M
+from-mark-spec =
+    tie.close
+    (tie.spec
+    arena-word-requires
+    pool-at-requires
+    set-anew-requires
+    count-free-requires
+    returns
+    returns-2)

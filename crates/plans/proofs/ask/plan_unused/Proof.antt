@@ -1,0 +1,30 @@
+-- `plans::ask::plan_unused` meets its contract: it takes the path that the rules take by the unused head: none, one of the arenas, or none of them.
+-- Assumes nothing.
+use native.Mathlib.Omega.{arith}
+use borrow.Author.Needs.{needs}
+use borrow.Author.Tests.{le-leb, lt-leb, eq-eqb, ne-eqb}
+use Rattle.plans.proofs.ask.plan_unused.Statement.{statement}
+use Rattle.plans.proofs.ask.plan_unused.Tie as tie
+
+word-requires : tie.Need-word-requires
+word-requires c κs = search needs
+
+returns : tie.Need-returns
+returns c = rw (← c .before .word .ensures .0, eq-eqb (c .before .word .result) 0 (omega arith))
+
+sub-from-unused : tie.Need-sub-from-unused
+sub-from-unused c = search needs
+
+from-unused-requires : tie.Need-from-unused-requires
+from-unused-requires c κs = search needs
+
+returns-2 : tie.Need-returns-2
+returns-2 c = rw (← c .before .before .before .word .ensures .0, ne-eqb (c .before .before .before .word .result) 0 (omega arith), le-leb (c .before .before .before .word .result) (c .before .before .before .before .before .before .before .args .arenas) (omega arith)) (c .from-unused .ensures)
+
+returns-3 : tie.Need-returns-3
+returns-3 c = rw (← c .before .before .word .ensures .0, ne-eqb (c .before .before .word .result) 0 (omega arith), lt-leb (c .before .before .word .result) (c .before .before .before .before .before .before .args .arenas) (omega arith))
+
+pub plan-unused-spec : {M : Type 1} → statement M
+plan-unused-spec =
+    tie.close
+    (tie.spec word-requires returns sub-from-unused from-unused-requires returns-2 returns-3)

@@ -1,0 +1,40 @@
+-- `plans::ask::plan_usable` meets its contract: it takes the path that the rules take by the usable head: none, one of the arenas, or none of them.
+-- Assumes nothing.
+use native.Mathlib.Omega.{arith}
+use borrow.Author.Needs.{needs}
+use borrow.Author.Tests.{le-leb, lt-leb, eq-eqb, ne-eqb}
+use Rattle.plans.proofs.ask.plan_usable.Statement.{statement}
+use Rattle.plans.proofs.ask.plan_usable.Tie as tie
+
+word-requires : tie.Need-word-requires
+word-requires c κs = search needs
+
+plan-unused-requires : tie.Need-plan-unused-requires
+plan-unused-requires c κs = search needs
+
+returns : tie.Need-returns
+returns c = rw (← c .before .before .word .ensures .0, eq-eqb (c .before .before .word .result) 0 (omega arith)) (c .plan-unused .ensures)
+
+sub-from-usable : tie.Need-sub-from-usable
+sub-from-usable c = search needs
+
+from-usable-requires : tie.Need-from-usable-requires
+from-usable-requires c κs = search needs
+
+returns-2 : tie.Need-returns-2
+returns-2 c = rw (← c .before .before .before .word .ensures .0, ne-eqb (c .before .before .before .word .result) 0 (omega arith), le-leb (c .before .before .before .word .result) (c .before .before .before .before .before .before .before .args .arenas) (omega arith)) (c .from-usable .ensures)
+
+returns-3 : tie.Need-returns-3
+returns-3 c = rw (← c .before .before .word .ensures .0, ne-eqb (c .before .before .word .result) 0 (omega arith), lt-leb (c .before .before .word .result) (c .before .before .before .before .before .before .args .arenas) (omega arith))
+
+pub plan-usable-spec : {M : Type 1} → statement M
+plan-usable-spec =
+    tie.close
+    (tie.spec
+    word-requires
+    plan-unused-requires
+    returns
+    sub-from-usable
+    from-usable-requires
+    returns-2
+    returns-3)

@@ -1,0 +1,57 @@
+-- `plans::ask::same_class` meets its contract: it reads the link only of a spare block, which lies in memory.
+-- Assumes nothing.
+use mathlib.Core.Path.{sym, _∙_}
+use native.Mathlib.Omega.{arith}
+use borrow.Author.Needs.{needs}
+use Rattle.rules.specs.Ask.{sameClass}
+use Rattle.books.specs.Starts.{start}
+use Rattle.books.specs.Tests.{both}
+use Rattle.plans.proofs.ask.same_class.Statement.{statement}
+use Rattle.plans.proofs.ask.same_class.Tie as tie
+
+pool-word-requires : tie.Need-pool-word-requires
+pool-word-requires c κs = search needs
+
+spare-requires : tie.Need-spare-requires
+spare-requires c κs = search needs
+
+mul-link-at : tie.Need-mul-link-at
+mul-link-at c = search needs
+
+add-link-at : tie.Need-add-link-at
+add-link-at c = search needs
+
+link-at-requires : tie.Need-link-at-requires
+link-at-requires c κs = let s = start (c .before .before .before .before .before .before .args .size) (c .before .before .pool-word .result) (omega arith) (both _ _ (sym (c .before .spare .ensures) ∙ c .if1 .taken) .0) in omega (arith, s .ends)
+
+index-requires : tie.Need-index-requires
+index-requires c κs = search needs
+
+follows-requires : tie.Need-follows-requires
+follows-requires c κs = search needs
+
+keeps-requires : tie.Need-keeps-requires
+keeps-requires c κs = search needs
+
+returns : tie.Need-returns
+unfolding sameClass
+returns c = simp (← c .before .before .before .before .before .before .pool-word .ensures .0, ← c .before .before .before .link-at .ensures, ← c .before .before .index .ensures .0, ← c .before .before .before .before .before .before .before .before .before .before .pre .1 .size, sym (c .before .before .before .before .before .spare .ensures) ∙ c .before .before .before .before .if1 .taken) (cc)
+
+returns-2 : tie.Need-returns-2
+unfolding sameClass
+returns-2 c = simp (← c .before .before .pool-word .ensures .0, ← c .before .before .before .before .before .before .pre .1 .size, sym (c .before .spare .ensures) ∙ c .if1 .left)
+
+pub same-class-spec : {M : Type 1} → statement M
+same-class-spec =
+    tie.close
+    (tie.spec
+    pool-word-requires
+    spare-requires
+    mul-link-at
+    add-link-at
+    link-at-requires
+    index-requires
+    follows-requires
+    keeps-requires
+    returns
+    returns-2)

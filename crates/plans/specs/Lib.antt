@@ -1,0 +1,4 @@
+-- What a planned path knows of its numbers.
+pub mod Class
+pub mod Fits
+pub mod FitsBack

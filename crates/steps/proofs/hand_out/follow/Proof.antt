@@ -1,0 +1,38 @@
+-- `steps::hand_out::follow` stores the record of which a block was taken, which writes count and freeblock alone.
+-- Assumes nothing.
+use mathlib.Core.Path.{ap}
+use mathlib.Core.List.{List}
+use Prim.Native.Nat.{ℕ}
+use borrow.Author.Needs.{needs}
+use Rattle.rules.specs.Outcome.{heapOf}
+use Rattle.books.specs.Records.{take-stored}
+use Rattle.steps.proofs.hand_out.follow.Statement.{statement}
+use Rattle.steps.proofs.hand_out.follow.Tie as tie
+
+load-pool-requires : tie.Need-load-pool-requires
+load-pool-requires c κs = search needs
+
+cast-take : tie.Need-cast-take
+cast-take c = search needs
+
+take-requires : tie.Need-take-requires
+take-requires c κs = rw (c .before .load-pool .ensures) (c .before .before .before .before .pre .1)
+
+store-pool-requires : tie.Need-store-pool-requires
+store-pool-requires c κs = search needs
+
+same-length : tie.Need-same-length
+same-length c = search needs
+
+returns : tie.Need-returns
+returns c =
+    let a = c .before .before .before .before .before .before .before .before .args in
+    record {
+      same = λ m k. simp (c .before .before .store-pool .ensures, c .before .before .before .take .ensures, c .before .before .before .before .before .load-pool .ensures)
+          (ap (λ (x : List ℕ). heapOf m x k) (take-stored (a .arenas) (a .p) (a .books .now) (a .l)));
+    }
+
+pub follow-spec : {M : Type 1} → statement M
+follow-spec =
+    tie.close
+    (tie.spec load-pool-requires cast-take take-requires store-pool-requires same-length returns)

@@ -1,0 +1,54 @@
+-- `steps::hand_out::last` stores the record, and the pool leaves by the links that it was loaded with.
+-- Assumes nothing.
+use mathlib.Core.Path.{ap}
+use mathlib.Core.List.{List}
+use Prim.Native.Nat.{ℕ}
+use native.Mathlib.Omega.{arith}
+use borrow.Author.Needs.{needs}
+use Rattle.rules.specs.Books.{classHead}
+use Rattle.rules.specs.Outcome.{heapOf}
+use Rattle.steps.specs.HandOut.{taken-leaves}
+use Rattle.steps.proofs.hand_out.last.Statement.{statement}
+use Rattle.steps.proofs.hand_out.last.Tie as tie
+
+load-pool-requires : tie.Need-load-pool-requires
+load-pool-requires c κs = search needs
+
+take-requires : tie.Need-take-requires
+take-requires c κs = rw (c .before .load-pool .ensures) (c .before .before .before .before .pre .3)
+
+store-pool-requires : tie.Need-store-pool-requires
+store-pool-requires c κs = search needs
+
+pool-links-requires : tie.Need-pool-links-requires
+pool-links-requires c κs = search needs
+
+add-leave-by : tie.Need-add-leave-by
+add-leave-by c = search needs
+
+leave-by-requires : tie.Need-leave-by-requires
+leave-by-requires c κs = rw (c .before .before .before .before .before .before .before .load-pool .ensures, c .pool-links .ensures) (omega arith)
+
+same-length : tie.Need-same-length
+same-length c = search needs
+
+returns : tie.Need-returns
+returns c =
+    let a = c .before .before .before .before .before .before .before .before .before .before .before .before .before .args in
+    record {
+      same = λ m k. simp (c .before .before .leave-by .ensures, c .before .before .before .pool-links .ensures, c .before .before .before .before .before .before .before .store-pool .ensures, c .before .before .before .before .before .before .before .before .take .ensures, c .before .before .before .before .before .before .before .before .before .before .load-pool .ensures)
+          (ap (λ (x : List ℕ). heapOf m x k) (taken-leaves (a .arenas) (classHead (a .class)) 0 (a .p) (a .books .now)));
+    }
+
+pub last-spec : {M : Type 1} → statement M
+last-spec =
+    tie.close
+    (tie.spec
+    load-pool-requires
+    take-requires
+    store-pool-requires
+    pool-links-requires
+    add-leave-by
+    leave-by-requires
+    same-length
+    returns)
