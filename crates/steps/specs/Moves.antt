@@ -1,4 +1,4 @@
--- A resize that moves a block, whatever the books hold: the bytes that it copies and the place where they go do not meet.
+-- A resize that moves a block, whatever the books hold: the bytes that it copies and the place where they go do not meet; and a resize by its parts.
 -- Assumes nothing.
 use mathlib.Core.Path.{_≡_, refl, sym, ap, ap₂, _∙_}
 use mathlib.Core.List.{List}
@@ -12,11 +12,15 @@ use lib.Dec.{leb, eqb}
 use borrow.Author.Tests.{leb-true, not-true}
 use Rattle.rules.specs.Books.{Heap, memoryLength, isSet, class, pool, offsetOf}
 use Rattle.rules.specs.Blocks.{classOf, sizeOf, startOf, lastStart, isStart, blockNo, sizeAt}
+use Rattle.rules.specs.declared.Answer.{Answer}
 use Rattle.rules.specs.declared.AskPlan.{AskPlan}
 use Rattle.rules.specs.declared.AskPlan.the-variants.{NoRoom, Damaged, Follow, Ready, Last, Again, Anew}
+use Rattle.rules.specs.Outcome.{outcome, done}
 use Rattle.rules.specs.Ask.{planAsk, askAnswer, askStep}
+use Rattle.rules.specs.Resize.{keeps, copy, giveOld, halfDone, moved, resizeStep}
 use Rattle.books.specs.Known.{LiveBlock}
 use Rattle.loops.specs.Copy.{Apart}
+use Rattle.steps.specs.Passing.{stopped, passed}
 use Rattle.plans.specs.Fits.{Spare, FitsAsk, fits-ask}
 
 -- ---- sizes
@@ -138,3 +142,25 @@ module _ (al A P : ℕ) (h : Heap) (o n : ℕ) (low : 8 ≤ al) (old : LiveBlock
       moves (askStep al A P h n .answer .offset)
       (handed A P (sizeOf al c) c (h .books) (h .map) (planAsk al A P h c)
       (fits-ask al A P h c (omega (arith, class-holds al n (omega arith))) (some-pools A P o (old .inside))) e)
+
+-- ---- a resize by its test: the offset is kept, or the block moves
+module _ (al A P : ℕ) (h : Heap) (o n : ℕ) where
+  pub resize-kept : keeps (sizeAt al A (h .books) o) n ≡ true → done o h ≡ resizeStep al A P h o n
+  unfolding resizeStep
+  resize-kept e = rw e
+
+  pub resize-moved : keeps (sizeAt al A (h .books) o) n ≡ false
+      → moved al A P o (min n (sizeAt al A (h .books) o)) (askStep al A P h n) ≡ resizeStep al A P h o n
+  unfolding resizeStep
+  resize-moved e = rw e
+
+-- a move after an ask that was refused, and after one that was done
+module _ (al A P o k : ℕ) (r : Answer) (h : Heap) where
+  pub moved-refused : (r .number ≡ 0 → ⊥) → outcome r h ≡ moved al A P o k (outcome r h)
+  unfolding moved
+  moved-refused n = sym (stopped (λ _. outcome r h) _ (r .number) n)
+
+  pub moved-done : r .number ≡ 0
+      → halfDone al A P (r .offset) (giveOld al A P (copy o (r .offset) k h) o) ≡ moved al A P o k (outcome r h)
+  unfolding moved
+  moved-done e = sym (passed (λ _. outcome r h) _ (r .number) e)

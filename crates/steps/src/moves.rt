@@ -1,14 +1,17 @@
 // Resize: the offset is kept, or the block's bytes move to a new block and the old one is given back.
+use crate::hand_out::ask_step;
 use crate::put_back::back_step;
+use books::blocks::class_at;
+use books::blocks::size_of;
 use books::numbers::live_number;
 use loops::copy_within;
 use rules::Answer;
 ghost use mathlib.Core.Path.{_≡_};
-ghost use Prim.Native.Nat.{_+_, _<_, _≤_, _^_};
+ghost use Prim.Native.Nat.{_+_, _<_, _≤_, _^_, min};
 ghost use lib.ListN.{length};
 ghost use Rattle.rules.specs.Outcome.{heapOf, outcome};
-ghost use Rattle.rules.specs.Resize.{copy, giveOld, halfDone};
-ghost use Rattle.books.specs.Known.{Shaped};
+ghost use Rattle.rules.specs.Resize.{copy, giveOld, halfDone, resizeStep};
+ghost use Rattle.books.specs.Known.{Shaped, LiveBlock};
 ghost use Rattle.loops.specs.Copy.{Apart};
 
 // The old block is given back, by what the books and the map now show.
@@ -60,4 +63,50 @@ fn move_block(
         number: 0,
         offset: to as u32,
     }
+}
+
+// The smaller of two numbers.
+fn least(a: usize, b: usize) -> usize
+    ensures { λ r. ⌜ r ≡ min a b ⌝ }
+{
+    if a <= b { a } else { b }
+}
+
+// A resize of a live offset to n bytes.
+pub fn resize_step(
+    memory: &mut [u8],
+    books: &mut [u32],
+    map: &mut [u64],
+    arenas: usize,
+    pools: usize,
+    offset: usize,
+    n: usize,
+) -> Answer
+    requires { ⌜ Shaped arenas pools (length (now memory)) (length (now books)) (length (now map))
+        × LiveBlock 8 arenas pools (now books) (now map) offset × (1 ≤ n) × (n ≤ 512) ⌝ }
+    ensures { λ r. ⌜ outcome r (heapOf (now (memory .exit)) (now (books .exit)) (now (map .exit)))
+        ≡ resizeStep 8 arenas pools (heapOf (now (memory .entry)) (now (books .entry)) (now (map .entry))) offset n ⌝ }
+{
+    let size = size_of(class_at(books, arenas, offset));
+    if (n <= size) & (3 * size < 4 * n) {
+        return Answer {
+            number: 0,
+            offset: offset as u32,
+        };
+    }
+    let asked = ask_step(memory, books, map, arenas, pools, n);
+    if asked.number != 0 {
+        return asked;
+    }
+    let to = asked.offset as usize;
+    move_block(
+        memory,
+        books,
+        map,
+        arenas,
+        pools,
+        offset,
+        to,
+        least(n, size),
+    )
 }
