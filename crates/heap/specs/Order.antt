@@ -1,4 +1,4 @@
--- What is known once the tests for an offset are passed, where view's part begins, and the test for room after the others.
+-- What is known once the tests for a size or an offset are passed, where view's part begins, and the later tests after the others.
 -- Assumes nothing.
 use mathlib.Core.Path.{_≡_, refl}
 use mathlib.Core.List.{List}
@@ -10,6 +10,12 @@ use Rattle.rules.specs.Outcome.{passing}
 use Rattle.rules.specs.Numbers.{inOrder, shapeNumber, roomNumber, offsetNumber}
 use Rattle.books.specs.Known.{Shaped, LiveBlock}
 
+-- a heap of the right shape, and a size that can be asked for
+pub record Askable (m b k : List ℕ) (n : ℕ) : Type 0 where
+  pub shaped : Shaped (at b 0) (at b 1) (length m) (length b) (length k)
+  pub low : 1 ≤ n
+  pub high : n ≤ 512
+
 -- a heap of the right shape, and a live offset in it
 pub record Passed (m b k : List ℕ) (o : ℕ) : Type 0 where
   pub shaped : Shaped (at b 0) (at b 1) (length m) (length b) (length k)
@@ -19,7 +25,13 @@ pub record Passed (m b k : List ℕ) (o : ℕ) : Type 0 where
 abbrev pub viewAt : Heap → ℕ → ℕ
 viewAt h o = passing (inOrder (shapeNumber h) 0 (offsetNumber 8 h o) 0) (λ k. 0) o
 
--- ---- 7 comes after the tests before it
+-- ---- 5 and 7 come after the tests before them
+pub offset-after : (shape size offset : ℕ) → inOrder shape size offset 0 ≡ passing (inOrder shape size 0 0) (λ n. n) offset
+offset-after zero zero zero = refl
+offset-after zero zero (suc o) = refl
+offset-after zero (suc s) o = refl
+offset-after (suc h) s o = refl
+
 pub room-after : (shape offset room : ℕ) → inOrder shape 0 offset room ≡ passing (inOrder shape 0 offset 0) (λ n. n) room
 room-after zero zero room = refl
 room-after zero (suc o) room = refl

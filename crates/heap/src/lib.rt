@@ -1,5 +1,6 @@
 // The calls of 01, over three lent buffers: memory, books and map. Each tests in 01's order and then takes its step. None requires anything
 // of its caller, and the promise of each is one equation: what it answers and what it leaves is what the rules say.
+use books::blocks::LARGEST;
 use books::blocks::class_at;
 use books::blocks::size_of;
 use books::numbers::fit_number;
@@ -14,6 +15,8 @@ use plans::words::word;
 use rules::Answer;
 use rules::Rolled;
 use rules::Sized;
+use steps::hand_out::ask_step;
+use steps::moves::resize_step;
 use steps::put_back::back_step;
 ghost use mathlib.Core.Path.{_≡_};
 ghost use Prim.Native.Nat.{_+_, _/_, _<_, _≤_};
@@ -23,8 +26,8 @@ ghost use Rattle.rules.specs.Books.{at, poolWord};
 ghost use Rattle.rules.specs.Blocks.{classAt, sizeAt};
 ghost use Rattle.rules.specs.Outcome.{heapOf, outcome};
 ghost use Rattle.rules.specs.Numbers as N;
-ghost use Rattle.rules.specs.Numbers.{inOrder, shapeNumber, offsetNumber};
-ghost use Rattle.heap.specs.Order.{Passed, viewAt};
+ghost use Rattle.rules.specs.Numbers.{inOrder, shapeNumber, sizeNumber, offsetNumber};
+ghost use Rattle.heap.specs.Order.{Askable, Passed, viewAt};
 
 // A refusal: the number, and offset 0.
 fn refuse(number: u32) -> Answer
@@ -67,6 +70,66 @@ fn offset_test(memory: &[u8], books: &[u32], map: &[u64], offset: usize) -> u32
         return number;
     }
     live_number(books, map, word(books, 0), word(books, 1), offset)
+}
+
+// 3, unless the size is one of a block.
+fn size_number(n: usize) -> u32
+    ensures { λ r. ⌜ (r ≡ sizeNumber n) × (r ≡ 0 → (1 ≤ n) × (n ≤ 512)) ⌝ }
+{
+    if (1 <= n) & (n <= LARGEST) {
+        return 0;
+    }
+    3
+}
+
+// The number of the tests of a call with a size: 1, 2 or 3, and 0 where an ask can be made.
+fn size_test(memory: &[u8], books: &[u32], map: &[u64], n: usize) -> u32
+    ensures { λ r. ⌜ (r ≡ inOrder (shapeNumber (heapOf (now (memory .entry)) (now (books .entry)) (now (map .entry)))) (sizeNumber n) 0 0)
+        × (r ≡ 0 → Askable (now (memory .entry)) (now (books .entry)) (now (map .entry)) n) ⌝ }
+{
+    let number = shape_number(memory, books, map);
+    if number != 0 {
+        return number;
+    }
+    size_number(n)
+}
+
+// Ask.
+pub fn ask(memory: &mut [u8], books: &mut [u32], map: &mut [u64], size: usize) -> Answer
+    ensures { λ r. ⌜ outcome r (heapOf (now (memory .exit)) (now (books .exit)) (now (map .exit)))
+        ≡ N.ask 8 (heapOf (now (memory .entry)) (now (books .entry)) (now (map .entry))) size ⌝ }
+{
+    let number = size_test(memory, books, map, size);
+    if number != 0 {
+        return refuse(number);
+    }
+    let arenas = word(books, 0);
+    let pools = word(books, 1);
+    ask_step(memory, books, map, arenas, pools, size)
+}
+
+// Resize.
+pub fn resize(
+    memory: &mut [u8],
+    books: &mut [u32],
+    map: &mut [u64],
+    offset: usize,
+    size: usize,
+) -> Answer
+    ensures { λ r. ⌜ outcome r (heapOf (now (memory .exit)) (now (books .exit)) (now (map .exit)))
+        ≡ N.resize 8 (heapOf (now (memory .entry)) (now (books .entry)) (now (map .entry))) offset size ⌝ }
+{
+    let number = size_test(memory, books, map, size);
+    if number != 0 {
+        return refuse(number);
+    }
+    let arenas = word(books, 0);
+    let pools = word(books, 1);
+    let dead = live_number(books, map, arenas, pools, offset);
+    if dead != 0 {
+        return refuse(dead);
+    }
+    resize_step(memory, books, map, arenas, pools, offset, size)
 }
 
 // Give back.

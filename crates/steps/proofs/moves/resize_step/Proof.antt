@@ -1,79 +1,58 @@
-use Rattle.steps.specs.Moves.{Moves, moves-apart, resize-kept, resize-moved, moved-refused, moved-done}
-use Rattle.rules.specs.Resize.{keeps, copy, giveOld, halfDone, moved}
-use Rattle.rules.specs.Outcome.{Outcome, heapOf}
-use Rattle.rules.specs.Blocks.{sizeOf, sizeAt}
+-- `steps::moves::resize_step` meets its contract: it keeps the offset, or asks and then moves the block; the two runs of bytes never meet.
+-- Assumes nothing.
+use mathlib.Core.Path.{_≡_, sym, ap, _∙_}
 use Prim.Native.Nat.{ℕ, min}
-use mathlib.Core.Path.{_≡_, refl, sym, ap, ap₂, _∙_}
 use native.Mathlib.Omega.{arith}
-use lib.ListN.{length-set}
 use borrow.Author.Needs.{needs}
+use Rattle.rules.specs.Blocks.{sizeOf, sizeAt}
+use Rattle.rules.specs.Outcome.{Outcome, heapOf}
+use Rattle.rules.specs.Resize.{keeps, copy, giveOld, halfDone, moved}
+use Rattle.steps.specs.Moves.{Moves, moves-apart, resize-kept, resize-moved, moved-refused, moved-done}
 use Rattle.steps.proofs.moves.resize_step.Statement.{statement}
 use Rattle.steps.proofs.moves.resize_step.Tie as tie
-use Rattle.steps.proofs.moves.resize_step.Reads as reads
-use Rattle.steps.proofs.moves.resize_step.Lts as lts
-use Rattle.books.proofs.blocks.class_at.Reads as class-at-reads
-use Rattle.books.proofs.blocks.size_of.Reads as size-of-reads
-use Rattle.steps.proofs.hand_out.ask_step.Reads as ask-step-reads
-use Rattle.steps.proofs.moves.least.Reads as least-reads
-use Rattle.steps.proofs.moves.move_block.Reads as move-block-reads
 
--- src/moves.rt:82:24
 class-at-requires : tie.Need-class-at-requires
 class-at-requires c κs = search needs
 
--- src/moves.rt:82:9
 size-of-requires : tie.Need-size-of-requires
 size-of-requires c κs = search needs
 
--- src/moves.rt:83:23
 mul-if1 : tie.Need-mul-if1
 mul-if1 c = search needs
 
--- src/moves.rt:83:34
 mul-if1-2 : tie.Need-mul-if1-2
 mul-if1-2 c = search needs
 
--- src/moves.rt:84:44
 cast-t18 : tie.Need-cast-t18
 cast-t18 c = search needs
 
--- src/moves.rt:84:9
 same-length : tie.Need-same-length
 same-length c = search needs
 
--- src/moves.rt:84:9
 returns : tie.Need-returns
 returns c = let h = heapOf (c .before .before .before .before .before .before .before .args .memory .now) (c .before .before .before .before .before .before .before .args .books .now) (c .before .before .before .before .before .before .before .args .map .now) in let s : c .before .size-of .result ≡ sizeAt 8 (c .before .before .before .before .before .before .before .args .arenas) (c .before .before .before .before .before .before .before .args .books .now) (c .before .before .before .before .before .before .before .args .offset) = c .before .size-of .ensures .0 ∙ ap (sizeOf 8) (c .before .before .class-at .ensures) in resize-kept 8 (c .before .before .before .before .before .before .before .args .arenas) (c .before .before .before .before .before .before .before .args .pools) h (c .before .before .before .before .before .before .before .args .offset) (c .before .before .before .before .before .before .before .args .n) (ap (λ (x : ℕ). keeps x (c .before .before .before .before .before .before .before .args .n)) (sym s) ∙ c .if1 .taken)
 
--- src/moves.rt:86:9
 ask-step-requires : tie.Need-ask-step-requires
 ask-step-requires c κs = search needs
 
--- src/moves.rt:88:9
 same-length-2 : tie.Need-same-length-2
 same-length-2 c = search needs
 
--- src/moves.rt:88:9
 same-length-3 : tie.Need-same-length-3
 same-length-3 c = search needs
 
--- src/moves.rt:88:9
 same-length-4 : tie.Need-same-length-4
 same-length-4 c = search needs
 
--- src/moves.rt:88:9
 returns-2 : tie.Need-returns-2
 returns-2 c = let h = heapOf (c .before .before .before .before .before .before .before .before .before .before .before .before .before .before .before .before .before .before .before .args .memory .now) (c .before .before .before .before .before .before .before .before .before .before .before .before .before .before .before .before .before .before .before .args .books .now) (c .before .before .before .before .before .before .before .before .before .before .before .before .before .before .before .before .before .before .before .args .map .now) in let s : c .before .before .before .before .before .before .before .before .before .before .before .before .before .size-of .result ≡ sizeAt 8 (c .before .before .before .before .before .before .before .before .before .before .before .before .before .before .before .before .before .before .before .args .arenas) (c .before .before .before .before .before .before .before .before .before .before .before .before .before .before .before .before .before .before .before .args .books .now) (c .before .before .before .before .before .before .before .before .before .before .before .before .before .before .before .before .before .before .before .args .offset) = c .before .before .before .before .before .before .before .before .before .before .before .before .before .size-of .ensures .0 ∙ ap (sizeOf 8) (c .before .before .before .before .before .before .before .before .before .before .before .before .before .before .class-at .ensures) in moved-refused 8 (c .before .before .before .before .before .before .before .before .before .before .before .before .before .before .before .before .before .before .before .args .arenas) (c .before .before .before .before .before .before .before .before .before .before .before .before .before .before .before .before .before .before .before .args .pools) (c .before .before .before .before .before .before .before .before .before .before .before .before .before .before .before .before .before .before .before .args .offset) (min (c .before .before .before .before .before .before .before .before .before .before .before .before .before .before .before .before .before .before .before .args .n) (sizeAt 8 (c .before .before .before .before .before .before .before .before .before .before .before .before .before .before .before .before .before .before .before .args .arenas) (c .before .before .before .before .before .before .before .before .before .before .before .before .before .before .before .before .before .before .before .args .books .now) (c .before .before .before .before .before .before .before .before .before .before .before .before .before .before .before .before .before .before .before .args .offset))) (c .before .before .before .before .before .before .before .before .ask-step .result) (heapOf (c .before .before .before .before .before .before .before .before .ask-step .last .0) (c .before .before .before .before .before .before .before .before .ask-step .last .1 .0) (c .before .before .before .before .before .before .before .before .ask-step .last .1 .1 .0)) (c .if2 .taken) ∙ ap (moved 8 (c .before .before .before .before .before .before .before .before .before .before .before .before .before .before .before .before .before .before .before .args .arenas) (c .before .before .before .before .before .before .before .before .before .before .before .before .before .before .before .before .before .before .before .args .pools) (c .before .before .before .before .before .before .before .before .before .before .before .before .before .before .before .before .before .before .before .args .offset) (min (c .before .before .before .before .before .before .before .before .before .before .before .before .before .before .before .before .before .before .before .args .n) (sizeAt 8 (c .before .before .before .before .before .before .before .before .before .before .before .before .before .before .before .before .before .before .before .args .arenas) (c .before .before .before .before .before .before .before .before .before .before .before .before .before .before .before .before .before .before .before .args .books .now) (c .before .before .before .before .before .before .before .before .before .before .before .before .before .before .before .before .before .before .before .args .offset)))) (c .before .before .before .before .before .before .before .before .ask-step .ensures) ∙ resize-moved 8 (c .before .before .before .before .before .before .before .before .before .before .before .before .before .before .before .before .before .before .before .args .arenas) (c .before .before .before .before .before .before .before .before .before .before .before .before .before .before .before .before .before .before .before .args .pools) h (c .before .before .before .before .before .before .before .before .before .before .before .before .before .before .before .before .before .before .before .args .offset) (c .before .before .before .before .before .before .before .before .before .before .before .before .before .before .before .before .before .before .before .args .n) (ap (λ (x : ℕ). keeps x (c .before .before .before .before .before .before .before .before .before .before .before .before .before .before .before .before .before .before .before .args .n)) (sym s) ∙ c .before .before .before .before .before .before .before .before .before .before .before .before .if1 .left)
 
--- src/moves.rt:90:14
 cast-to : tie.Need-cast-to
 cast-to c = search needs
 
--- src/moves.rt:91:63
 least-requires : tie.Need-least-requires
 least-requires c κs = search needs
 
--- src/moves.rt:91:5
 move-block-requires : tie.Need-move-block-requires
 move-block-requires c κs = let h = heapOf (c .before .before .before .before .before .before .before .before .before .before .before .before .before .before .before .before .before .before .before .before .before .before .before .before .args .memory .now) (c .before .before .before .before .before .before .before .before .before .before .before .before .before .before .before .before .before .before .before .before .before .before .before .before .args .books .now) (c .before .before .before .before .before .before .before .before .before .before .before .before .before .before .before .before .before .before .before .before .before .before .before .before .args .map .now) in let s : c .before .before .before .before .before .before .before .before .before .before .before .before .before .before .before .before .before .before .size-of .result ≡ sizeAt 8 (c .before .before .before .before .before .before .before .before .before .before .before .before .before .before .before .before .before .before .before .before .before .before .before .before .args .arenas) (c .before .before .before .before .before .before .before .before .before .before .before .before .before .before .before .before .before .before .before .before .before .before .before .before .args .books .now) (c .before .before .before .before .before .before .before .before .before .before .before .before .before .before .before .before .before .before .before .before .before .before .before .before .args .offset) = c .before .before .before .before .before .before .before .before .before .before .before .before .before .before .before .before .before .before .size-of .ensures .0 ∙ ap (sizeOf 8) (c .before .before .before .before .before .before .before .before .before .before .before .before .before .before .before .before .before .before .before .class-at .ensures) in
     let done = ap (λ (x : Outcome). x .answer .number) (c .before .before .before .before .before .before .before .before .before .before .before .before .before .ask-step .ensures) in
@@ -88,19 +67,15 @@ move-block-requires c κs = let h = heapOf (c .before .before .before .before .b
       omega (arith, w .new-inside),
     )
 
--- src/moves.rt:76:1
 same-length-5 : tie.Need-same-length-5
 same-length-5 c = search needs
 
--- src/moves.rt:76:1
 same-length-6 : tie.Need-same-length-6
 same-length-6 c = search needs
 
--- src/moves.rt:76:1
 same-length-7 : tie.Need-same-length-7
 same-length-7 c = search needs
 
--- src/moves.rt:76:1
 returns-3 : tie.Need-returns-3
 returns-3 c = let h = heapOf (c .before .before .before .before .before .before .before .before .before .before .before .before .before .before .before .before .before .before .before .before .before .before .before .before .before .before .before .before .before .before .before .args .memory .now) (c .before .before .before .before .before .before .before .before .before .before .before .before .before .before .before .before .before .before .before .before .before .before .before .before .before .before .before .before .before .before .before .args .books .now) (c .before .before .before .before .before .before .before .before .before .before .before .before .before .before .before .before .before .before .before .before .before .before .before .before .before .before .before .before .before .before .before .args .map .now) in let s : c .before .before .before .before .before .before .before .before .before .before .before .before .before .before .before .before .before .before .before .before .before .before .before .before .before .size-of .result ≡ sizeAt 8 (c .before .before .before .before .before .before .before .before .before .before .before .before .before .before .before .before .before .before .before .before .before .before .before .before .before .before .before .before .before .before .before .args .arenas) (c .before .before .before .before .before .before .before .before .before .before .before .before .before .before .before .before .before .before .before .before .before .before .before .before .before .before .before .before .before .before .before .args .books .now) (c .before .before .before .before .before .before .before .before .before .before .before .before .before .before .before .before .before .before .before .before .before .before .before .before .before .before .before .before .before .before .before .args .offset) = c .before .before .before .before .before .before .before .before .before .before .before .before .before .before .before .before .before .before .before .before .before .before .before .before .before .size-of .ensures .0 ∙ ap (sizeOf 8) (c .before .before .before .before .before .before .before .before .before .before .before .before .before .before .before .before .before .before .before .before .before .before .before .before .before .before .class-at .ensures) in
     c .before .before .before .before .before .before .move-block .ensures
