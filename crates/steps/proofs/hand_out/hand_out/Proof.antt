@@ -1,5 +1,6 @@
 -- `steps::hand_out::hand_out` sets the bit of a block whose start passes the test, and answers its offset.
 -- Assumes nothing.
+use mathlib.Core.Path.{refl}
 use borrow.Author.Needs.{needs}
 use Rattle.steps.specs.HandOut.{starts}
 use Rattle.steps.proofs.hand_out.hand_out.Statement.{statement}
@@ -24,7 +25,7 @@ same-length : tie.Need-same-length
 same-length c = search needs
 
 returns : tie.Need-returns
-returns c = (cc, cc)
+returns c = (refl, simp (c .before .before .set-bit .ensures, c .before .before .before .block-no .ensures .0))
 
 pub hand-out-spec : {M : Type 1} → statement M
 hand-out-spec =
