@@ -38,3 +38,6 @@ pub const NEXTOFFSET: usize = 5;
 pub const MAXNEXTOFFSET: usize = 6;
 
 pub const SPARE: usize = 7;
+
+// The class of a pool that has none.
+pub const NO_CLASS: u32 = 65535;

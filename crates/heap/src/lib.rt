@@ -16,6 +16,7 @@ use rules::Answer;
 use rules::Rolled;
 use rules::Sized;
 use steps::hand_out::ask_step;
+use steps::hand_out::refuse;
 use steps::moves::resize_step;
 use steps::put_back::back_step;
 ghost use mathlib.Core.Path.{_≡_};
@@ -28,13 +29,6 @@ ghost use Rattle.rules.specs.Outcome.{heapOf, outcome};
 ghost use Rattle.rules.specs.Numbers as N;
 ghost use Rattle.rules.specs.Numbers.{inOrder, shapeNumber, sizeNumber, offsetNumber};
 ghost use Rattle.heap.specs.Order.{Askable, Passed, viewAt};
-
-// A refusal: the number, and offset 0.
-fn refuse(number: u32) -> Answer
-    ensures { λ r. ⌜ r ≡ record { number = number; offset = 0 } ⌝ }
-{
-    Answer { number, offset: 0 }
-}
 
 // Format: all books and map are written, and no memory.
 pub fn format(
@@ -196,7 +190,8 @@ pub fn write(memory: &mut [u8], books: &[u32], map: &[u64], offset: usize, text:
     if number != 0 {
         return refuse(number);
     }
-    if block_size(books, offset) < text.len() {
+    let size = block_size(books, offset);
+    if size < text.len() {
         return refuse(7);
     }
     copy_in(memory, offset, text);

@@ -2,6 +2,7 @@
 use books::blocks::LAST_CLASS;
 use books::blocks::class_at;
 use books::blocks::size_of;
+use books::words::NO_CLASS;
 use books::words::RECORDS;
 use books::words::UNUSED_HEAD;
 ghost use mathlib.Core.Path.{_≡_};
@@ -56,7 +57,7 @@ fn fresh_pools(books: &mut [u32], at: usize, n: usize)
     requires { ⌜ at + 8 * n ≤ length (now books) ⌝ }
     ensures { λ _. ⌜ now (books .exit) ≡ sets (now (books .entry)) at (freshPools n) ⌝ }
 {
-    let fresh = [0, 0, 0, 0, 65535, 0, 0, 0];
+    let fresh = [0, 0, 0, 0, NO_CLASS, 0, 0, 0];
     for i in 0..n {
         put_words(books, at + 8 * i, &fresh);
     }

@@ -1,4 +1,5 @@
 // The writes of an ask, in the order of the rules: a function for each part of a path.
+use crate::lists::leave;
 use bits::set_bit;
 use books::blocks::block_no;
 use books::blocks::class_of;
@@ -17,6 +18,7 @@ use books::words::CLASS_HEADS;
 use books::words::FREE_POOLS;
 use books::words::FREED_HEAD;
 use books::words::NEXT;
+use books::words::NO_CLASS;
 use books::words::OPEN;
 use books::words::RECORDS;
 use books::words::UNUSED_HEAD;
@@ -41,11 +43,8 @@ ghost use Rattle.plans.specs.Class.{Class};
 ghost use Rattle.plans.specs.Fits.{Links, FitsSource, FitsAsk};
 ghost use Rattle.steps.specs.HandOut.{Writes, opened, Spends};
 
-// The class of a pool that has none.
-const NO_CLASS: u32 = 65535;
-
-// A refusal with this number.
-fn refuse(number: u32) -> Answer
+// A refusal: the number, and offset 0.
+pub fn refuse(number: u32) -> Answer
     ensures { λ r. ⌜ r ≡ answerOf number 0 ⌝ }
 {
     Answer { number, offset: 0 }
@@ -128,26 +127,13 @@ fn carve(books: &mut [u32], arenas: usize, a: usize, p: usize)
     books[mark] += 1;
 }
 
-// Arena a leaves the list of that head.
-fn arena_leaves(books: &mut [u32], head: usize, a: usize)
-    requires { ⌜ (head < length (now books)) × Within arenaLinks (length (now books)) (linkTo a)
-        × Within arenaLinks (length (now books)) (at (now books) (nextAt arenaLinks a))
-        × Within arenaLinks (length (now books)) (at (now books) (previousAt arenaLinks a)) ⌝ }
-    ensures { λ _. ⌜ now (books .exit) ≡ leave arenaLinks head a (now (books .entry)) ⌝ }
-{
-    let at = ARENA_LINKS + 8 * a;
-    let next = books[at];
-    let previous = books[at + 1];
-    leave_by(books, ARENA_LINKS, head, next, previous, a);
-}
-
 // The unused arena a is opened, where no arena is usable: it changes lists, and has all its pools free and none carved or freed.
 fn open_arena(books: &mut [u32], arenas: usize, pools: usize, a: usize)
     requires { ⌜ (a < arenas) × (arenas ≤ 16) × (pools ≤ 64) × (72 + 8 * arenas ≤ length (now books))
         × Links arenas arenaLinks a (now books) × (at (now books) usableHead ≡ 0) ⌝ }
     ensures { λ _. ⌜ Writes (opened pools a) (now (books .entry)) (now (books .exit)) ⌝ }
 {
-    arena_leaves(books, UNUSED_HEAD, a);
+    leave(books, arenas, ARENA_LINKS, UNUSED_HEAD, a);
     join_by(books, ARENA_LINKS, USABLE_HEAD, 0, a);
     let at = RECORDS + 8 * a;
     books[at + OPEN] = 1;
@@ -187,7 +173,7 @@ fn spend(books: &mut [u32], arenas: usize, a: usize)
     let free = books[at] - 1;
     books[at] = free;
     if free == 0 {
-        arena_leaves(books, USABLE_HEAD, a);
+        leave(books, arenas, ARENA_LINKS, USABLE_HEAD, a);
     }
 }
 

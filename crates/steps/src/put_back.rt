@@ -1,11 +1,11 @@
 // The writes of a give-back: the block, then its pool's list, then its arena's.
+use crate::lists::join;
+use crate::lists::leave;
 use bits::clear_bit;
 use books::blocks::block_no;
 use books::blocks::class_at;
 use books::blocks::size_of;
 use books::links::put_link;
-use books::lists::join_by;
-use books::lists::leave_by;
 use books::lists::link_to;
 use books::lists::pool_links;
 use books::pool::load_pool;
@@ -31,7 +31,6 @@ ghost use Prim.Native.Nat.{_+_, _*_, _-_, _/_, _%_, _<_, _≤_};
 ghost use lib.ListN.{length};
 ghost use Rattle.rules.specs.Books.{at, booksLength, unusedHead, usableHead, freePools, arena, count, poolWord, pool};
 ghost use Rattle.rules.specs.Blocks.{isStart, classAt};
-ghost use Rattle.rules.specs.Lists as L;
 ghost use Rattle.rules.specs.Lists.{arenaLinks, poolLinks};
 ghost use Rattle.rules.specs.Outcome.{heapOf, outcome};
 ghost use Rattle.rules.specs.GiveBack.{takeBack, afterBack, givenBack, backStep};
@@ -62,25 +61,6 @@ fn take_back(
     store_pool(books, arenas, p, q.give(f as u32));
     put_link(memory, 4096 * p + f, q.freeblock);
     clear_bit(map, p, block_no(size, f));
-}
-
-// Member n leaves the list of that head; links lead at most to `most` members.
-fn leave(books: &mut [u32], most: usize, base: usize, head: usize, n: usize)
-    requires { ⌜ (n < most) × (base + 8 * most ≤ length (now books) + 6) × (head < length (now books)) × Links most base n (now books) ⌝ }
-    ensures { λ _. ⌜ now (books .exit) ≡ L.leave base head n (now (books .entry)) ⌝ }
-{
-    let next = books[base + 8 * n];
-    let previous = books[base + 8 * n + 1];
-    leave_by(books, base, head, next, previous, n);
-}
-
-// Member n joins the list of that head at the front.
-fn join(books: &mut [u32], most: usize, base: usize, head: usize, n: usize)
-    requires { ⌜ (n < most) × (most ≤ 1024) × (base + 8 * most ≤ length (now books) + 6) × (head < length (now books)) × (at (now books) head ≤ most) ⌝ }
-    ensures { λ _. ⌜ now (books .exit) ≡ L.join base head n (now (books .entry)) ⌝ }
-{
-    let old = books[head];
-    join_by(books, base, head, old, n);
 }
 
 // Pool p goes to the front of arena a's freed pools.

@@ -7,8 +7,8 @@ use Rattle.steps.specs.HandOut.{usable-stays}
 use Rattle.steps.proofs.hand_out.open_arena.Statement.{statement}
 use Rattle.steps.proofs.hand_out.open_arena.Tie as tie
 
-arena-leaves-requires : tie.Need-arena-leaves-requires
-arena-leaves-requires c κs = search needs
+leave-requires : tie.Need-leave-requires
+leave-requires c κs = search needs
 
 join-by-requires : tie.Need-join-by-requires
 join-by-requires c κs = search needs
@@ -59,16 +59,16 @@ slice-write-books-4 : tie.Need-slice-write-books-4
 slice-write-books-4 c = simp length-set (omega arith)
 
 same-length : tie.Need-same-length
-same-length c = simp (length-set, c .before .before .join-by .kept .0, c .before .before .before .before .before .before .arena-leaves .kept .0)
+same-length c = simp (length-set, c .before .before .join-by .kept .0, c .before .before .before .before .before .before .leave .kept .0)
 
 returns : tie.Need-returns
-returns c = record { same = λ m k. simp (c .before .before .join-by .ensures, c .before .before .before .before .before .before .arena-leaves .ensures, usable-stays, c .before .before .before .before .before .before .before .before .before .pre .5) }
+returns c = record { same = λ m k. simp (c .before .before .join-by .ensures, c .before .before .before .before .before .before .leave .ensures, usable-stays, c .before .before .before .before .before .before .before .before .before .pre .5) }
 
 pub open-arena-spec : {M : Type 1} → statement M
 open-arena-spec =
     tie.close
     (tie.spec
-    arena-leaves-requires
+    leave-requires
     join-by-requires
     mul-at
     add-at

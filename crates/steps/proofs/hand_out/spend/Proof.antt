@@ -35,21 +35,21 @@ mul-books c = search needs
 slice-write-books : tie.Need-slice-write-books
 slice-write-books c = search needs
 
-arena-leaves-requires : tie.Need-arena-leaves-requires
-arena-leaves-requires c κs =
+leave-requires : tie.Need-leave-requires
+leave-requires c κs =
     let start = c .before .before .before .before in
     let a = start .args in
     let l = spend-links (a .arenas) (a .a) (a .books .now) (omega arith) (start .pre .2 .links (omega arith)) in
     simp length-set (omega arith)
 
 same-length : tie.Need-same-length
-same-length c = simp (length-set, c .before .before .arena-leaves .kept .0)
+same-length c = simp (length-set, c .before .before .leave .kept .0)
 
 returns : tie.Need-returns
 returns c P class =
     let a = c .before .before .before .before .before .before .before .args in
     let left = spend-leaves (a .arenas) (a .a) (a .books .now) (omega arith) P class (omega arith) in
-    record { same = λ m k. ap (λ (x : List ℕ). heapOf m x k) (c .before .before .arena-leaves .ensures) ∙ left .same m k }
+    record { same = λ m k. ap (λ (x : List ℕ). heapOf m x k) (c .before .before .leave .ensures) ∙ left .same m k }
 
 same-length-2 : tie.Need-same-length-2
 same-length-2 c = search needs
@@ -71,7 +71,7 @@ spend-spec =
     sub-free
     mul-books
     slice-write-books
-    arena-leaves-requires
+    leave-requires
     same-length
     returns
     same-length-2
