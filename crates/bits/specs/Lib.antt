@@ -1,0 +1,3 @@
+-- The laws of bits and of the live map.
+pub mod Bit
+pub mod Map

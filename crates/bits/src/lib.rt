@@ -1,0 +1,32 @@
+// The live map: a 64-bit word for each 64 blocks of a pool, eight words for each pool, and one block's bit by shift and mask.
+ghost use mathlib.Core.Path.{_≡_};
+ghost use Prim.Native.Nat.{_+_, _*_, _<_, _≤_};
+ghost use lib.ListN.{length};
+ghost use Rattle.rules.specs.Books.{isSet, putMapBit};
+
+// Block k of the pool is live.
+pub fn is_set(map: &[u64], pool: usize, k: usize) -> bool
+    requires { ⌜ (k < 512) × (8 * pool + 8 ≤ length (now map)) ⌝ }
+    ensures { λ r. ⌜ r ≡ isSet (now (map .entry)) pool k ⌝ }
+{
+    let word = 8 * pool + k / 64;
+    (map[word] >> (k % 64)) & 1 == 1
+}
+
+// Block k of the pool becomes live.
+pub fn set_bit(map: &mut [u64], pool: usize, k: usize)
+    requires { ⌜ (k < 512) × (8 * pool + 8 ≤ length (now map)) ⌝ }
+    ensures { λ _. ⌜ now (map .exit) ≡ putMapBit pool k 1 (now (map .entry)) ⌝ }
+{
+    let word = 8 * pool + k / 64;
+    map[word] |= 1 << (k % 64);
+}
+
+// Block k of the pool is live no more.
+pub fn clear_bit(map: &mut [u64], pool: usize, k: usize)
+    requires { ⌜ (k < 512) × (8 * pool + 8 ≤ length (now map)) ⌝ }
+    ensures { λ _. ⌜ now (map .exit) ≡ putMapBit pool k 0 (now (map .entry)) ⌝ }
+{
+    let word = 8 * pool + k / 64;
+    map[word] &= !(1 << (k % 64));
+}

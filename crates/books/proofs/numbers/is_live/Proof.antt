@@ -1,0 +1,90 @@
+-- `books::numbers::is_live` answers the four tests of a live offset in turn: the first that fails decides, and the map bit is the last.
+-- Assumes nothing.
+use mathlib.Core.Path.{_≡_, sym, _∙_}
+use mathlib.Core.Bool.{true, false}
+use borrow.Author.Tests.{not-true, not-false, lt-ltb, le-ltb, lt-leb, le-leb}
+use Prim.Native.Nat.{_%_}
+use Rattle.rules.specs.Blocks.{isStart, live}
+use borrow.Author.Needs.{needs}
+use Rattle.books.proofs.numbers.is_live.Statement.{statement}
+use Rattle.books.proofs.numbers.is_live.Tie as tie
+
+mul-if1 : tie.Need-mul-if1
+mul-if1 c = search needs
+
+mul-if1-2 : tie.Need-mul-if1-2
+mul-if1-2 c = search needs
+
+returns : tie.Need-returns
+unfolding live
+returns c = simp (le-ltb _ _ (c .if1 .taken))
+
+class-at-requires : tie.Need-class-at-requires
+class-at-requires c κs = search needs
+
+returns-2 : tie.Need-returns-2
+unfolding live
+returns-2 c =
+    simp (
+      lt-ltb _ _ (c .before .before .if1 .left),
+      ← c .before .class-at .ensures,
+      lt-leb _ _ (c .if2 .taken),
+    )
+
+size-of-requires : tie.Need-size-of-requires
+size-of-requires c κs = search needs
+
+is-start-requires : tie.Need-is-start-requires
+is-start-requires c κs = search needs
+
+returns-3 : tie.Need-returns-3
+unfolding live
+returns-3 c =
+    let e : isStart (c .before .before .size-of .result) (c .before .before .before .before .before .before .before .before .args .offset % 4096) ≡ false =
+    sym (c .before .is-start .ensures) ∙ not-true (c .before .is-start .result) (c .if3 .taken) in
+    simp (
+      lt-ltb _ _ (c .before .before .before .before .before .if1 .left),
+      ← c .before .before .before .before .class-at .ensures,
+      le-leb _ _ (c .before .before .before .if2 .left),
+      ← c .before .before .size-of .ensures .0,
+      e,
+    )
+
+block-no-requires : tie.Need-block-no-requires
+block-no-requires c κs =
+    let s = c .before .before .size-of .ensures in
+    (s .1, s .2, sym (c .before .is-start .ensures) ∙ not-false (c .before .is-start .result) (c .if3 .left))
+
+is-set-requires : tie.Need-is-set-requires
+is-set-requires c κs = search needs
+
+returns-4 : tie.Need-returns-4
+unfolding live
+returns-4 c =
+    let e : isStart (c .before .before .before .before .size-of .result) (c .before .before .before .before .before .before .before .before .before .before .args .offset % 4096) ≡ true =
+    sym (c .before .before .before .is-start .ensures) ∙ not-false (c .before .before .before .is-start .result) (c .before .before .if3 .left) in
+    simp (
+      lt-ltb _ _ (c .before .before .before .before .before .before .before .if1 .left),
+      ← c .before .before .before .before .before .before .class-at .ensures,
+      le-leb _ _ (c .before .before .before .before .before .if2 .left),
+      ← c .before .before .before .before .size-of .ensures .0,
+      e,
+      ← c .before .block-no .ensures .0,
+    )
+    (c .is-set .ensures)
+
+pub is-live-spec : {M : Type 1} → statement M
+is-live-spec =
+    tie.close
+    (tie.spec
+    mul-if1
+    mul-if1-2
+    returns
+    class-at-requires
+    returns-2
+    size-of-requires
+    is-start-requires
+    returns-3
+    block-no-requires
+    is-set-requires
+    returns-4)

@@ -1,0 +1,103 @@
+-- What is known of a heap, and of an offset, once the tests of 01's numbers let them pass.
+-- Assumes nothing.
+use mathlib.Core.Path.{_≡_}
+use mathlib.Core.Bool.{true, _&&_}
+use mathlib.Core.List.{List}
+use Prim.Native.Nat.{ℕ, _+_, _*_, _/_, _%_, _≤_, _<_}
+use native.Mathlib.Nat.{mul-le-mul, mul-le-mul-left, mul-div-le, mul-add, mul-one}
+use native.Mathlib.Omega.{arith}
+use lib.Dec.{leb, ltb, eqb}
+use lib.ListN.{length}
+use borrow.Author.Tests.{leb-true, ltb-true, eqb-true}
+use Rattle.rules.specs.Books.{Heap, inRange, exact, memoryLength, booksLength, mapLength, isSet}
+use Rattle.rules.specs.Blocks.{lastClass, isStart, blockNo, classAt, sizeAt, live}
+use Rattle.books.specs.Tests.{both}
+use Rattle.books.specs.Starts.{Start, start}
+
+-- ---- 1 and 2
+-- what is known of A and P, and of the lengths of memory, books and map
+pub record Shaped (A P m b k : ℕ) : Type 0 where
+  pub arenas-low : 1 ≤ A
+  pub arenas-high : A ≤ 16
+  pub pools-low : 2 ≤ P
+  pub pools-high : P ≤ 64
+  pub all : A * P ≤ 1024
+  pub memory : m ≡ memoryLength A P
+  pub books : b ≡ booksLength A P
+  pub map : k ≡ mapLength A P
+
+-- what the tests of A and P say
+pub in-range : (A P : ℕ) → inRange A P ≡ true → (1 ≤ A) × (A ≤ 16) × (2 ≤ P) × (P ≤ 64) × (A * P ≤ 1024)
+unfolding inRange
+in-range A P e =
+    let t = both (leb 1 A && leb A 16 && leb 2 P) (leb P 64) e in
+    let u = both (leb 1 A && leb A 16) (leb 2 P) (t .0) in
+    let v = both (leb 1 A) (leb A 16) (u .0) in
+    let a : A ≤ 16 = leb-true A 16 (v .1) in
+    let p : P ≤ 64 = leb-true P 64 (t .1) in
+    (leb-true 1 A (v .0), a, leb-true 2 P (u .1), p, mul-le-mul a p)
+
+-- what those and the tests of the lengths say
+pub shaped : (h : Heap) (A P : ℕ) → inRange A P ≡ true → exact A P h ≡ true
+    → Shaped A P (length (h .memory)) (length (h .books)) (length (h .map))
+unfolding exact
+shaped h A P e f =
+    let r = in-range A P e in
+    let m = eqb (length (h .memory)) (memoryLength A P) in
+    let b = eqb (length (h .books)) (booksLength A P) in
+    let t = both (m && b) (eqb (length (h .map)) (mapLength A P)) f in
+    let u = both m b (t .0) in
+    record {
+      arenas-low = r .0;
+      arenas-high = r .1;
+      pools-low = r .2;
+      pools-high = r .3;
+      all = r .4;
+      memory = eqb-true (length (h .memory)) (memoryLength A P) (u .0);
+      books = eqb-true (length (h .books)) (booksLength A P) (u .1);
+      map = eqb-true (length (h .map)) (mapLength A P) (t .1);
+    }
+
+-- ---- 5
+-- what is known of a live offset, at the alignment al
+pub record LiveBlock (al A P : ℕ) (b m : List ℕ) (o : ℕ) : Type 0 where
+  pub inside : o < memoryLength A P
+  pub pool : o / 4096 < A * P
+  pub class : classAt A b o ≤ lastClass al
+  pub starts : isStart (sizeAt al A b o) (o % 4096) ≡ true
+  pub start : Start (sizeAt al A b o) (o % 4096)
+  pub ends : o + sizeAt al A b o ≤ memoryLength A P
+  pub set : isSet m (o / 4096) (blockNo (sizeAt al A b o) (o % 4096)) ≡ true
+
+-- the size of a class is at least the alignment, and not far above the largest
+size-low : (al c : ℕ) → al ≤ al * (c + 1)
+size-low al c = omega (arith, mul-add al c 1, mul-one al)
+
+size-high : (al c : ℕ) → c ≤ lastClass al → al * (c + 1) ≤ 511 + al
+size-high al c h = omega (arith, mul-add al c 1, mul-one al, mul-le-mul-left al h, mul-div-le 511 al)
+
+-- what the live test says
+pub live-is : (al A P : ℕ) (b m : List ℕ) (o : ℕ) → 8 ≤ al → al ≤ 512 → live al A P b m o ≡ true → LiveBlock al A P b m o
+unfolding live
+live-is al A P b m o l h e =
+    let s = sizeAt al A b o in
+    let p = ltb o (memoryLength A P) in
+    let q = leb (classAt A b o) (lastClass al) in
+    let r = isStart s (o % 4096) in
+    let t = both (p && q && r) (isSet m (o / 4096) (blockNo s (o % 4096))) e in
+    let u = both (p && q) r (t .0) in
+    let v = both p q (u .0) in
+    let inside : o < memoryLength A P = ltb-true o (memoryLength A P) (v .0) in
+    let class : classAt A b o ≤ lastClass al = leb-true (classAt A b o) (lastClass al) (v .1) in
+    let low = size-low al (classAt A b o) in
+    let high = size-high al (classAt A b o) class in
+    let begins : Start s (o % 4096) = start s (o % 4096) (omega arith) (omega arith) (u .1) in
+    record {
+      inside = inside;
+      pool = omega arith;
+      class = class;
+      starts = u .1;
+      start = begins;
+      ends = omega arith;
+      set = t .1;
+    }

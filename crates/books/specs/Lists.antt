@@ -1,0 +1,88 @@
+-- The laws of leaving and joining a list in the books: the words that they read, and those that they leave as they are.
+-- Assumes nothing.
+use mathlib.Core.Path.{_≡_, refl, ap₂, ap, _∙_}
+use mathlib.Core.Logic.{_≢_}
+use mathlib.Core.Bool.{Bool, true, false}
+use mathlib.Core.List.{List}
+use Prim.Native.Nat.{ℕ, _+_, _*_, _≤_, _<_}
+use native.Mathlib.Omega.{arith}
+use lib.ListN.{length, getD, length-set}
+use lib.Seq.{getD-set-other}
+use Rattle.rules.specs.Say.{if_then_else_, only}
+use Rattle.rules.specs.Books.{at, put, arenaWord, arena, poolNext, poolPrevious, poolWord, pool, none?, linked}
+use Rattle.rules.specs.Lists.{nextAt, previousAt, leaveBy, joinBy, leave, join, arenaLinks, poolLinks}
+
+-- the record that a link leads to, if any, has its next and previous words inside books of that many words
+abbrev pub Within : ℕ → ℕ → ℕ → Type 0
+Within base words link = base + 8 * link ≤ words + 6
+
+-- ---- the length stays
+length-only : (t : Bool) (i v : ℕ) (b : List ℕ) → length (only t (put i v) b) ≡ length b
+length-only true i v b = length-set b i v
+length-only false i v b = refl
+
+pub length-leaveBy : (base head next previous n : ℕ) (b : List ℕ) → length (leaveBy base head next previous n b) ≡ length b
+unfolding leaveBy
+length-leaveBy base head next previous n b = simp (length-set, length-only)
+
+pub length-joinBy : (base head old n : ℕ) (b : List ℕ) → length (joinBy base head old n b) ≡ length b
+unfolding joinBy
+length-joinBy base head old n b = simp (length-set, length-only)
+
+-- ---- the words that they read, given
+pub leave-reads : (base head next previous n : ℕ) (b : List ℕ) → at b (nextAt base n) ≡ next → at b (previousAt base n) ≡ previous
+    → leave base head n b ≡ leaveBy base head next previous n b
+leave-reads base head next previous n b e f = ap₂ (λ (x y : ℕ). leaveBy base head x y n b) e f
+
+pub join-reads : (base head old n : ℕ) (b : List ℕ) → at b head ≡ old → join base head n b ≡ joinBy base head old n b
+join-reads base head old n b e = ap (λ (x : ℕ). joinBy base head x n b) e
+
+-- the same of pool n, whose two words are those of its record
+pub pool-leaves : (A head next previous n : ℕ) (b : List ℕ) → pool A b poolNext n ≡ next → pool A b poolPrevious n ≡ previous
+    → leave (poolLinks A) head n b ≡ leaveBy (poolLinks A) head next previous n b
+pool-leaves A head next previous n b e f =
+    leave-reads (poolLinks A) head next previous n b (ap (at b) (omega arith) ∙ e) (ap (at b) (omega arith) ∙ f)
+
+-- ---- a word that they don't write stays
+only-keeps : (t : Bool) (i v : ℕ) (b : List ℕ) (j d : ℕ) → j ≢ i → getD (only t (put i v) b) j d ≡ getD b j d
+only-keeps true i v b j d h = getD-set-other b i j v d h
+only-keeps false i v b j d h = refl
+
+neither : (t : Bool) (j x y : ℕ) → j ≢ x → j ≢ y → j ≢ (if t then x else y)
+neither true j x y h k = h
+neither false j x y h k = k
+
+pub leave-keeps : (base head next previous n : ℕ) (b : List ℕ) (j : ℕ)
+    → (j ≢ head) × (j ≢ nextAt base (linked previous)) × (j ≢ previousAt base (linked next)) × (j ≢ nextAt base n) × (j ≢ previousAt base n)
+    → at (leaveBy base head next previous n b) j ≡ at b j
+unfolding leaveBy
+leave-keeps base head next previous n b j h =
+    simp (
+      getD-set-other,
+      only-keeps,
+      neither (none? previous) j head (nextAt base (linked previous)) (h .0) (h .1),
+      h .2,
+      h .3,
+      h .4,
+    )
+
+pub join-keeps : (base head old n : ℕ) (b : List ℕ) (j : ℕ)
+    → (j ≢ head) × (j ≢ previousAt base (linked old)) × (j ≢ nextAt base n) × (j ≢ previousAt base n)
+    → at (joinBy base head old n b) j ≡ at b j
+unfolding joinBy
+join-keeps base head old n b j h = simp (getD-set-other, only-keeps, h .0, h .1, h .2, h .3)
+
+-- ---- the arenas' lists leave every word of a pool record as it is, and the pools' lists every word of an arena record
+pub arena-leave-keeps : (A head next previous a : ℕ) (b : List ℕ) (w n : ℕ) → head < 72 → a < A → next ≤ A → previous ≤ A
+    → pool A (leaveBy arenaLinks head next previous a b) w n ≡ pool A b w n
+arena-leave-keeps A head next previous a b w n h l k p =
+    leave-keeps arenaLinks head next previous a b (poolWord A w n) (omega arith)
+
+pub arena-join-keeps : (A head old a : ℕ) (b : List ℕ) (w n : ℕ) → head < 72 → a < A → old ≤ A
+    → pool A (joinBy arenaLinks head old a b) w n ≡ pool A b w n
+arena-join-keeps A head old a b w n h l k = join-keeps arenaLinks head old a b (poolWord A w n) (omega arith)
+
+pub pool-leave-keeps : (A head next previous n : ℕ) (b : List ℕ) (w a : ℕ) → head < 72 → a < A → w < 8
+    → arena (leaveBy (poolLinks A) head next previous n b) w a ≡ arena b w a
+pool-leave-keeps A head next previous n b w a h l k =
+    leave-keeps (poolLinks A) head next previous n b (arenaWord w a) (omega arith)

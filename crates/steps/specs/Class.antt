@@ -1,0 +1,18 @@
+-- What the functions of a step are told of their numbers: how many arenas and pools there are, and which size a class has.
+-- Assumes nothing.
+use mathlib.Core.Path.{_≡_}
+use Prim.Native.Nat.{ℕ, _*_, _≤_}
+use Rattle.rules.specs.Blocks.{sizeOf}
+
+-- A and P are in range
+pub record Range (A P : ℕ) : Type 0 where
+  pub arenas-low : 1 ≤ A
+  pub arenas-high : A ≤ 16
+  pub pools-low : 2 ≤ P
+  pub pools-high : P ≤ 64
+  pub all : A * P ≤ 1024
+
+-- s is the block size of class c, at the alignment of 8
+pub record Class (c s : ℕ) : Type 0 where
+  pub class : c ≤ 63
+  pub size : s ≡ sizeOf 8 c

@@ -1,0 +1,415 @@
+// The path of an ask, decided from the heap before it: a function for each part of the rules' path, under the same name.
+use crate::words::arena_word;
+use crate::words::index;
+use crate::words::may_leave;
+use crate::words::pool_word;
+use crate::words::word;
+use bits::is_set;
+use books::blocks::block_no;
+use books::blocks::is_start;
+use books::links::link_at;
+use books::lists::pool_links;
+use books::words::ARENA_LINKS;
+use books::words::CARVE_MARK;
+use books::words::CLASS;
+use books::words::CLASS_HEADS;
+use books::words::COUNT;
+use books::words::FREE_POOLS;
+use books::words::FREEBLOCK;
+use books::words::FREED_HEAD;
+use books::words::MAXNEXTOFFSET;
+use books::words::NEXT;
+use books::words::NEXTOFFSET;
+use books::words::UNUSED_HEAD;
+use books::words::USABLE_HEAD;
+use rules::AskPlan;
+use rules::Source;
+ghost use mathlib.Core.Path.{_≡_};
+ghost use mathlib.Core.Bool.{_&&_, _||_, not};
+ghost use Prim.Native.Nat.{_+_, _*_, _<_, _≤_};
+ghost use lib.Dec.{leb, eqb};
+ghost use lib.ListN.{length};
+ghost use Rattle.rules.specs.Say.{if_then_else_};
+ghost use Rattle.rules.specs.Books.{at, isSet, none?, usableHead, unusedHead, freePools, arena};
+ghost use Rattle.rules.specs.Blocks.{sizeOf, isStart, blockNo};
+ghost use Rattle.rules.specs.Lists.{mayLeave, arenaLinks};
+ghost use Rattle.rules.specs.Outcome.{heapOf};
+ghost use Rattle.rules.specs.Ask.{_⇛_, noLink, fromFreeblock, fromListed, setAnew, sameClass, takeAgain, counted, fromMark, fromFreed, frontOf, fromUsable, fromUnused, planAsk};
+ghost use Rattle.books.specs.Known.{Shaped};
+ghost use Rattle.steps.specs.Class.{Range, Class};
+
+// A rule of number 6 that a used word keeps, and the rest of the path.
+fn keeps(rule: bool, rest: AskPlan) -> AskPlan
+    ensures { λ r. ⌜ r ≡ (rule ⇛ rest) ⌝ }
+{
+    if rule { rest } else { AskPlan::Damaged }
+}
+
+// f is a block start of pool p, and the block is not live.
+fn spare(map: &[u64], p: usize, size: usize, f: usize) -> bool
+    requires { ⌜ (8 ≤ size) × (size ≤ 512) × (8 * p + 8 ≤ length (now map)) ⌝ }
+    ensures { λ r. ⌜ r ≡ (isStart size f && not (isSet (now (map .entry)) p (blockNo size f))) ⌝ }
+{
+    if is_start(size, f) {
+        return !is_set(map, p, block_no(size, f));
+    }
+    false
+}
+
+// A link that can become freeblock: 0, or a spare block's.
+fn follows(map: &[u64], p: usize, size: usize, l: usize) -> bool
+    requires { ⌜ (8 ≤ size) × (size ≤ 512) × (8 * p + 8 ≤ length (now map)) ⌝ }
+    ensures { λ r. ⌜ r ≡ (none? l || (isStart size l && not (isSet (now (map .entry)) p (blockNo size l)))) ⌝ }
+{
+    (l == 0) | spare(map, p, size, l)
+}
+
+// Pool p is listed, and its freeblock has no link.
+fn no_link(
+    memory: &[u8],
+    books: &[u32],
+    map: &[u64],
+    arenas: usize,
+    pools: usize,
+    class: usize,
+    size: usize,
+    p: usize,
+) -> AskPlan
+    requires { ⌜ Shaped arenas pools (length (now memory)) (length (now books)) (length (now map)) × Class class size × (p < arenas * pools) ⌝ }
+    ensures { λ r. ⌜ r ≡ noLink 8 arenas pools (heapOf (now (memory .entry)) (now (books .entry)) (now (map .entry))) class p ⌝ }
+{
+    let f = pool_word(books, arenas, FREEBLOCK, p);
+    let m = pool_word(books, arenas, NEXTOFFSET, p);
+    if m <= pool_word(books, arenas, MAXNEXTOFFSET, p) {
+        return keeps(spare(map, p, size, m), AskPlan::Ready(p, f, m));
+    }
+    keeps(
+        may_leave(books, arenas * pools, pool_links(arenas), p),
+        AskPlan::Last(p, f),
+    )
+}
+
+// The block at f of the listed pool p is spare, and l is its link.
+fn from_link(
+    memory: &[u8],
+    books: &[u32],
+    map: &[u64],
+    arenas: usize,
+    pools: usize,
+    class: usize,
+    size: usize,
+    p: usize,
+    f: usize,
+    l: usize,
+) -> AskPlan
+    requires { ⌜ Shaped arenas pools (length (now memory)) (length (now books)) (length (now map)) × Class class size × (p < arenas * pools) ⌝ }
+    ensures { λ r. ⌜ r ≡ ((none? l || (isStart size l && not (isSet (now (map .entry)) p (blockNo size l))))
+        ⇛ (if none? l then noLink 8 arenas pools (heapOf (now (memory .entry)) (now (books .entry)) (now (map .entry))) class p else AskPlan.Follow p f l)) ⌝ }
+{
+    if l == 0 {
+        return no_link(memory, books, map, arenas, pools, class, size, p);
+    }
+    keeps(spare(map, p, size, l), AskPlan::Follow(p, f, l))
+}
+
+// The freeblock of the listed pool p.
+fn from_freeblock(
+    memory: &[u8],
+    books: &[u32],
+    map: &[u64],
+    arenas: usize,
+    pools: usize,
+    class: usize,
+    size: usize,
+    p: usize,
+) -> AskPlan
+    requires { ⌜ Shaped arenas pools (length (now memory)) (length (now books)) (length (now map)) × Class class size × (p < arenas * pools) ⌝ }
+    ensures { λ r. ⌜ r ≡ fromFreeblock 8 arenas pools (heapOf (now (memory .entry)) (now (books .entry)) (now (map .entry))) class p ⌝ }
+{
+    let f = pool_word(books, arenas, FREEBLOCK, p);
+    if spare(map, p, size, f) {
+        let l = index(link_at(memory, 4096 * p + f));
+        return from_link(memory, books, map, arenas, pools, class, size, p, f, l);
+    }
+    AskPlan::Damaged
+}
+
+// The front pool p of the class list.
+fn from_listed(
+    memory: &[u8],
+    books: &[u32],
+    map: &[u64],
+    arenas: usize,
+    pools: usize,
+    class: usize,
+    size: usize,
+    p: usize,
+) -> AskPlan
+    requires { ⌜ Shaped arenas pools (length (now memory)) (length (now books)) (length (now map)) × Class class size × (p < arenas * pools) ⌝ }
+    ensures { λ r. ⌜ r ≡ fromListed 8 arenas pools (heapOf (now (memory .entry)) (now (books .entry)) (now (map .entry))) class p ⌝ }
+{
+    if pool_word(books, arenas, CLASS, p) != class {
+        return AskPlan::Damaged;
+    }
+    if pool_word(books, arenas, MAXNEXTOFFSET, p) != 4096 - size {
+        return AskPlan::Damaged;
+    }
+    if 505 < pool_word(books, arenas, COUNT, p) {
+        return AskPlan::Damaged;
+    }
+    from_freeblock(memory, books, map, arenas, pools, class, size, p)
+}
+
+// Pool p is set to the class: its blocks 0 and 1 are spare.
+fn set_anew(map: &[u64], size: usize, source: Source, p: usize) -> AskPlan
+    requires { ⌜ (8 ≤ size) × (size ≤ 512) × (8 * p + 8 ≤ length (now map)) ⌝ }
+    ensures { λ r. ⌜ r ≡ ((isStart size 48 && not (isSet (now (map .entry)) p (blockNo size 48)))
+        ⇛ (isStart size (48 + size) && not (isSet (now (map .entry)) p (blockNo size (48 + size))))
+        ⇛ AskPlan.Anew source p) ⌝ }
+{
+    keeps(
+        spare(map, p, size, 48),
+        keeps(spare(map, p, size, 48 + size), AskPlan::Anew(source, p)),
+    )
+}
+
+// Pool p is of the class already.
+fn same_class(
+    memory: &[u8],
+    books: &[u32],
+    map: &[u64],
+    arenas: usize,
+    pools: usize,
+    class: usize,
+    size: usize,
+    a: usize,
+    p: usize,
+) -> AskPlan
+    requires { ⌜ Shaped arenas pools (length (now memory)) (length (now books)) (length (now map)) × Class class size × (p < arenas * pools) ⌝ }
+    ensures { λ r. ⌜ r ≡ sameClass 8 arenas pools (heapOf (now (memory .entry)) (now (books .entry)) (now (map .entry))) class a p ⌝ }
+{
+    let f = pool_word(books, arenas, FREEBLOCK, p);
+    if spare(map, p, size, f) {
+        let l = index(link_at(memory, 4096 * p + f));
+        return keeps(follows(map, p, size, l), AskPlan::Again(a, p, f, l));
+    }
+    AskPlan::Damaged
+}
+
+// Pool p, just taken from the freed pools.
+fn take_again(
+    memory: &[u8],
+    books: &[u32],
+    map: &[u64],
+    arenas: usize,
+    pools: usize,
+    class: usize,
+    size: usize,
+    a: usize,
+    p: usize,
+) -> AskPlan
+    requires { ⌜ Shaped arenas pools (length (now memory)) (length (now books)) (length (now map)) × Class class size × (p < arenas * pools) ⌝ }
+    ensures { λ r. ⌜ r ≡ takeAgain 8 arenas pools (heapOf (now (memory .entry)) (now (books .entry)) (now (map .entry))) class a p ⌝ }
+{
+    if pool_word(books, arenas, CLASS, p) == class {
+        return same_class(memory, books, map, arenas, pools, class, size, a, p);
+    }
+    set_anew(map, size, Source::Freed(a), p)
+}
+
+// Arena a, which gives a pool, has some to give, and can leave its list if that was the last; then the rest of the path.
+fn count_free(books: &[u32], arenas: usize, pools: usize, a: usize, rest: AskPlan) -> AskPlan
+    requires { ⌜ (a < arenas) × (72 + 8 * arenas ≤ length (now books)) × (arenas ≤ 16) ⌝ }
+    ensures { λ r. ⌜ r ≡ ((leb 1 (arena (now (books .entry)) freePools a) && leb (arena (now (books .entry)) freePools a) pools)
+        ⇛ (not (eqb (arena (now (books .entry)) freePools a) 1) || mayLeave arenas arenaLinks a (now (books .entry)))
+        ⇛ rest) ⌝ }
+{
+    let free = arena_word(books, FREE_POOLS, a);
+    let leaves = (free != 1) | may_leave(books, arenas, ARENA_LINKS, a);
+    keeps((1 <= free) & (free <= pools), keeps(leaves, rest))
+}
+
+// The pool of arena a at this mark.
+fn pool_at(arenas: usize, pools: usize, a: usize, mark: usize) -> usize
+    requires { ⌜ Range arenas pools × (a < arenas) × (mark < pools) ⌝ }
+    ensures { λ r. ⌜ (r ≡ a * pools + mark) × (r < arenas * pools) ⌝ }
+{
+    a * pools + mark
+}
+
+// Arena a has no freed pool: the one at its mark is carved.
+fn from_mark(
+    memory: &[u8],
+    books: &[u32],
+    map: &[u64],
+    arenas: usize,
+    pools: usize,
+    class: usize,
+    size: usize,
+    a: usize,
+) -> AskPlan
+    requires { ⌜ Shaped arenas pools (length (now memory)) (length (now books)) (length (now map)) × Class class size × (a < arenas) ⌝ }
+    ensures { λ r. ⌜ r ≡ fromMark 8 arenas pools (heapOf (now (memory .entry)) (now (books .entry)) (now (map .entry))) class a ⌝ }
+{
+    let mark = arena_word(books, CARVE_MARK, a);
+    if mark < pools {
+        let p = pool_at(arenas, pools, a, mark);
+        return count_free(
+            books,
+            arenas,
+            pools,
+            a,
+            set_anew(map, size, Source::Carved(a), p),
+        );
+    }
+    AskPlan::Damaged
+}
+
+// Arena a's first freed pool is p.
+fn from_freed(
+    memory: &[u8],
+    books: &[u32],
+    map: &[u64],
+    arenas: usize,
+    pools: usize,
+    class: usize,
+    size: usize,
+    a: usize,
+    p: usize,
+) -> AskPlan
+    requires { ⌜ Shaped arenas pools (length (now memory)) (length (now books)) (length (now map)) × Class class size × (a < arenas) × (p < arenas * pools) ⌝ }
+    ensures { λ r. ⌜ r ≡ fromFreed 8 arenas pools (heapOf (now (memory .entry)) (now (books .entry)) (now (map .entry))) class a p ⌝ }
+{
+    let next = pool_word(books, arenas, NEXT, p);
+    let again = take_again(memory, books, map, arenas, pools, class, size, a, p);
+    keeps(
+        next <= arenas * pools,
+        count_free(books, arenas, pools, a, again),
+    )
+}
+
+// The usable front, arena a.
+fn from_usable(
+    memory: &[u8],
+    books: &[u32],
+    map: &[u64],
+    arenas: usize,
+    pools: usize,
+    class: usize,
+    size: usize,
+    a: usize,
+) -> AskPlan
+    requires { ⌜ Shaped arenas pools (length (now memory)) (length (now books)) (length (now map)) × Class class size × (a < arenas) ⌝ }
+    ensures { λ r. ⌜ r ≡ fromUsable 8 arenas pools (heapOf (now (memory .entry)) (now (books .entry)) (now (map .entry))) class a ⌝ }
+{
+    let l = arena_word(books, FREED_HEAD, a);
+    if l == 0 {
+        return from_mark(memory, books, map, arenas, pools, class, size, a);
+    }
+    if l <= arenas * pools {
+        return from_freed(memory, books, map, arenas, pools, class, size, a, l - 1);
+    }
+    AskPlan::Damaged
+}
+
+// The unused front, arena a, is opened.
+fn from_unused(
+    memory: &[u8],
+    books: &[u32],
+    map: &[u64],
+    arenas: usize,
+    pools: usize,
+    class: usize,
+    size: usize,
+    a: usize,
+) -> AskPlan
+    requires { ⌜ Shaped arenas pools (length (now memory)) (length (now books)) (length (now map)) × Class class size × (a < arenas) ⌝ }
+    ensures { λ r. ⌜ r ≡ fromUnused 8 arenas pools (heapOf (now (memory .entry)) (now (books .entry)) (now (map .entry))) class a ⌝ }
+{
+    let p = first_pool(arenas, pools, a);
+    keeps(
+        may_leave(books, arenas, ARENA_LINKS, a),
+        set_anew(map, size, Source::Opened(a), p),
+    )
+}
+
+// The first pool of arena a.
+fn first_pool(arenas: usize, pools: usize, a: usize) -> usize
+    requires { ⌜ Range arenas pools × (a < arenas) ⌝ }
+    ensures { λ r. ⌜ (r ≡ a * pools) × (r < arenas * pools) ⌝ }
+{
+    a * pools
+}
+
+// The class list and the usable list are empty.
+fn plan_unused(
+    memory: &[u8],
+    books: &[u32],
+    map: &[u64],
+    arenas: usize,
+    pools: usize,
+    class: usize,
+    size: usize,
+) -> AskPlan
+    requires { ⌜ Shaped arenas pools (length (now memory)) (length (now books)) (length (now map)) × Class class size ⌝ }
+    ensures { λ r. ⌜ r ≡ frontOf (at (now (books .entry)) unusedHead) arenas
+        (fromUnused 8 arenas pools (heapOf (now (memory .entry)) (now (books .entry)) (now (map .entry))) class) AskPlan.NoRoom ⌝ }
+{
+    let l = word(books, UNUSED_HEAD);
+    if l == 0 {
+        return AskPlan::NoRoom;
+    }
+    if l <= arenas {
+        return from_unused(memory, books, map, arenas, pools, class, size, l - 1);
+    }
+    AskPlan::Damaged
+}
+
+// The class list is empty.
+fn plan_usable(
+    memory: &[u8],
+    books: &[u32],
+    map: &[u64],
+    arenas: usize,
+    pools: usize,
+    class: usize,
+    size: usize,
+) -> AskPlan
+    requires { ⌜ Shaped arenas pools (length (now memory)) (length (now books)) (length (now map)) × Class class size ⌝ }
+    ensures { λ r. ⌜ r ≡ frontOf (at (now (books .entry)) usableHead) arenas
+        (fromUsable 8 arenas pools (heapOf (now (memory .entry)) (now (books .entry)) (now (map .entry))) class)
+        (frontOf (at (now (books .entry)) unusedHead) arenas
+        (fromUnused 8 arenas pools (heapOf (now (memory .entry)) (now (books .entry)) (now (map .entry))) class) AskPlan.NoRoom) ⌝ }
+{
+    let l = word(books, USABLE_HEAD);
+    if l == 0 {
+        return plan_unused(memory, books, map, arenas, pools, class, size);
+    }
+    if l <= arenas {
+        return from_usable(memory, books, map, arenas, pools, class, size, l - 1);
+    }
+    AskPlan::Damaged
+}
+
+// The path of an ask for this class.
+pub fn plan_ask(
+    memory: &[u8],
+    books: &[u32],
+    map: &[u64],
+    arenas: usize,
+    pools: usize,
+    class: usize,
+    size: usize,
+) -> AskPlan
+    requires { ⌜ Shaped arenas pools (length (now memory)) (length (now books)) (length (now map)) × Class class size ⌝ }
+    ensures { λ r. ⌜ r ≡ planAsk 8 arenas pools (heapOf (now (memory .entry)) (now (books .entry)) (now (map .entry))) class ⌝ }
+{
+    let l = word(books, CLASS_HEADS + class);
+    if l == 0 {
+        return plan_usable(memory, books, map, arenas, pools, class, size);
+    }
+    if l <= arenas * pools {
+        return from_listed(memory, books, map, arenas, pools, class, size, l - 1);
+    }
+    AskPlan::Damaged
+}
