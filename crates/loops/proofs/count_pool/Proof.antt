@@ -1,0 +1,44 @@
+-- `loops::count_pool` counts the words of its live blocks where the pool has a class, and none where it has none.
+-- Assumes nothing.
+use borrow.Author.Needs.{needs}
+use Rattle.loops.specs.Roll.{no-class, of-class}
+use Rattle.loops.proofs.count_pool.Statement.{statement}
+use Rattle.loops.proofs.count_pool.Tie as tie
+
+mul-class-at : tie.Need-mul-class-at
+mul-class-at c = search needs
+
+class-at-requires : tie.Need-class-at-requires
+class-at-requires c κs = search needs
+
+returns : tie.Need-returns
+returns c =
+    let a = c .before .before .before .before .args in
+    let r = c .before .class-at in
+    rw (no-class 8 (a .arenas) (a .books .now) (a .map .now) (a .pool) (r .result) (r .ensures) (c .if1 .taken))
+
+size-of-requires : tie.Need-size-of-requires
+size-of-requires c κs = search needs
+
+count-blocks-requires : tie.Need-count-blocks-requires
+count-blocks-requires c κs = search needs
+
+returns-2 : tie.Need-returns-2
+returns-2 c =
+    let a = c .before .before .before .before .before .before .args in
+    let r = c .before .before .before .class-at in
+    let s = c .before .size-of in
+    let e = of-class 8 (a .arenas) (a .books .now) (a .map .now) (a .pool) (r .result) (r .ensures) (s .result) (s .ensures .0) in
+    rw (e (c .before .before .if1 .left))
+    (c .count-blocks .ensures)
+
+pub count-pool-spec : {M : Type 1} → statement M
+count-pool-spec =
+    tie.close
+    (tie.spec
+    mul-class-at
+    class-at-requires
+    returns
+    size-of-requires
+    count-blocks-requires
+    returns-2)

@@ -1,0 +1,65 @@
+-- `loops::count_words` counts the words of the roll: at each turn those of the pools from this one on are left.
+-- Assumes nothing.
+use mathlib.Core.Path.{_≡_, ap}
+use Prim.Native.Nat.{_+_, _-_, _≤_}
+use native.Mathlib.Omega.{arith}
+use lib.ListN.{length}
+use Rattle.rules.specs.View.{rollPools}
+use Rattle.loops.specs.Left.{fewer, none-left}
+use Rattle.loops.specs.Roll.{roll-parts, length-roll}
+use Rattle.loops.proofs.count_words.Statement.{statement}
+use Rattle.loops.proofs.count_words.Tie as tie
+
+abbrev Inv-loop : tie.InvT-loop
+Inv-loop books map arenas n words₀ pool₀ words pool =
+    (words + length (rollPools 8 arenas books map pool (n - pool)) ≡ length (rollPools 8 arenas books map 0 n)) × (pool ≤ n)
+
+abbrev μ-loop : tie.MeasureT-loop
+μ-loop books map arenas n words₀ pool₀ words pool = n - pool
+
+loop-holds : tie.Need-loop-holds Inv-loop μ-loop
+loop-holds c =
+    let a = c .before .before .args in
+    (omega (arith, ap length (roll-parts 8 (a .arenas) (a .books .now) (a .map .now) (a .n) .first)), omega arith)
+
+count-pool-requires : tie.Need-count-pool-requires Inv-loop μ-loop
+count-pool-requires c κs = omega arith
+
+add-words : tie.Need-add-words Inv-loop μ-loop
+add-words c =
+    let a = c .before .before .before .before .before .args in
+    let f = fewer (roll-parts 8 (a .arenas) (a .books .now) (a .map .now) (a .n)) (c .before .before .loop .pool) (omega arith) in
+    let l = length-roll 8 (a .arenas) (a .books .now) (a .map .now) (omega arith) 0 (a .n) in
+    omega (arith, c .count-pool .ensures)
+
+add-pool : tie.Need-add-pool Inv-loop μ-loop
+add-pool c = omega arith
+
+loop-less : tie.Need-loop-less Inv-loop μ-loop
+loop-less c = omega arith
+
+loop-again : tie.Need-loop-again Inv-loop μ-loop
+loop-again c =
+    let a = c .before .before .before .before .before .args in
+    let f = fewer (roll-parts 8 (a .arenas) (a .books .now) (a .map .now) (a .n)) (c .before .before .loop .pool) (omega arith) in
+    omega (arith, c .count-pool .ensures)
+
+returns : tie.Need-returns Inv-loop μ-loop
+returns c =
+    let p = c .before .loop in
+    let a = c .before .before .before .before .args in
+    omega (arith, ap length (none-left (roll-parts 8 (a .arenas) (a .books .now) (a .map .now) (a .n)) (p .pool) (omega arith)))
+
+pub count-words-spec : {M : Type 1} → statement M
+count-words-spec =
+    tie.close
+    (tie.spec
+    Inv-loop
+    μ-loop
+    loop-holds
+    count-pool-requires
+    add-words
+    add-pool
+    loop-less
+    loop-again
+    returns)

@@ -1,0 +1,66 @@
+-- `loops::put_roll` stores the roll: at each turn that of the pools from this one on is left.
+-- Assumes nothing.
+use mathlib.Core.Path.{refl}
+use Prim.Native.Nat.{_-_, _≤_}
+use native.Mathlib.Omega.{arith}
+use Rattle.rules.specs.View.{rollPools}
+use Rattle.loops.specs.Left.{Left, fewer, begin, turn, done}
+use Rattle.loops.specs.Roll.{roll-parts}
+use Rattle.loops.proofs.put_roll.Statement.{statement}
+use Rattle.loops.proofs.put_roll.Tie as tie
+
+abbrev Inv-loop : tie.InvT-loop
+Inv-loop books map arenas n roll₀ place₀ pool₀ roll place pool =
+    Left roll₀ 0 (rollPools 8 arenas books map 0 n) roll place (rollPools 8 arenas books map pool (n - pool)) × (pool ≤ n)
+
+abbrev μ-loop : tie.MeasureT-loop
+μ-loop books map arenas n roll₀ place₀ pool₀ roll place pool = n - pool
+
+loop-holds : tie.Need-loop-holds Inv-loop μ-loop
+loop-holds c =
+    let a = c .before .before .before .args in
+    (begin (roll-parts 8 (a .arenas) (a .books .now) (a .map .now) (a .n)) _ 0 _ refl, omega arith)
+
+roll-pool-requires : tie.Need-roll-pool-requires Inv-loop μ-loop
+roll-pool-requires c κs =
+    let a = c .before .before .before .before .before .before .args in
+    let f = fewer (roll-parts 8 (a .arenas) (a .books .now) (a .map .now) (a .n)) (c .before .before .loop .pool) (omega arith) in
+    omega arith
+
+add-pool : tie.Need-add-pool Inv-loop μ-loop
+add-pool c = omega arith
+
+loop-less : tie.Need-loop-less Inv-loop μ-loop
+loop-less c = omega arith
+
+loop-again : tie.Need-loop-again Inv-loop μ-loop
+loop-again c =
+    let p = c .before .before .before .before .before .loop in
+    let a = c .before .before .before .before .before .before .before .before .before .args in (
+      turn (roll-parts 8 (a .arenas) (a .books .now) (a .map .now) (a .n)) (p .pool) (omega arith) (p .inv .0)
+          (c .before .before .roll-pool .ensures),
+      omega arith,
+    )
+
+same-length : tie.Need-same-length Inv-loop μ-loop
+same-length c = c .before .loop .inv .0 .long
+
+returns : tie.Need-returns Inv-loop μ-loop
+returns c =
+    let p = c .before .loop in
+    let a = c .before .before .before .before .before .args in
+    done (roll-parts 8 (a .arenas) (a .books .now) (a .map .now) (a .n)) (p .pool) (omega arith) (p .inv .0) .same
+
+pub put-roll-spec : {M : Type 1} → statement M
+put-roll-spec =
+    tie.close
+    (tie.spec
+    Inv-loop
+    μ-loop
+    loop-holds
+    roll-pool-requires
+    add-pool
+    loop-less
+    loop-again
+    same-length
+    returns)

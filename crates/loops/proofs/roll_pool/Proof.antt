@@ -1,0 +1,59 @@
+-- `loops::roll_pool` stores the words of its live blocks where the pool has a class, and nothing where it has none.
+-- Assumes nothing.
+use mathlib.Core.Path.{_≡_, refl, ap}
+use native.Mathlib.Omega.{arith}
+use lib.ListN.{length}
+use borrow.Author.Needs.{needs}
+use Rattle.rules.specs.Blocks.{capacity}
+use Rattle.rules.specs.View.{rollBlocks, rollPool}
+use Rattle.loops.specs.Roll.{no-class, of-class}
+use Rattle.loops.proofs.roll_pool.Statement.{statement}
+use Rattle.loops.proofs.roll_pool.Tie as tie
+
+mul-class-at : tie.Need-mul-class-at
+mul-class-at c = search needs
+
+class-at-requires : tie.Need-class-at-requires
+class-at-requires c κs = search needs
+
+returns : tie.Need-returns
+returns c =
+    let a = c .before .before .before .before .before .args in
+    let r = c .before .class-at in
+    rw (no-class 8 (a .arenas) (a .books .now) (a .map .now) (a .pool) (r .result) (r .ensures) (c .if1 .taken))
+    (record { same = refl; place = omega arith })
+
+size-of-requires : tie.Need-size-of-requires
+size-of-requires c κs = search needs
+
+-- where the code goes on the pool has a class
+classed : (c : tie.After-roll-blocks-arg)
+    → let a = c .before .before .before .before .before .before .before .args in
+    let s = c .before .size-of .result in
+    rollPool 8 (a .arenas) (a .books .now) (a .map .now) (a .pool) ≡ rollBlocks (a .map .now) (a .pool) s 0 (capacity s)
+classed c =
+    let a = c .before .before .before .before .before .before .before .args in
+    let r = c .before .before .before .class-at in
+    let s = c .before .size-of in
+    of-class 8 (a .arenas) (a .books .now) (a .map .now) (a .pool) (r .result) (r .ensures) (s .result) (s .ensures .0) (c .before .before .if1 .left)
+
+roll-blocks-requires : tie.Need-roll-blocks-requires
+roll-blocks-requires c κs = omega (arith, ap length (classed c))
+
+same-length : tie.Need-same-length
+same-length c = search needs
+
+returns-2 : tie.Need-returns-2
+returns-2 c = rw (classed (c .before .before .before)) (c .before .before .roll-blocks .ensures)
+
+pub roll-pool-spec : {M : Type 1} → statement M
+roll-pool-spec =
+    tie.close
+    (tie.spec
+    mul-class-at
+    class-at-requires
+    returns
+    size-of-requires
+    roll-blocks-requires
+    same-length
+    returns-2)

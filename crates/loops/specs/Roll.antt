@@ -1,0 +1,107 @@
+-- The roll as the parts that its loops store, and how long it can be.
+-- Assumes nothing.
+use mathlib.Core.Path.{_≡_, refl, sym, ap, _∙_}
+use mathlib.Core.Bool.{Bool, true, false}
+use mathlib.Core.List.{List, [], _∷_}
+use Prim.Native.Nat.{ℕ, zero, suc, _+_, _*_, _-_, _/_, _≤_, _<_}
+use native.Mathlib.Nat.{div-le-of-le-mul, div-mul-le-self, mul-le-mul, mul-le-mul-right, suc-mul}
+use native.Mathlib.Omega.{arith}
+use lib.Dec.{leb}
+use lib.ListN.{length, length-append}
+use borrow.Author.Tests.{le-leb, lt-leb}
+use Rattle.rules.specs.Say.{if_then_else_}
+use Rattle.rules.specs.Books.{isSet, class, poolWord, pool, offsetOf}
+use Rattle.rules.specs.Blocks.{sizeOf, lastClass, startOf, capacity, classAt}
+use Rattle.rules.specs.View.{rollBlocks, rollPool, rollPools}
+use Rattle.loops.specs.Left.{Parts, counted}
+
+-- pool p has its record in the books of A arenas, and its words in the map
+pub record Stands (A p : ℕ) (b m : List ℕ) : Type 0 where
+  pub pool : p < 1024
+  pub books : poolWord A 8 p ≤ length b
+  pub map : 8 * p + 8 ≤ length m
+
+-- ---- a pool's blocks, of size s
+-- block k's own words
+abbrev pub rollBlock : List ℕ → ℕ → ℕ → ℕ → List ℕ
+rollBlock m p s k = if isSet m p k then offsetOf p (startOf s k) ∷ s ∷ [] else []
+
+-- a live block has its offset and its size there, any other nothing
+pub live-block : (m : List ℕ) (p s k : ℕ) → isSet m p k ≡ true → rollBlock m p s k ≡ offsetOf p (startOf s k) ∷ s ∷ []
+live-block m p s k e = rw e
+
+pub no-block : (m : List ℕ) (p s k : ℕ) → isSet m p k ≡ false → rollBlock m p s k ≡ []
+no-block m p s k e = rw e
+
+-- the pool's words, block by block
+pub block-parts : (m : List ℕ) (p s n : ℕ)
+    → Parts (rollBlocks m p s 0 n) n (λ k. rollBlocks m p s k (n - k)) (λ k. rollBlock m p s k)
+unfolding rollBlocks
+block-parts m p s = counted (rollBlocks m p s) (λ k n. rollBlock m p s k) (λ k. refl) (λ k n. refl)
+
+-- two words for each block at most
+length-block : (m : List ℕ) (p s k : ℕ) → length (rollBlock m p s k) ≤ 2
+length-block m p s k = go (isSet m p k)
+  where
+    go : (t : Bool) → length (if t then offsetOf p (startOf s k) ∷ s ∷ [] else []) ≤ 2
+    go true = omega arith
+    go false = omega arith
+
+pub length-blocks : (m : List ℕ) (p s k n : ℕ) → length (rollBlocks m p s k n) ≤ 2 * n
+unfolding rollBlocks
+length-blocks m p s k zero = omega arith
+length-blocks m p s k (suc n) =
+    omega (
+      arith,
+      length-append (rollBlock m p s k) (rollBlocks m p s (suc k) n),
+      length-block m p s k,
+      length-blocks m p s (suc k) n,
+    )
+
+-- "506 of 8 bytes": no pool holds more, and its blocks lie in it
+pub at-most-506 : (s : ℕ) → 8 ≤ s → capacity s ≤ 506
+at-most-506 s h = div-le-of-le-mul s (omega arith)
+
+pub block-inside : (s k : ℕ) → k < capacity s → k * s ≤ 4048
+block-inside s k l = omega (arith, mul-le-mul-right s l, suc-mul k s, div-mul-le-self 4048 s)
+
+-- ---- the pools
+-- the roll, pool by pool
+pub roll-parts : (al A : ℕ) (b m : List ℕ) (n : ℕ)
+    → Parts (rollPools al A b m 0 n) n (λ p. rollPools al A b m p (n - p)) (λ p. rollPool al A b m p)
+unfolding rollPools
+roll-parts al A b m = counted (rollPools al A b m) (λ p n. rollPool al A b m p) (λ p. refl) (λ p n. refl)
+
+-- pool p, whose class c is read at its first byte
+module _ (al A : ℕ) (b m : List ℕ) (p c : ℕ) (e : c ≡ classAt A b (4096 * p)) where
+  its-class : pool A b class p ≡ c
+  its-class = let f : p ≡ 4096 * p / 4096 = omega arith in ap (pool A b class) f ∙ sym e
+
+  -- above the last class it has no blocks
+  pub no-class : lastClass al < c → rollPool al A b m p ≡ []
+  unfolding rollPool
+  no-class h = rw (its-class, lt-leb c (lastClass al) h)
+
+  -- otherwise it has those of that class's size s
+  pub of-class : (s : ℕ) → s ≡ sizeOf al c → c ≤ lastClass al → rollPool al A b m p ≡ rollBlocks m p s 0 (capacity s)
+  unfolding rollPool
+  of-class s f h = rw (its-class, le-leb c (lastClass al) h, f)
+
+-- ---- so the roll of n pools has 1,012 words for each of them at most
+module _ (al A : ℕ) (b m : List ℕ) (h : 8 ≤ al) where
+  length-pool : (p : ℕ) → length (rollPool al A b m p) ≤ 1012
+  unfolding rollPool
+  length-pool p =
+      let c = pool A b class p in
+      let e : 1 ≤ c + 1 = omega arith in
+      go (leb c (lastClass al)) (sizeOf al c) (mul-le-mul h e)
+    where
+      go : (t : Bool) (s : ℕ) → 8 ≤ s → length (if t then rollBlocks m p s 0 (capacity s) else []) ≤ 1012
+      go true s l = omega (arith, length-blocks m p s 0 (capacity s), at-most-506 s l)
+      go false s l = omega arith
+
+  pub length-roll : (p n : ℕ) → length (rollPools al A b m p n) ≤ 1012 * n
+  unfolding rollPools
+  length-roll p zero = omega arith
+  length-roll p (suc n) =
+      omega (arith, length-append (rollPool al A b m p) (rollPools al A b m (suc p) n), length-pool p, length-roll (suc p) n)

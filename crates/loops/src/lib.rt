@@ -1,0 +1,209 @@
+// The loops of format, write, resize and roll call.
+use books::blocks::LAST_CLASS;
+use books::blocks::class_at;
+use books::blocks::size_of;
+use books::words::RECORDS;
+use books::words::UNUSED_HEAD;
+ghost use mathlib.Core.Path.{_≡_};
+ghost use Prim.Native.Nat.{_+_, _*_, _≤_, _<_};
+ghost use lib.ListN.{length, take, drop, replicate};
+ghost use lib.Seq.{sets};
+ghost use Rattle.rules.specs.Books.{booksLength};
+ghost use Rattle.rules.specs.Format.{freshArenas, freshPools, freshBooks};
+ghost use Rattle.rules.specs.Blocks.{capacity};
+ghost use Rattle.rules.specs.View.{rollBlocks, rollPool, rollPools};
+ghost use Rattle.loops.specs.Left.{Stored};
+ghost use Rattle.loops.specs.Fresh.{nextOf};
+ghost use Rattle.loops.specs.Roll.{Stands, rollBlock};
+ghost use Rattle.loops.specs.Copy.{Apart};
+
+// ---- format
+
+// The words are stored in the books from word `at` on.
+fn put_words(books: &mut [u32], at: usize, words: &[u32])
+    requires { ⌜ at + length (now words) ≤ length (now books) ⌝ }
+    ensures { λ _. ⌜ now (books .exit) ≡ sets (now (books .entry)) at (now (words .entry)) ⌝ }
+{
+    for i in 0..words.len() {
+        books[at + i] = words[i];
+    }
+}
+
+// The link from arena i to the next, where k arenas come after it.
+fn next_of(i: usize, k: usize) -> u32
+    requires { ⌜ i < 16 ⌝ }
+    ensures { λ r. ⌜ r ≡ nextOf i k ⌝ }
+{
+    if k == 0 {
+        return 0;
+    }
+    (i + 2) as u32
+}
+
+// The arena records: closed, and on the unused list in rising order.
+fn fresh_arenas(books: &mut [u32], arenas: usize)
+    requires { ⌜ (arenas ≤ 16) × (72 + 8 * arenas ≤ length (now books)) ⌝ }
+    ensures { λ _. ⌜ now (books .exit) ≡ sets (now (books .entry)) 72 (freshArenas 0 arenas) ⌝ }
+{
+    for i in 0..arenas {
+        let next = next_of(i, arenas - (i + 1));
+        put_words(books, RECORDS + 8 * i, &[0, 0, 0, 0, next, i as u32, 0, 0]);
+    }
+}
+
+// The records of n pools that have no class, from word `at` on.
+fn fresh_pools(books: &mut [u32], at: usize, n: usize)
+    requires { ⌜ at + 8 * n ≤ length (now books) ⌝ }
+    ensures { λ _. ⌜ now (books .exit) ≡ sets (now (books .entry)) at (freshPools n) ⌝ }
+{
+    let fresh = [0, 0, 0, 0, 65535, 0, 0, 0];
+    for i in 0..n {
+        put_words(books, at + 8 * i, &fresh);
+    }
+}
+
+// The books of a fresh heap: the numbers and heads, the arena records, the pool records.
+pub fn fresh_books(books: &mut [u32], arenas: usize, pools: usize)
+    requires { ⌜ (arenas ≤ 16) × (pools ≤ 64) × (length (now books) ≡ booksLength arenas pools) ⌝ }
+    ensures { λ _. ⌜ now (books .exit) ≡ freshBooks arenas pools ⌝ }
+{
+    let mut heads: [u32; RECORDS] = [0; RECORDS];
+    heads[0] = arenas as u32;
+    heads[1] = pools as u32;
+    heads[UNUSED_HEAD] = 1;
+    put_words(books, 0, &heads);
+    fresh_arenas(books, arenas);
+    fresh_pools(books, RECORDS + 8 * arenas, arenas * pools);
+}
+
+// The map of a fresh heap: no block is live.
+pub fn wipe(map: &mut [u64])
+    ensures { λ _. ⌜ now (map .exit) ≡ replicate (length (now (map .entry))) 0 ⌝ }
+{
+    for i in 0..map.len() {
+        map[i] = 0;
+    }
+}
+
+// ---- write and resize
+
+// The text is stored in memory from byte `at` on.
+pub fn copy_in(memory: &mut [u8], at: usize, text: &[u8])
+    requires { ⌜ at + length (now text) ≤ length (now memory) ⌝ }
+    ensures { λ _. ⌜ now (memory .exit) ≡ sets (now (memory .entry)) at (now (text .entry)) ⌝ }
+{
+    for i in 0..text.len() {
+        memory[at + i] = text[i];
+    }
+}
+
+// The n bytes from `from` on are stored from `to` on; the two runs do not meet.
+pub fn copy_within(memory: &mut [u8], from: usize, to: usize, n: usize)
+    requires { ⌜ (from + n ≤ length (now memory)) × (to + n ≤ length (now memory)) × Apart from to n ⌝ }
+    ensures { λ _. ⌜ now (memory .exit) ≡ sets (now (memory .entry)) to (take n (drop from (now (memory .entry)))) ⌝ }
+{
+    for i in 0..n {
+        memory[to + i] = memory[from + i];
+    }
+}
+
+// ---- roll call
+
+// How many roll words the live blocks of the pool take, where its blocks have the size.
+fn count_blocks(map: &[u64], pool: usize, size: usize) -> usize
+    requires { ⌜ (8 * pool + 8 ≤ length (now map)) × (8 ≤ size) ⌝ }
+    ensures { λ r. ⌜ r ≡ length (rollBlocks (now (map .entry)) pool size 0 (capacity size)) ⌝ }
+{
+    let blocks = 4048 / size;
+    let mut words: usize = 0;
+    for k in 0..blocks {
+        if bits::is_set(map, pool, k) {
+            words += 2;
+        }
+    }
+    words
+}
+
+// How many roll words the live blocks of the pool take.
+fn count_pool(books: &[u32], map: &[u64], arenas: usize, pool: usize) -> usize
+    requires { ⌜ Stands arenas pool (now books) (now map) ⌝ }
+    ensures { λ r. ⌜ r ≡ length (rollPool 8 arenas (now (books .entry)) (now (map .entry)) pool) ⌝ }
+{
+    let class = class_at(books, arenas, 4096 * pool);
+    if LAST_CLASS < class {
+        return 0;
+    }
+    count_blocks(map, pool, size_of(class))
+}
+
+// How many roll words the live blocks of the n pools take.
+pub fn count_words(books: &[u32], map: &[u64], arenas: usize, n: usize) -> usize
+    requires { ⌜ (n ≤ 1024) × (length (now books) ≡ 72 + 8 * arenas + 8 * n) × (length (now map) ≡ 8 * n) ⌝ }
+    ensures { λ r. ⌜ r ≡ length (rollPools 8 arenas (now (books .entry)) (now (map .entry)) 0 n) ⌝ }
+{
+    let mut words: usize = 0;
+    for pool in 0..n {
+        words += count_pool(books, map, arenas, pool);
+    }
+    words
+}
+
+// Offset and size of block k of the pool, where it is live, from roll word `at` on: the place after them.
+fn roll_block(map: &[u64], pool: usize, size: usize, k: usize, roll: &mut [u32], at: usize) -> usize
+    requires { ⌜ (8 * pool + 8 ≤ length (now map)) × (pool < 1024) × (8 ≤ size) × (size ≤ 512) × (k < capacity size)
+        × (at + length (rollBlock (now map) pool size k) ≤ length (now roll)) ⌝ }
+    ensures { λ r. ⌜ Stored (now (roll .entry)) at (rollBlock (now (map .entry)) pool size k) (now (roll .exit)) r ⌝ }
+{
+    if !bits::is_set(map, pool, k) {
+        return at;
+    }
+    roll[at] = (4096 * pool + (48 + k * size)) as u32;
+    roll[at + 1] = size as u32;
+    at + 2
+}
+
+// Offset and size of each live block of the pool, where its blocks have the size, from roll word `at` on: the place after them.
+fn roll_blocks(map: &[u64], pool: usize, size: usize, roll: &mut [u32], at: usize) -> usize
+    requires { ⌜ (8 * pool + 8 ≤ length (now map)) × (pool < 1024) × (8 ≤ size) × (size ≤ 512)
+        × (at + length (rollBlocks (now map) pool size 0 (capacity size)) ≤ length (now roll)) ⌝ }
+    ensures { λ r. ⌜ Stored (now (roll .entry)) at (rollBlocks (now (map .entry)) pool size 0 (capacity size)) (now (roll .exit)) r ⌝ }
+{
+    let blocks = 4048 / size;
+    let mut place = at;
+    for k in 0..blocks {
+        place = roll_block(map, pool, size, k, roll, place);
+    }
+    place
+}
+
+// Offset and size of each live block of the pool, from roll word `at` on: the place after them.
+fn roll_pool(
+    books: &[u32],
+    map: &[u64],
+    arenas: usize,
+    pool: usize,
+    roll: &mut [u32],
+    at: usize,
+) -> usize
+    requires { ⌜ Stands arenas pool (now books) (now map)
+        × (at + length (rollPool 8 arenas (now books) (now map) pool) ≤ length (now roll)) ⌝ }
+    ensures { λ r. ⌜ Stored (now (roll .entry)) at (rollPool 8 arenas (now (books .entry)) (now (map .entry)) pool) (now (roll .exit)) r ⌝ }
+{
+    let class = class_at(books, arenas, 4096 * pool);
+    if LAST_CLASS < class {
+        return at;
+    }
+    roll_blocks(map, pool, size_of(class), roll, at)
+}
+
+// Offset and size of each live block of the n pools, at the front of the roll.
+pub fn put_roll(books: &[u32], map: &[u64], arenas: usize, n: usize, roll: &mut [u32])
+    requires { ⌜ (n ≤ 1024) × (length (now books) ≡ 72 + 8 * arenas + 8 * n) × (length (now map) ≡ 8 * n)
+        × (length (rollPools 8 arenas (now books) (now map) 0 n) ≤ length (now roll)) ⌝ }
+    ensures { λ _. ⌜ now (roll .exit) ≡ sets (now (roll .entry)) 0 (rollPools 8 arenas (now (books .entry)) (now (map .entry)) 0 n) ⌝ }
+{
+    let mut place: usize = 0;
+    for pool in 0..n {
+        place = roll_pool(books, map, arenas, pool, roll, place);
+    }
+}
