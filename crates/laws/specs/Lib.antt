@@ -6,3 +6,6 @@ pub mod Books
 pub mod Plain
 pub mod Counting
 pub mod Chains
+pub mod Sizes
+pub mod Sound
+pub mod Held
