@@ -9,3 +9,4 @@ pub mod Chains
 pub mod Sizes
 pub mod Sound
 pub mod Held
+pub mod Fresh
