@@ -84,3 +84,21 @@ all-many f (suc n) e k l = go (ℕ-discrete k n) (f n) refl (λ z. all-many f n 
     go d false q h = absurd (omega (arith, ap one q, many-le f n))
     go (yes p) true q h = ap f p ∙ q
     go (no p) true q h = h (omega (arith, ap one q)) (omega arith)
+
+-- where some are counted, one passes
+pub record Passes (f : ℕ → Bool) (n : ℕ) : Type 0 where
+  pub number : ℕ
+  pub low : number < n
+  pub yes : f number ≡ true
+
+pub many-has : (f : ℕ → Bool) (n : ℕ) → 1 ≤ howMany f n → Passes f n
+unfolding howMany
+many-has f zero l = absurd (omega arith)
+many-has f (suc n) l = go (f n) refl (many-has f n)
+  where
+    up : Passes f n → Passes f (suc n)
+    up t = record { number = t .number; low = omega (arith, t .low); yes = t .yes }
+
+    go : (t : Bool) → f n ≡ t → (1 ≤ howMany f n → Passes f n) → Passes f (suc n)
+    go true e h = record { number = n; low = omega arith; yes = e }
+    go false e h = up (h (omega (arith, ap one e)))

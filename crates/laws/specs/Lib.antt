@@ -10,3 +10,4 @@ pub mod Sizes
 pub mod Sound
 pub mod Held
 pub mod Fresh
+pub mod Step
