@@ -75,6 +75,21 @@ freedTo a xs U = record { head = U .head; pool = U .pool; arena = U .arena; home
 abbrev pub arenasTo : ℕ → List ℕ → View → View
 arenasTo i xs U = record { head = U .head; pool = U .pool; arena = U .arena; home = U .home; base = U .base; listed = U .listed; freed = U .freed; arenas = to i xs (U .arenas) }
 
+-- another pool's words, and another arena's, are said as before
+pub words-other : (w n v : ℕ) (U : View) (u y : ℕ) → y ≢ n → poolTo w n v U .pool u y ≡ U .pool u y
+words-other w n v U u y d = go (ℕ-discrete u w)
+  where
+    go : Dec (u ≡ w) → poolTo w n v U .pool u y ≡ U .pool u y
+    go (yes q) = rw (eq-eqb u w q, ne-eqb y n d, q)
+    go (no q) = rw (ne-eqb u w q)
+
+pub arenas-other : (w a v : ℕ) (U : View) (u x : ℕ) → x ≢ a → arenaTo w a v U .arena u x ≡ U .arena u x
+arenas-other w a v U u x d = go (ℕ-discrete u w)
+  where
+    go : Dec (u ≡ w) → arenaTo w a v U .arena u x ≡ U .arena u x
+    go (yes q) = rw (eq-eqb u w q, ne-eqb x a d, q)
+    go (no q) = rw (ne-eqb u w q)
+
 -- ---- where the lists' words lie
 pool-lay : (A N h len : ℕ) → len ≡ 72 + 8 * A + 8 * N → h < 72 → Lay (poolWord A 2) (poolWord A 3) h N len
 pool-lay A N h len e l = omega arith

@@ -11,3 +11,5 @@ pub mod Sound
 pub mod Held
 pub mod Fresh
 pub mod Step
+pub mod Paths
+pub mod AskListed
