@@ -13,3 +13,4 @@ pub mod Fresh
 pub mod Step
 pub mod Paths
 pub mod AskListed
+pub mod GiveBack
