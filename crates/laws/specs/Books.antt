@@ -75,6 +75,10 @@ freedTo a xs U = record { head = U .head; pool = U .pool; arena = U .arena; home
 abbrev pub arenasTo : ℕ → List ℕ → View → View
 arenasTo i xs U = record { head = U .head; pool = U .pool; arena = U .arena; home = U .home; base = U .base; listed = U .listed; freed = U .freed; arenas = to i xs (U .arenas) }
 
+-- who was at home at h has no home any more
+abbrev pub without : ℕ → (ℕ → ℕ) → ℕ → ℕ
+without h home y = if eqb (home y) h then 1 else home y
+
 -- another pool's words, and another arena's, are said as before
 pub words-other : (w n v : ℕ) (U : View) (u y : ℕ) → y ≢ n → poolTo w n v U .pool u y ≡ U .pool u y
 words-other w n v U u y d = go (ℕ-discrete u w)
@@ -468,10 +472,6 @@ module _ {A N : ℕ} {b : List ℕ} {U : View} (K : Books A N b U) (a : ℕ) (la
             singly-same (other (arenaWord 3 j) (omega arith))
             (all-every {Q = λ y. (at b′ (poolWord A 2 y) ≡ at b (poolWord A 2 y)) × (at b′ (poolWord A 3 y) ≡ at b (poolWord A 3 y))} (λ y. (other (poolWord A 2 y) (omega arith), other (poolWord A 3 y) (omega arith))) (U .freed j))
             (K .freed .row j k)
-
-  -- who was at home at h has no home any more
-  abbrev pub without : ℕ → (ℕ → ℕ) → ℕ → ℕ
-  without h home y = if eqb (home y) h then 1 else home y
 
   -- "its record becomes 0": the freed pools are on no list
   pub freed-cleared : Books A N (put (arenaWord freedHead a) 0 b)

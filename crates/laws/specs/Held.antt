@@ -302,7 +302,7 @@ module _ {al A P : ℕ} {h : Heap} {U : View} {r : Plain} (L : Aligned al) (K : 
       go (inr t) = t .0
 
   -- a pool in use is of a class below 64
-  use-class : (n : ℕ) → n < A * P → r .class n < 64 ⊎ (1 ≤ count r n → ⊥)
+  pub use-class : (n : ℕ) → n < A * P → r .class n < 64 ⊎ (1 ≤ count r n → ⊥)
   use-class n l = go (decLe 64 (r .class n))
     where
       none : 64 ≤ r .class n → (j : ℕ) → r .live n j ≡ false

@@ -14,3 +14,4 @@ pub mod Step
 pub mod Paths
 pub mod AskListed
 pub mod GiveBack
+pub mod Emptied

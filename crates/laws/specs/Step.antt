@@ -92,15 +92,19 @@ pub base-same : (r r′ : Plain) (P x : ℕ) → r′ .mark x ≡ r .mark x → 
 unfolding base
 base-same r r′ P x e f = rw (e, f)
 
+-- and a pool where its live blocks, its class and its being carved say
+pub home-same : (r r′ : Plain) (al P y : ℕ) → r′ .live y ≡ r .live y → r′ .class y ≡ r .class y → carved P r′ y ≡ carved P r y → home al P r′ y ≡ home al P r y
+unfolding home
+home-same r r′ al P y e f g = rw (count-same r r′ y e, f, g)
+
 -- the homes of the other pools stand where the same pools are carved
 pub homes-same : {al A P p a : ℕ} {U′ : View} {r r′ : Plain} → Aside p a r r′ → ((y : ℕ) → y < A * P → y ≢ p → carved P r′ y ≡ carved P r y)
     → ((y : ℕ) → y < A * P → y ≢ p → U′ .home y ≡ home al P r y) → HomesAfter al A P p U′ r r′
-unfolding home
-homes-same {r = r} {r′ = r′} T c h =
+homes-same {al = al} {P = P} {r = r} {r′ = r′} T c h =
     record {
       carve = λ y l d e. sym (c y l d) ∙ e;
       keep = λ y j l d _ e. c y l d ∙ e;
-      homes = λ y l d. h y l d ∙ sym (rw (count-same r r′ y (T .lives y d), T .classes y d, c y l d));
+      homes = λ y l d. h y l d ∙ sym (home-same r r′ al P y (T .lives y d) (T .classes y d) (c y l d));
     }
 
 module _ {al A P p a : ℕ} {U U′ : View} {m m′ k : List ℕ} {r r′ : Plain} (L : Aligned al) (F : Says al A P U m k r) (lp : p < A * P) (of : p / P ≡ a) (T : Aside p a r r′)
