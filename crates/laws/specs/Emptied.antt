@@ -33,10 +33,10 @@ use Rattle.laws.specs.Counting.{many-more, many-le, all-many, many-none,
 use Rattle.laws.specs.Sizes.{Aligned, size-low, capacity-high, capacity-low}
 use Rattle.laws.specs.Chains.{Blocks, live-below}
 use Rattle.laws.specs.Sound.{home, base, Sound, InClass, PoolRule}
-use Rattle.laws.specs.Held.{Says, sound, in-class, freed-is, use-class, clash, freeWord, opened, arena-low, home-listed, home-freed, home-away, base-usable, base-spent, base-unused}
+use Rattle.laws.specs.Held.{Says, Held, held, sound, in-class, freed-is, use-class, clash, freeWord, opened, arena-low, home-listed, home-freed, home-away, base-usable, base-spent, base-unused}
 use Rattle.laws.specs.Step.{Aside, Still, PoolAfter, ArenaAfter, ListsAfter, HomesAfter, count-same, home-same, homes-same, stepped}
 use Rattle.laws.specs.Paths.{Quiet, quiet-link, Backed, backed}
-use Rattle.laws.specs.GiveBack.{c, s, b, f, I, s-low, c-low, cap-high, j-low, some, room-is, count-is, free-is, tested, b₂, m₂, U₂, K₂, count₂, free₂, pools₂, bytes₂, live-p, count-after, dead-after, in-class-after, bits′, link-low}
+use Rattle.laws.specs.GiveBack.{c, s, b, f, I, s-low, c-low, cap-high, j-low, some, room-is, count-is, free-is, tested, b₂, m₂, U₂, K₂, count₂, free₂, pools₂, bytes₂, live-p, count-after, dead-after, in-class-after, bits′, link-low, back-stays, back-joins}
 
 -- the links of a member of a doubly linked list are at most the number of records
 pub member-links : {nx pv : ℕ → ℕ} {H : ℕ → Type 0} {place : ℕ → ℕ} {N : ℕ} {at-home : ℕ → ℕ} {b : List ℕ} {rows : ℕ → List ℕ} → Family (Doubly nx pv b) H place N at-home rows
@@ -69,7 +69,7 @@ stack-link {nx} {pv} {H} {place} {N} {at-home} {b} {rows} G i k = go (rows i) (G
     go (x ∷ xs) w a = omega (arith, w .0, a .0)
 
 -- a word that is put as it stands
-put-zero : (b : List ℕ) (i : ℕ) → at b i ≡ 0 → put i 0 b ≡ b
+pub put-zero : (b : List ℕ) (i : ℕ) → at b i ≡ 0 → put i 0 b ≡ b
 put-zero b i e = ap (λ (x : ℕ). put i x b) (sym e) ∙ set-getD b i 0
 
 module _ {al A P : ℕ} {h : Heap} {U : View} {r : Plain} (L : Aligned al) (K : Books A (A * P) (h .books) U) (F : Says al A P U (h .memory) (h .map) r)
@@ -507,3 +507,23 @@ module _ {al A P : ℕ} {h : Heap} {U : View} {r : Plain} (L : Aligned al) (K : 
                   absurd (clash (sym o ∙ ap (λ (g : ℕ → Bool). g x) (live-p L K F p j lp on r′ refl) ∙ to-other j false (r .live p) x (omega (arith, j-low L K F p j lp on, cap-high L K F p j lp on))
                   ∙ J .blocks .rest x (omega (arith, J .blocks .fits, cap-high L K F p j lp on))))
               go (no q) = omega arith
+
+-- ---- every give-back of a live block
+pub back-any : {al A P : ℕ} {h : Heap} {r : Plain} → Aligned al → Sound al A P h r → (p j : ℕ) → p < A * P → r .live p j ≡ true → Backed al A P h r p j
+back-any {al} {A} {P} {h} {r} L S p j l on = go (r .chain p) refl (ℕ-discrete (count r p) 1) (ℕ-discrete (free P r (p / P) + 1) P) (ℕ-discrete (free P r (p / P)) 0)
+  where
+    H : Held al A P h r
+    H = held S
+
+    K : Books A (A * P) (h .books) (H .view)
+    K = H .books
+
+    F : Says al A P (H .view) (h .memory) (h .map) r
+    F = H .says
+
+    go : (xs : List ℕ) → r .chain p ≡ xs → Dec (count r p ≡ 1) → Dec (free P r (p / P) + 1 ≡ P) → Dec (free P r (p / P) ≡ 0) → Backed al A P h r p j
+    go [] e d t u = back-joins L K F p j l on e
+    go (i ∷ is) e (no d) t u = back-stays L K F p j l on i is e (omega (arith, some L K F p j l on))
+    go (i ∷ is) e (yes d) (yes t) u = back-releases L K F p j l on i is e d t
+    go (i ∷ is) e (yes d) (no t) (yes u) = back-returns L K F p j l on i is e d u
+    go (i ∷ is) e (yes d) (no t) (no u) = back-empties L K F p j l on i is e d t u

@@ -15,3 +15,5 @@ pub mod Paths
 pub mod AskListed
 pub mod GiveBack
 pub mod Emptied
+pub mod Taken
+pub mod Sources
