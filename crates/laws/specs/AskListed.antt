@@ -17,7 +17,7 @@ use Rattle.rules.specs.Say.{if_then_else_, _▷_}
 use Rattle.rules.specs.Books.{Heap, at, isSet, putMapBit, classHead, poolWord, pool, offsetOf}
 use Rattle.rules.specs.Blocks.{sizeOf, lastClass, startOf, lastStart, isStart, blockNo, capacity, linkAt, putLink}
 use Rattle.rules.specs.Lists.{nextAt, previousAt, poolLinks}
-use Rattle.rules.specs.Ask.{planAsk, spare, fromListed, fromFreeblock, noLink, afterAsk}
+use Rattle.rules.specs.Ask.{planAsk, spare, fromListed, fromFreeblock, noLink, afterAsk, askAnswer}
 use Rattle.bits.specs.Map.{length-put}
 use Rattle.books.specs.Starts.{start-is, number-is}
 use Rattle.laws.specs.Update.{to, to-same, to-other}
@@ -31,7 +31,7 @@ use Rattle.laws.specs.Chains.{Blocks, among, room, taken, extended, bloc
 use Rattle.laws.specs.Sound.{home, Sound, InClass, PoolRule}
 use Rattle.laws.specs.Held.{Says, Held, held, sound, listed-is, home-listed, home-full, in-class}
 use Rattle.laws.specs.Step.{Aside, PoolAfter, ListsAfter, bits-after, link-after, no-bytes}
-use Rattle.laws.specs.Paths.{Quiet, quiet-same, quiet-link, Asked, asked, count-on, still-used, inner}
+use Rattle.laws.specs.Paths.{Quiet, quiet-same, quiet-link, Hand, Asked, asked, count-on, still-used, inner}
 
 -- past the last block of a pool no other fits
 pub past-last : (s : ℕ) → 8 ≤ s → 4048 < s * capacity s + s
@@ -149,14 +149,30 @@ module _ {al A P : ℕ} {h : Heap} {U : View} {r : Plain} (L : Aligned al) (K : 
       bits′ e n j ln lj =
           rw (number-is s k (omega (arith, s-low))) (bits-after F p k 1 lp (omega (arith, k-low, cap-high)) (omega arith) n j ln lj ∙ ap (λ (f : ℕ → ℕ → Bool). f n j) (sym e))
 
+    -- the block that is handed out
+    hand : (r′ : Plain) → r′ .class ≡ r .class → r′ .live ≡ to p (to k true (r .live p)) (r .live) → Hand al A P r r′ c (offsetOf p (startOf s k))
+    hand r′ e f =
+        record {
+          pool = p;
+          block = k;
+          place = refl;
+          inside = lp;
+          fits = k-low;
+          class-now = ap (λ (g : ℕ → ℕ). g p) e;
+          classes = λ y d. ap (λ (g : ℕ → ℕ). g y) e;
+          live-now = f;
+          was-dead = k-dead;
+          kind = inl refl;
+        }
+
     -- ---- "the block at freeblock is the answer, freeblock becomes its link"
     pub ask-follow : (j : ℕ) (js : List ℕ) → ks ≡ j ∷ js → Asked al A P h r c
-    unfolding afterAsk
+    unfolding afterAsk askAnswer
     ask-follow j js more =
         asked (Follow p (startOf s k) (startOf s j)) r′
         (listed-first _ (rw (link, ne-eqb (startOf s j) 0 (omega arith))) (rw (link, ne-eqb (startOf s j) 0 (omega arith), spare-is j j-low j-dead)))
         (rw (lst, chn, more)) (rw (chn, more))
-        (sound {h = h′} L K′ F′) (quiet-same {r = r′})
+        (sound {h = h′} L K′ F′) (quiet-same {r = r′}) (λ _. hand r′ refl refl)
       where
         r′ : Plain
         r′ = r ▷ setChain p (j ∷ js) ▷ setLive p k true
@@ -221,12 +237,12 @@ module _ {al A P : ℕ} {h : Heap} {U : View} {r : Plain} (L : Aligned al) (K : 
 
       -- ---- "If that is 0 and nextoffset ≤ maxnextoffset, freeblock becomes nextoffset, .. and the link in the new freeblock is written 0"
       pub ask-ready : r .virgin p < capacity s → Asked al A P h r c
-      unfolding afterAsk noLink
+      unfolding afterAsk noLink askAnswer
       ask-ready more =
           asked (Ready p (startOf s k) (startOf s v)) r′
           (listed-first _ (rw (no-more, next-is, max-is, free-is, le-leb (startOf s v) (lastStart s) high, spare-is v more v-dead)) (rw no-more))
           (rw (lst, chn, none, lt-ltb (r .virgin p) (capacity s) more)) (rw chn)
-          (sound {h = h′} L K′ F′) (rw (← virgin-class) (quiet-link L F′ p v 0 (I .class-low) more still-dead))
+          (sound {h = h′} L K′ F′) (rw (← virgin-class) (quiet-link L F′ p v 0 (I .class-low) more still-dead)) (λ _. hand r′ refl refl)
         where
           v : ℕ
           v = r .virgin p
@@ -287,12 +303,12 @@ module _ {al A P : ℕ} {h : Heap} {U : View} {r : Plain} (L : Aligned al) (K : 
 
       -- ---- "If it is 0 and there is no such room, the pool is full: it leaves the list"
       pub ask-last : capacity s ≤ r .virgin p → Asked al A P h r c
-      unfolding afterAsk noLink
+      unfolding afterAsk noLink askAnswer
       ask-last full =
           asked (Last p (startOf s k)) r′
           (listed-first _ (rw (no-more, next-is, max-is, free-is, lt-leb (startOf s (r .virgin p)) (lastStart s) past, le-leb (at b (nextAt (poolLinks A) p)) (A * P) next-low, le-leb (at b (previousAt (poolLinks A) p)) (A * P) previous-low)) (rw no-more))
           (rw (lst, chn, none, le-ltb (r .virgin p) (capacity s) full)) (rw (chn))
-          (sound {h = h′} L K′ F′) (quiet-same {r = r′})
+          (sound {h = h′} L K′ F′) (quiet-same {r = r′}) (λ _. hand r′ refl refl)
         where
           r′ : Plain
           r′ = r ▷ setChain p [] ▷ setLive p k true ▷ setListed c (erase p (r .listed c))

@@ -16,7 +16,7 @@ use Rattle.rules.specs.declared.AskPlan.{AskPlan}
 use Rattle.rules.specs.declared.BackPlan.{BackPlan}
 use Rattle.rules.specs.Books.{Heap, at, isSet, offsetOf}
 use Rattle.rules.specs.Blocks.{sizeOf, lastClass, startOf, capacity, putLink}
-use Rattle.rules.specs.Ask.{planAsk, afterAsk}
+use Rattle.rules.specs.Ask.{planAsk, afterAsk, askAnswer}
 use Rattle.rules.specs.GiveBack.{planBack, afterBack}
 use Rattle.books.specs.Known.{in-range}
 use Rattle.laws.specs.Update.{to, to-same, to-other}
@@ -88,15 +88,30 @@ quiet-link {al} {A} {P} {U} {m} {m₀} {k} {r} L F p j v c l dead =
         apart w (inl z) = inl (omega arith)
         apart w (inr z) = inr (omega (arith, four))
 
+-- ---- the block that an ask for class c hands out at offset o: block k of pool p. The pool is of the class, or had no live block and is set to it
+pub record Hand (al A P : ℕ) (r r′ : Plain) (c o : ℕ) : Type 0 where
+  pub pool : ℕ
+  pub block : ℕ
+  pub place : o ≡ offsetOf pool (startOf (sizeOf al c) block)
+  pub inside : pool < A * P
+  pub fits : block < capacity (sizeOf al c)
+  pub class-now : r′ .class pool ≡ c
+  pub classes : (y : ℕ) → y ≢ pool → r′ .class y ≡ r .class y
+  pub live-now : r′ .live ≡ to pool (to block true (r .live pool)) (r .live)
+  pub was-dead : r .live pool block ≡ false
+  pub kind : (r .class pool ≡ c) ⊎ ((j : ℕ) → r .live pool j ≡ false)
+
 -- ---- ask, for class c
 pub record Asked (al A P : ℕ) (h : Heap) (r : Plain) (c : ℕ) : Type 0 where
   pub plan-is : planAsk al A P h c ≡ plainAsk al P r c
   pub sound : Sound al A P (afterAsk al A P c (plainAsk al P r c) h) (plainAfterAsk al P r c (plainAsk al P r c))
   pub quiet : Quiet al A P (h .memory) (afterAsk al A P c (plainAsk al P r c) h .memory) (plainAfterAsk al P r c (plainAsk al P r c))
+  pub hand : askAnswer (plainAsk al P r c) .number ≡ 0 → Hand al A P r (plainAfterAsk al P r c (plainAsk al P r c)) c (askAnswer (plainAsk al P r c) .offset)
 
 pub asked : {al A P : ℕ} {h : Heap} {r : Plain} {c : ℕ} (q : AskPlan) (r′ : Plain) → planAsk al A P h c ≡ q → plainAsk al P r c ≡ q → plainAfterAsk al P r c q ≡ r′
-    → Sound al A P (afterAsk al A P c q h) r′ → Quiet al A P (h .memory) (afterAsk al A P c q h .memory) r′ → Asked al A P h r c
-asked q r′ e f g S Q = record { plan-is = e ∙ sym f; sound = rw (f, g) S; quiet = rw (f, g) Q }
+    → Sound al A P (afterAsk al A P c q h) r′ → Quiet al A P (h .memory) (afterAsk al A P c q h .memory) r′
+    → (askAnswer q .number ≡ 0 → Hand al A P r r′ c (askAnswer q .offset)) → Asked al A P h r c
+asked q r′ e f g S Q H = record { plan-is = e ∙ sym f; sound = rw (f, g) S; quiet = rw (f, g) Q; hand = rw (f, g) H }
 
 -- ---- give back, of block j of pool p
 pub record Backed (al A P : ℕ) (h : Heap) (r : Plain) (p j : ℕ) : Type 0 where

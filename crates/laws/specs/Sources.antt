@@ -21,7 +21,7 @@ use Rattle.rules.specs.Books.{Heap, at, put, isSet, usableHead, unusedHead, cla
 use Rattle.rules.specs.Blocks.{sizeOf, lastClass, startOf, isStart, blockNo, capacity, linkAt}
 use Rattle.rules.specs.Lists.{nextAt, previousAt, leave, join, arenaLinks, poolLinks}
 use Rattle.rules.specs.Outcome.{heapOf}
-use Rattle.rules.specs.Ask.{planAsk, spare, fromUsable, fromFreed, fromMark, fromUnused, setAnew, takeAgain, sameClass, takeFrom, spend, afterAsk}
+use Rattle.rules.specs.Ask.{planAsk, spare, fromUsable, fromFreed, fromMark, fromUnused, setAnew, takeAgain, sameClass, takeFrom, spend, afterAsk, askAnswer}
 use Rattle.books.specs.Starts.{start-is, number-is, first-block, second-block}
 use Rattle.books.specs.Known.{in-range}
 use Rattle.laws.specs.Update.{to, to-same, to-other}
@@ -35,7 +35,7 @@ use Rattle.laws.specs.Sizes.{Aligned, size-low, size-high, capacity-high
 use Rattle.laws.specs.Chains.{Blocks, among}
 use Rattle.laws.specs.Sound.{home, base, Sound, InClass, PoolRule}
 use Rattle.laws.specs.Held.{Says, Held, held, sound, in-class, use-class, freed-is, usable-is, unused-is, clash, opened, arena-low, home-freed, home-away, base-usable}
-use Rattle.laws.specs.Paths.{Quiet, quiet-same, Asked, asked}
+use Rattle.laws.specs.Paths.{Quiet, quiet-same, Hand, Asked, asked}
 use Rattle.laws.specs.Emptied.{member-links, head-link, stack-link, put-zero}
 use Rattle.laws.specs.AskListed.{ask-listed}
 use Rattle.laws.specs.Taken.{no-live, spentBooks, spend-is, From, newRows, setTo, set-anew, takeFor, taken-again}
@@ -170,6 +170,22 @@ module _ {al A P : ℕ} {h : Heap} {U : View} {r : Plain} (L : Aligned al) (K : 
       let f = second-block s (omega (arith, size-low L c lc)) (omega (arith, size-high L c lc)) in
       (rw (e .0, e .1, F .bits p 0 l (omega arith), no-live L F p l z 0), rw (f .0, f .1, F .bits p 1 l (omega arith), no-live L F p l z 1))
 
+  -- block 0 of a pool that is set to the class is handed out
+  new-hand : (p : ℕ) → p < A * P → count r p ≡ 0 → (x : Plain) → x .class ≡ r .class → x .live ≡ r .live → Hand al A P r (newRows c p x) c (offsetOf p 48)
+  new-hand p l z x e f =
+      record {
+        pool = p;
+        block = 0;
+        place = omega arith;
+        inside = l;
+        fits = omega (arith, capacity-low L c lc);
+        class-now = to-same p c (x .class) p refl;
+        classes = λ y d. to-other p c (x .class) y d ∙ ap (λ (g : ℕ → ℕ). g y) e;
+        live-now = ap (λ (g : ℕ → ℕ → Bool). to p (to 0 true (g p)) g) f;
+        was-dead = no-live L F p l z 0;
+        kind = inr (no-live L F p l z);
+      }
+
   -- ---- the usable front a
   module _ (a : ℕ) (others : List ℕ) (us : r .usable ≡ a ∷ others) where
     la : a < A
@@ -275,7 +291,7 @@ module _ {al A P : ℕ} {h : Heap} {U : View} {r : Plain} (L : Aligned al) (K : 
 
       -- of another class
       pub ask-other : r .class p ≢ c → Asked al A P h r c
-      unfolding afterAsk takeFrom takeAgain setAnew
+      unfolding afterAsk askAnswer takeFrom takeAgain setAnew
       ask-other d = go (ℕ-discrete (free P r a) 1)
         where
           plan : planAsk al A P h c ≡ Anew (Freed a) p
@@ -288,15 +304,15 @@ module _ {al A P : ℕ} {h : Heap} {U : View} {r : Plain} (L : Aligned al) (K : 
           go (yes q) =
               let t = set-anew L F (spend-one from-freed la q) (λ _. refl) (λ n. absurd (n q)) lc lst in
               let e = spend-is al A P c a (takeFrom al A P c (Freed a) p h) in
-              asked (Anew (Freed a) p) (newRows c p (r ▷ setFreed a ps ▷ setUsable (erase a (r .usable)))) plan plain (rw (fr, eq-eqb (free P r a) 1 q)) (rw e (t .0)) (rw e (t .1))
+              asked (Anew (Freed a) p) (newRows c p (r ▷ setFreed a ps ▷ setUsable (erase a (r .usable)))) plan plain (rw (fr, eq-eqb (free P r a) 1 q)) (rw e (t .0)) (rw e (t .1)) (λ _. new-hand p lp (was .0) (r ▷ setFreed a ps ▷ setUsable (erase a (r .usable))) refl refl)
           go (no q) =
               let t = set-anew L F (spend-more from-freed la (omega (arith, open-free .1))) (λ z. absurd (q z)) (λ _. refl) lc lst in
               let e = spend-is al A P c a (takeFrom al A P c (Freed a) p h) in
-              asked (Anew (Freed a) p) (newRows c p (r ▷ setFreed a ps)) plan plain (rw (fr, ne-eqb (free P r a) 1 q)) (rw e (t .0)) (rw e (t .1))
+              asked (Anew (Freed a) p) (newRows c p (r ▷ setFreed a ps)) plan plain (rw (fr, ne-eqb (free P r a) 1 q)) (rw e (t .0)) (rw e (t .1)) (λ _. new-hand p lp (was .0) (r ▷ setFreed a ps) refl refl)
 
       -- of the wanted class
       pub ask-again : r .class p ≡ c → Asked al A P h r c
-      unfolding afterAsk takeFrom takeAgain sameClass
+      unfolding afterAsk askAnswer takeFrom takeAgain sameClass
       ask-again cls = by-chain (r .chain p) refl
         where
           J : InClass al p (h .memory) (count r p) (U .pool 1 p) (r .class p) (U .pool 5 p) (U .pool 6 p) (r .live p) (r .chain p) (r .virgin p)
@@ -333,17 +349,32 @@ module _ {al A P : ℕ} {h : Heap} {U : View} {r : Plain} (L : Aligned al) (K : 
               plain : plainAsk al P r c ≡ Again a p (startOf s k) (startOf s j)
               plain = rw (lst, us, fr, eq-eqb (r .class p) c cls, e)
 
+              again-hand : {r′ : Plain} → r′ .class ≡ r .class → r′ .live ≡ to p (to k true (r .live p)) (r .live) → Hand al A P r r′ c (offsetOf p (startOf s k))
+              again-hand f g =
+                  record {
+                    pool = p;
+                    block = k;
+                    place = refl;
+                    inside = lp;
+                    fits = omega (arith, B .below .0, B .fits);
+                    class-now = ap (λ (x : ℕ → ℕ). x p) f ∙ cls;
+                    classes = λ y d. ap (λ (x : ℕ → ℕ). x y) f;
+                    live-now = g;
+                    was-dead = no-live L F p lp (was .0) k;
+                    kind = inl cls;
+                  }
+
               go : Dec (free P r a ≡ 1) → Asked al A P h r c
               go (yes q) =
                   let r′ : Plain = r ▷ setFreed a ps ▷ setUsable (erase a (r .usable)) ▷ setListed c (p ∷ []) ▷ setChain p (j ∷ js) ▷ setLive p k true in
                   let t : Sound al A P _ r′ = taken-again L F (spend-one from-freed la q) (λ _. refl) (λ n. absurd (n q)) lc lst k j js e cls (λ w. refl) (was .1) in
                   let z = spend-is al A P c a (takeFrom al A P c (Freed a) p h) in
-                  asked (Again a p (startOf s k) (startOf s j)) r′ plan plain (rw (fr, e, eq-eqb (free P r a) 1 q)) (rw z t) (rw z (quiet-same {r = r′}))
+                  asked (Again a p (startOf s k) (startOf s j)) r′ plan plain (rw (fr, e, eq-eqb (free P r a) 1 q)) (rw z t) (rw z (quiet-same {r = r′})) (λ _. again-hand {r′ = r′} refl refl)
               go (no q) =
                   let r′ : Plain = r ▷ setFreed a ps ▷ setListed c (p ∷ []) ▷ setChain p (j ∷ js) ▷ setLive p k true in
                   let t : Sound al A P _ r′ = taken-again L F (spend-more from-freed la (omega (arith, open-free .1))) (λ z. absurd (q z)) (λ _. refl) lc lst k j js e cls (λ w. refl) (was .1) in
                   let z = spend-is al A P c a (takeFrom al A P c (Freed a) p h) in
-                  asked (Again a p (startOf s k) (startOf s j)) r′ plan plain (rw (fr, e, ne-eqb (free P r a) 1 q)) (rw z t) (rw z (quiet-same {r = r′}))
+                  asked (Again a p (startOf s k) (startOf s j)) r′ plan plain (rw (fr, e, ne-eqb (free P r a) 1 q)) (rw z t) (rw z (quiet-same {r = r′})) (λ _. again-hand {r′ = r′} refl refl)
 
     -- ---- "else carve the pool at the mark"
     module _ (fr : r .freed a ≡ []) where
@@ -450,7 +481,7 @@ module _ {al A P : ℕ} {h : Heap} {U : View} {r : Plain} (L : Aligned al) (K : 
               near (no t) = let n : y % P ≢ r .mark a = ne in le-ltb (y % P) (r .mark a + 1) (omega arith) ∙ sym (le-ltb (y % P) (r .mark a) (omega arith))
 
       pub ask-carve : Asked al A P h r c
-      unfolding afterAsk takeFrom setAnew fromUsable fromMark
+      unfolding afterAsk askAnswer takeFrom setAnew fromUsable fromMark
       ask-carve = go (ℕ-discrete (free P r a) 1)
         where
           plan : planAsk al A P h c ≡ Anew (Carved a) pm
@@ -465,11 +496,11 @@ module _ {al A P : ℕ} {h : Heap} {U : View} {r : Plain} (L : Aligned al) (K : 
           go (yes q) =
               let t = set-anew L F (spend-one from-mark la q) (λ _. refl) (λ n. absurd (n q)) lc lst in
               let e = spend-is al A P c a (takeFrom al A P c (Carved a) pm h) in
-              asked (Anew (Carved a) pm) (newRows c pm (r ▷ setMark a (r .mark a + 1) ▷ setUsable (erase a (r .usable)))) plan plain (rw (eq-eqb (free P r a) 1 q)) (rw e (t .0)) (rw e (t .1))
+              asked (Anew (Carved a) pm) (newRows c pm (r ▷ setMark a (r .mark a + 1) ▷ setUsable (erase a (r .usable)))) plan plain (rw (eq-eqb (free P r a) 1 q)) (rw e (t .0)) (rw e (t .1)) (λ _. new-hand pm lpm idle (r ▷ setMark a (r .mark a + 1) ▷ setUsable (erase a (r .usable))) refl refl)
           go (no q) =
               let t = set-anew L F (spend-more from-mark la (omega (arith, open-free .1))) (λ z. absurd (q z)) (λ _. refl) lc lst in
               let e = spend-is al A P c a (takeFrom al A P c (Carved a) pm h) in
-              asked (Anew (Carved a) pm) (newRows c pm (r ▷ setMark a (r .mark a + 1))) plan plain (rw (ne-eqb (free P r a) 1 q)) (rw e (t .0)) (rw e (t .1))
+              asked (Anew (Carved a) pm) (newRows c pm (r ▷ setMark a (r .mark a + 1))) plan plain (rw (ne-eqb (free P r a) 1 q)) (rw e (t .0)) (rw e (t .1)) (λ _. new-hand pm lpm idle (r ▷ setMark a (r .mark a + 1)) refl refl)
 
   -- ---- "where the usable list is empty, the unused head leaves its list and joins the usable one"
   module _ (none : r .usable ≡ []) where
@@ -477,10 +508,10 @@ module _ {al A P : ℕ} {h : Heap} {U : View} {r : Plain} (L : Aligned al) (K : 
     no-usable = rw (F .usable ∙ none) at (K .lists .row 2 (omega arith) .row .walk)
 
     pub ask-none : r .unused ≡ [] → Sound al A P h r → Asked al A P h r c
-    unfolding planAsk afterAsk
+    unfolding planAsk afterAsk askAnswer
     ask-none e S =
         let z : at bk unusedHead ≡ 0 = rw (F .unused ∙ e) at (K .lists .row 3 (omega arith) .row .walk) in
-        asked NoRoom r (rw (class-empty, no-usable, z)) (rw (lst, none, e)) refl S (quiet-same {r = r})
+        asked NoRoom r (rw (class-empty, no-usable, z)) (rw (lst, none, e)) refl S (quiet-same {r = r}) (λ z. absurd (omega arith))
 
     module _ (a : ℕ) (others : List ℕ) (un : r .unused ≡ a ∷ others) where
       lo : a < A
@@ -621,7 +652,7 @@ module _ {al A P : ℕ} {h : Heap} {U : View} {r : Plain} (L : Aligned al) (K : 
                   pick (no t) = absurd (d (let e : y % P ≡ 0 = omega arith in sym (div-add-mod' y P) ∙ ap₂ (λ (u v : ℕ). u * P + v) q e ∙ omega arith))
 
       pub ask-open : Asked al A P h r c
-      unfolding planAsk afterAsk takeFrom setAnew fromUnused
+      unfolding planAsk afterAsk askAnswer takeFrom setAnew fromUnused
       ask-open =
           let hd : at bk unusedHead ≡ suc a = (rw (F .unused ∙ un) at (K .lists .row 3 (omega arith) .row .walk)) .0 in
           let z : suc a - 1 ≡ a = omega arith in
@@ -633,7 +664,7 @@ module _ {al A P : ℕ} {h : Heap} {U : View} {r : Plain} (L : Aligned al) (K : 
           let e = spend-is al A P c a (takeFrom al A P c (Opened a) po h) in
           asked (Anew (Opened a) po) (newRows c po r₁)
           (rw (class-empty, no-usable, hd, eqb·suc-zero a, le-leb (suc a) A lo, z, v, n, le-leb (arena bk 4 a) A (m .0), le-leb (arena bk 5 a) A (m .1), u .0, u .1))
-          (rw (lst, none, un)) (rw un) (rw e (t .0)) (rw e (t .1))
+          (rw (lst, none, un)) (rw un) (rw e (t .0)) (rw e (t .1)) (λ _. new-hand po lpo (idle-o po lpo of-o) r₁ refl refl)
 
 -- ---- every ask for a class
 pub ask-any : {al A P : ℕ} {h : Heap} {r : Plain} → Aligned al → Sound al A P h r → (c : ℕ) → c ≤ lastClass al → Asked al A P h r c
