@@ -17,3 +17,6 @@ pub mod GiveBack
 pub mod Emptied
 pub mod Taken
 pub mod Sources
+pub mod Holding
+pub mod Calls
+pub mod Written
