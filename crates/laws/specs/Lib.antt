@@ -20,3 +20,5 @@ pub mod Sources
 pub mod Holding
 pub mod Calls
 pub mod Written
+pub mod History
+pub mod Theorems

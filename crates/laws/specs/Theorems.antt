@@ -1,0 +1,95 @@
+-- What holds after every history of calls from a format that is done: the demands, as theorems.
+-- Assumes nothing.
+use mathlib.Core.Path.{_≡_, refl, sym, ap, ap₂, _∙_, subst}
+use mathlib.Core.Logic.{_≢_, _⊎_, inl, inr}
+use mathlib.Core.Bool.{Bool, true, false, not, _&&_}
+use mathlib.Core.List.{List, [], _∷_, _++_}
+use Prim.Native.Nat.{ℕ, zero, suc, _+_, _*_, _-_, _/_, _%_, _≤_, _<_}
+use native.Mathlib.Omega.{arith}
+use lib.ListN.{length, length-drop}
+use lib.Seq.{length-take-le}
+use Rattle.rules.specs.Say.{if_then_else_}
+use Rattle.rules.specs.Books.{Heap, at, inRange, exact, mapLength}
+use Rattle.rules.specs.Blocks.{sizeOf, startOf, live}
+use Rattle.rules.specs.Outcome.{Outcome, heapOf, refused, done, passing}
+use Rattle.rules.specs.Format.{freshBooks}
+use Rattle.rules.specs.View.{part}
+use Rattle.rules.specs.Numbers.{fitNumber, format}
+use Rattle.books.specs.Known.{shaped}
+use Rattle.laws.specs.Plain.{Plain, fresh}
+use Rattle.laws.specs.Sizes.{Aligned, size-low}
+use Rattle.laws.specs.Chains.{block-ends}
+use Rattle.laws.specs.Sound.{Sound}
+use Rattle.laws.specs.Held.{held, clash}
+use Rattle.laws.specs.Fresh.{fresh-sound}
+use Rattle.laws.specs.Holding.{LiveAt, holding, live-rows, holding-live, dead-holding}
+use Rattle.laws.specs.Written.{apart}
+use Rattle.laws.specs.History.{Event, State, Ledger, NoSix, run, Tied, tied, first-format}
+
+-- ---- a history begins with a format that is done, over any buffers: the heap that it leaves, and the empty ledger
+abbrev pub begun : Heap → ℕ → ℕ → State
+begun h A P = record { heap = format h A P .heap; ledger = λ o. [] }
+
+module _ {al : ℕ} (L : Aligned al) (h : Heap) (A P : ℕ) (ok : format h A P .answer .number ≡ 0) (es : List Event) where
+  abbrev end : State
+  end = run al (begun h A P) es
+
+  T : Tied al (h .memory) (run al (begun h A P) es)
+  T = tied L (h .memory) (first-format L h A P ok) es .1
+
+  -- no call of the history gives 6
+  pub no-six : NoSix al (begun h A P) es
+  no-six = tied L (h .memory) (first-format L h A P ok) es .0
+
+  -- the first 48 bytes of each pool are as they were before the first format
+  pub first-bytes : (i : ℕ) → i % 4096 < 48 → at (run al (begun h A P) es .heap .memory) i ≡ at (h .memory) i
+  first-bytes = T .first
+
+  -- memory at each entry of the ledger is exactly the ledger's bytes for it
+  pub entry-bytes : (o : ℕ) → run al (begun h A P) es .ledger o ≢ []
+      → run al (begun h A P) es .ledger o ≡ part o (length (run al (begun h A P) es .ledger o)) (run al (begun h A P) es .heap .memory)
+  entry-bytes o some = go (live al (T .A) (T .P) (run al (begun h A P) es .heap .books) (run al (begun h A P) es .heap .map) o) refl
+    where
+      go : (b : Bool) → live al (T .A) (T .P) (run al (begun h A P) es .heap .books) (run al (begun h A P) es .heap .map) o ≡ b
+          → run al (begun h A P) es .ledger o ≡ part o (length (run al (begun h A P) es .ledger o)) (run al (begun h A P) es .heap .memory)
+      go false e = absurd (some (T .tie o ∙ dead-holding al (T .A) (T .P) (run al (begun h A P) es .heap) o e))
+      go true e =
+          let t = live-rows L (T .sound) o e in
+          let z = T .tie o ∙ holding-live L (T .sound) o t in
+          let n : length (run al (begun h A P) es .ledger o) ≡ sizeOf al (T .rows .class (t .pool)) = ap length z ∙ size o t in
+          z ∙ ap (λ (s : ℕ). part o s (run al (begun h A P) es .heap .memory)) (sym n)
+        where
+          size : (o : ℕ) (t : LiveAt al (T .A) (T .P) (T .rows) o) → length (part o (sizeOf al (T .rows .class (t .pool))) (run al (begun h A P) es .heap .memory)) ≡ sizeOf al (T .rows .class (t .pool))
+          size o t =
+              length-take-le (sizeOf al (T .rows .class (t .pool))) _
+              (omega (arith, length-drop o (run al (begun h A P) es .heap .memory), t .place, t .inside, held (T .sound) .says .bytes, block-ends (sizeOf al (T .rows .class (t .pool))) (t .block) (suc (t .block)) (omega arith) (t .fits)))
+
+  -- an entry of the ledger is a live block of the rows, of its length
+  entry-live : (o : ℕ) → run al (begun h A P) es .ledger o ≢ [] → LiveAt al (T .A) (T .P) (T .rows) o
+  entry-live o some = go (live al (T .A) (T .P) (run al (begun h A P) es .heap .books) (run al (begun h A P) es .heap .map) o) refl
+    where
+      go : (b : Bool) → live al (T .A) (T .P) (run al (begun h A P) es .heap .books) (run al (begun h A P) es .heap .map) o ≡ b → LiveAt al (T .A) (T .P) (T .rows) o
+      go false e = absurd (some (T .tie o ∙ dead-holding al (T .A) (T .P) (run al (begun h A P) es .heap) o e))
+      go true e = live-rows L (T .sound) o e
+
+  entry-size : (o : ℕ) (t : LiveAt al (T .A) (T .P) (T .rows) o) → length (run al (begun h A P) es .ledger o) ≡ sizeOf al (T .rows .class (t .pool))
+  entry-size o t =
+      ap length (T .tie o ∙ holding-live L (T .sound) o t)
+      ∙ length-take-le (sizeOf al (T .rows .class (t .pool))) _
+      (omega (arith, length-drop o (run al (begun h A P) es .heap .memory), t .place, t .inside, held (T .sound) .says .bytes, block-ends (sizeOf al (T .rows .class (t .pool))) (t .block) (suc (t .block)) (omega arith) (t .fits)))
+
+  -- no two entries overlap
+  pub entries-apart : (o x : ℕ) → run al (begun h A P) es .ledger o ≢ [] → run al (begun h A P) es .ledger x ≢ [] → x ≢ o
+      → (o + length (run al (begun h A P) es .ledger o) ≤ x) ⊎ (x + length (run al (begun h A P) es .ledger x) ≤ o)
+  entries-apart o x a b d =
+      let t = entry-live o a in
+      let u = entry-live x b in
+      rw (entry-size o t, entry-size x u) (apart L o x t u d)
+
+  -- each entry lies in its pool past the first 48 bytes
+  pub entry-inside : (o : ℕ) → run al (begun h A P) es .ledger o ≢ [] → (48 ≤ o % 4096) × (o % 4096 + length (run al (begun h A P) es .ledger o) ≤ 4096)
+  entry-inside o a =
+      let t = entry-live o a in
+      let e = block-ends (sizeOf al (T .rows .class (t .pool))) (t .block) (suc (t .block)) (omega arith) (t .fits) in
+      let l = size-low L (T .rows .class (t .pool)) (t .class) in
+      rw (entry-size o t) (omega (arith, t .place, e, l), omega (arith, t .place, e, l))
