@@ -20,5 +20,6 @@ pub mod Sources
 pub mod Holding
 pub mod Calls
 pub mod Written
+pub mod NoRoom
 pub mod History
 pub mod Theorems

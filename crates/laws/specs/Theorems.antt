@@ -9,21 +9,18 @@ use native.Mathlib.Omega.{arith}
 use lib.ListN.{length, length-drop}
 use lib.Seq.{length-take-le}
 use Rattle.rules.specs.Say.{if_then_else_}
-use Rattle.rules.specs.Books.{Heap, at, inRange, exact, mapLength}
-use Rattle.rules.specs.Blocks.{sizeOf, startOf, live}
-use Rattle.rules.specs.Outcome.{Outcome, heapOf, refused, done, passing}
-use Rattle.rules.specs.Format.{freshBooks}
+use Rattle.rules.specs.Books.{Heap, at, arenas, pools}
+use Rattle.rules.specs.Blocks.{classOf, sizeOf, live}
 use Rattle.rules.specs.View.{part}
-use Rattle.rules.specs.Numbers.{fitNumber, format}
-use Rattle.books.specs.Known.{shaped}
+use Rattle.rules.specs.Numbers.{format, ask}
 use Rattle.laws.specs.Plain.{Plain, fresh}
 use Rattle.laws.specs.Sizes.{Aligned, size-low}
 use Rattle.laws.specs.Chains.{block-ends}
 use Rattle.laws.specs.Sound.{Sound}
 use Rattle.laws.specs.Held.{held, clash}
-use Rattle.laws.specs.Fresh.{fresh-sound}
 use Rattle.laws.specs.Holding.{LiveAt, holding, live-rows, holding-live, dead-holding}
 use Rattle.laws.specs.Written.{apart}
+use Rattle.laws.specs.NoRoom.{Full, four-full, full-four}
 use Rattle.laws.specs.History.{Event, State, Ledger, NoSix, run, Tied, tied, first-format}
 
 -- ---- a history begins with a format that is done, over any buffers: the heap that it leaves, and the empty ledger
@@ -93,3 +90,9 @@ module _ {al : ℕ} (L : Aligned al) (h : Heap) (A P : ℕ) (ok : format h A P .
       let e = block-ends (sizeOf al (T .rows .class (t .pool))) (t .block) (suc (t .block)) (omega arith) (t .fits) in
       let l = size-low L (T .rows .class (t .pool)) (t .class) in
       rw (entry-size o t) (omega (arith, t .place, e, l), omega (arith, t .place, e, l))
+
+  -- for 1 ≤ n ≤ 512, ask n is refused with 4 exactly if every pool holds a live block and every pool of that class is full of live ones
+  pub four-means : (n : ℕ) → 1 ≤ n → n ≤ 512
+      → (ask al (run al (begun h A P) es .heap) n .answer .number ≡ 4 → Full al (arenas (run al (begun h A P) es .heap)) (pools (run al (begun h A P) es .heap)) (run al (begun h A P) es .heap) (classOf al n))
+      × (Full al (arenas (run al (begun h A P) es .heap)) (pools (run al (begun h A P) es .heap)) (run al (begun h A P) es .heap) (classOf al n) → ask al (run al (begun h A P) es .heap) n .answer .number ≡ 4)
+  four-means n low high = rw (T .sound .rule1 .arenas-are, T .sound .rule1 .pools-are) (four-full L (T .sound) n low high, full-four L (T .sound) n low high)
