@@ -20,6 +20,7 @@ pub mod Sources
 pub mod Holding
 pub mod Calls
 pub mod Written
+pub mod Roll
 pub mod NoRoom
 pub mod History
 pub mod Theorems

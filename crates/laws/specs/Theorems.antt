@@ -6,20 +6,23 @@ use mathlib.Core.Bool.{Bool, true, false, not, _&&_}
 use mathlib.Core.List.{List, [], _∷_, _++_}
 use Prim.Native.Nat.{ℕ, zero, suc, _+_, _*_, _-_, _/_, _%_, _≤_, _<_}
 use native.Mathlib.Omega.{arith}
-use lib.ListN.{length, length-drop}
+use lib.ListN.{length, drop, length-drop}
 use lib.Seq.{length-take-le}
+use borrow.Author.Tests.{le-ltb, lt-ltb}
 use Rattle.rules.specs.Say.{if_then_else_}
-use Rattle.rules.specs.Books.{Heap, at, arenas, pools}
-use Rattle.rules.specs.Blocks.{classOf, sizeOf, live}
-use Rattle.rules.specs.View.{part}
-use Rattle.rules.specs.Numbers.{format, ask}
+use Rattle.rules.specs.Books.{Heap, at, arenas, pools, memoryLength}
+use Rattle.rules.specs.Blocks.{classOf, sizeOf, sizeAt, live}
+use Rattle.rules.specs.View.{part, roll}
+use Rattle.rules.specs.Numbers.{format, ask, rollCall, rollOf, rollOutcome, roomNumber}
 use Rattle.laws.specs.Plain.{Plain, fresh}
 use Rattle.laws.specs.Sizes.{Aligned, size-low}
 use Rattle.laws.specs.Chains.{block-ends}
 use Rattle.laws.specs.Sound.{Sound}
 use Rattle.laws.specs.Held.{held, clash}
-use Rattle.laws.specs.Holding.{LiveAt, holding, live-rows, holding-live, dead-holding}
+use Rattle.laws.specs.Holding.{LiveAt, holding, live-rows, class-is, holding-live, dead-holding}
 use Rattle.laws.specs.Written.{apart}
+use Rattle.laws.specs.Calls.{shape-zero}
+use Rattle.laws.specs.Roll.{listing, listing-same, sizeHeld, roll-is}
 use Rattle.laws.specs.NoRoom.{Full, four-full, full-four}
 use Rattle.laws.specs.History.{Event, State, Ledger, NoSix, run, Tied, tied, first-format}
 
@@ -96,3 +99,34 @@ module _ {al : ℕ} (L : Aligned al) (h : Heap) (A P : ℕ) (ok : format h A P .
       → (ask al (run al (begun h A P) es .heap) n .answer .number ≡ 4 → Full al (arenas (run al (begun h A P) es .heap)) (pools (run al (begun h A P) es .heap)) (run al (begun h A P) es .heap) (classOf al n))
       × (Full al (arenas (run al (begun h A P) es .heap)) (pools (run al (begun h A P) es .heap)) (run al (begun h A P) es .heap) (classOf al n) → ask al (run al (begun h A P) es .heap) n .answer .number ≡ 4)
   four-means n low high = rw (T .sound .rule1 .arenas-are, T .sound .rule1 .pools-are) (four-full L (T .sound) n low high, full-four L (T .sound) n low high)
+
+  -- offset and size of each entry of the ledger, by rising offset, each once
+  abbrev pub entries : List ℕ
+  entries = listing (λ o. length (run al (begun h A P) es .ledger o)) 0 (length (run al (begun h A P) es .heap .memory))
+
+  held-size : (o : ℕ) → sizeHeld L (T .A) (T .P) (run al (begun h A P) es .heap .books) (run al (begun h A P) es .heap .map) o ≡ length (run al (begun h A P) es .ledger o)
+  unfolding sizeHeld
+  held-size o = go (live al (T .A) (T .P) (run al (begun h A P) es .heap .books) (run al (begun h A P) es .heap .map) o) refl
+    where
+      go : (b : Bool) → live al (T .A) (T .P) (run al (begun h A P) es .heap .books) (run al (begun h A P) es .heap .map) o ≡ b
+          → (if b then sizeAt al (T .A) (run al (begun h A P) es .heap .books) o else 0) ≡ length (run al (begun h A P) es .ledger o)
+      go false e = sym (ap length (T .tie o ∙ dead-holding al (T .A) (T .P) (run al (begun h A P) es .heap) o e))
+      go true e = let t = live-rows L (T .sound) o e in ap (sizeOf al) (class-is L (T .sound) o t) ∙ sym (entry-size o t)
+
+  roll-entries : rollOf al (run al (begun h A P) es .heap) ≡ entries
+  roll-entries =
+      ap₂ (λ (a p : ℕ). roll al a p (run al (begun h A P) es .heap .books) (run al (begun h A P) es .heap .map)) (T .sound .rule1 .arenas-are) (T .sound .rule1 .pools-are)
+      ∙ roll-is L (T .A) (T .P) (run al (begun h A P) es .heap .books) (run al (begun h A P) es .heap .map)
+      ∙ listing-same (sizeHeld L (T .A) (T .P) (run al (begun h A P) es .heap .books) (run al (begun h A P) es .heap .map)) (λ o. length (run al (begun h A P) es .ledger o)) held-size 0 (memoryLength (T .A) (T .P))
+      ∙ ap (listing (λ o. length (run al (begun h A P) es .ledger o)) 0) (sym (held (T .sound) .says .bytes))
+
+  -- roll call with room gives 0, the number of entries, and offset and size of each, and leaves the words after them
+  pub roll-with-room : (words : List ℕ) → length entries ≤ length words
+      → rollCall al (run al (begun h A P) es .heap) words ≡ rollOutcome 0 (length entries / 2) (entries ++ drop (length entries) words)
+  unfolding rollCall roomNumber
+  roll-with-room words l = rw (shape-zero (T .sound), roll-entries, le-ltb (length words) (length entries) l)
+
+  -- with less room it gives 7 and writes nothing
+  pub roll-without : (words : List ℕ) → length words < length entries → rollCall al (run al (begun h A P) es .heap) words ≡ rollOutcome 7 0 words
+  unfolding rollCall roomNumber
+  roll-without words l = rw (shape-zero (T .sound), roll-entries, lt-ltb (length words) (length entries) l)
