@@ -4,13 +4,14 @@ use mathlib.Core.Path.{_≡_, refl, sym, ap, ap₂, _∙_, subst}
 use mathlib.Core.Logic.{_≢_, _⊎_, inl, inr}
 use mathlib.Core.Bool.{Bool, true, false, not, _&&_}
 use mathlib.Core.List.{List, [], _∷_, _++_, append-assoc}
-use Prim.Native.Nat.{ℕ, zero, suc, _+_, _*_, _-_, _/_, _%_, _≤_, _<_}
+use Prim.Native.Nat.{ℕ, zero, suc, _+_, _*_, _-_, _/_, _%_, _≤_, _<_, min}
+use native.Mathlib.Nat.{min-le-left, min-le-right, div-add-mod, mod-lt, mul-add, mul-one}
 use native.Mathlib.Decide.{ℕ-discrete, decLe}
 use native.Mathlib.Omega.{arith}
 use lib.Dec.{leb, ltb, eqb}
 use lib.ListN.{length, set, take, drop, length-set, length-drop, replicate}
-use lib.Seq.{sets, length-sets, sets-eq, drop-at, take-at, take-add, take-append-add, drop-drop, drop-set-add, take-set-lt, getD-set-other, length-take-le}
-use borrow.Author.Tests.{eq-eqb, ne-eqb, ltb-true, ltb-false, le-ltb, lt-ltb}
+use lib.Seq.{sets, length-sets, sets-eq, drop-at, take-at, take-add, take-append-add, take-take, drop-drop, drop-set-add, take-set-lt, getD-set-other, length-take-le}
+use borrow.Author.Tests.{eq-eqb, ne-eqb, le-leb, ltb-true, ltb-false, le-ltb, lt-ltb}
 use Rattle.rules.specs.declared.AskPlan.the-variants.{NoRoom}
 use Rattle.rules.specs.Say.{if_then_else_}
 use Rattle.rules.specs.Books.{Heap, at, inRange, exact, memoryLength, mapLength, isSet, offsetOf, arenas, pools}
@@ -18,9 +19,10 @@ use Rattle.rules.specs.Blocks.{classOf, sizeOf, lastClass, startOf, capacity, l
 use Rattle.rules.specs.Outcome.{Outcome, outcome, heapOf, refused, answerOf, passing, done}
 use Rattle.rules.specs.Format.{freshBooks}
 use Rattle.rules.specs.View.{part}
-use Rattle.rules.specs.Ask.{askAnswer, afterAsk}
+use Rattle.rules.specs.Ask.{askAnswer, afterAsk, askStep}
+use Rattle.rules.specs.Resize.{keeps, giveOld, moved, resizeStep}
 use Rattle.rules.specs.GiveBack.{afterBack}
-use Rattle.rules.specs.Numbers.{fitNumber, format, ask, giveBack, viewSize, write, rollCall, roomNumber, sizeNumber, sizedOf, blockSize, rollOf, rollOutcome}
+use Rattle.rules.specs.Numbers.{fitNumber, format, ask, giveBack, resize, viewSize, write, rollCall, roomNumber, sizeNumber, sizedOf, blockSize, rollOf, rollOutcome}
 use Rattle.books.specs.Known.{Shaped, shaped}
 use Rattle.laws.specs.Update.{to, to-same, to-other}
 use Rattle.laws.specs.Plain.{Plain, fresh, planAsk as plainAsk, afterAsk as plainAfterAsk, planBack as plainBack, backPlain}
@@ -29,8 +31,8 @@ use Rattle.laws.specs.Chains.{block-ends}
 use Rattle.laws.specs.Sound.{Sound}
 use Rattle.laws.specs.Held.{Held, held, clash}
 use Rattle.laws.specs.Fresh.{fresh-sound}
-use Rattle.laws.specs.Paths.{Quiet, Hand}
-use Rattle.laws.specs.Holding.{LiveAt, holding, live-rows, class-is, pool-is, holding-live, dead-holding, holding-new, holding-others, holding-gone, holding-kept}
+use Rattle.laws.specs.Paths.{Quiet, Hand, Asked}
+use Rattle.laws.specs.Holding.{LiveAt, holding, live-rows, class-is, pool-is, holding-live, dead-holding, holding-none, holding-new, holding-others, holding-gone, holding-kept}
 use Rattle.laws.specs.Written.{Outside, written-sound, written-here, written-others}
 use Rattle.laws.specs.Calls.{shape-zero, plain-number, ask-size, ask-done, ask-is, size-number, plain-back, back-dead, block-of, back-done, back-is}
 
@@ -39,6 +41,7 @@ pub data Event : Type 0 where
   formats : ℕ → ℕ → Event  -- A, P
   asks : ℕ → Event  -- size
   gives : ℕ → Event  -- offset
+  resizes : ℕ → ℕ → Event  -- offset, size
   views : ℕ → Event  -- offset
   writes : ℕ → List ℕ → Event  -- offset, text
   rolls : List ℕ → Event  -- the lent words
@@ -62,12 +65,18 @@ module _ (al : ℕ) where
   numberOf x (formats A P) = format (x .heap) A P .answer .number
   numberOf x (asks n) = ask al (x .heap) n .answer .number
   numberOf x (gives o) = giveBack al (x .heap) o .answer .number
+  numberOf x (resizes o n) = resize al (x .heap) o n .answer .number
   numberOf x (views o) = viewSize al (x .heap) o .number
   numberOf x (writes o text) = write al (x .heap) o text .answer .number
   numberOf x (rolls words) = rollCall al (x .heap) words .answer .number
   numberOf x (pokes o d v) = 0
 
-  -- "a done ask adds offset and block size, a done give-back removes, .. a done format empties": with the bytes as they were when the block was
+  -- a resize that moves the block at o: the first bytes go along, the others are as they were when the new block was handed out
+  abbrev pub carried : ℕ → ℕ → ℕ → List ℕ → Ledger → Ledger
+  carried n o new m g =
+      to new (take (min n (length (g o))) (g o) ++ drop (min n (length (g o))) (part new (sizeOf al (classOf al n)) m)) (to o [] g)
+
+  -- "a done ask adds offset and block size, a done give-back removes, a done resize moves, a done format empties": with the bytes as they were when the block was
   -- handed out, and as its holder wrote since
   unfoldable pub after : State → Event → State
   after x (formats A P) = let y = format (x .heap) A P in noted (y .answer .number) (y .heap) (x .ledger) (λ o. [])
@@ -75,6 +84,9 @@ module _ (al : ℕ) where
       let y = ask al (x .heap) n in
       noted (y .answer .number) (y .heap) (x .ledger) (to (y .answer .offset) (part (y .answer .offset) (sizeOf al (classOf al n)) (y .heap .memory)) (x .ledger))
   after x (gives o) = let y = giveBack al (x .heap) o in noted (y .answer .number) (y .heap) (x .ledger) (to o [] (x .ledger))
+  after x (resizes o n) =
+      let y = resize al (x .heap) o n in
+      noted (y .answer .number) (y .heap) (x .ledger) (if eqb (y .answer .offset) o then x .ledger else carried n o (y .answer .offset) (y .heap .memory) (x .ledger))
   after x (views o) = x
   after x (writes o text) =
       let y = write al (x .heap) o text in
@@ -121,6 +133,10 @@ text-part m text o s l f =
 
 byte-part : (m : List ℕ) (o s d v : ℕ) → d < s → part o s (set m (o + d) v) ≡ set (part o s m) d v
 byte-part m o s d v l = ap (take s) (drop-set-add o m d v) ∙ take-set-lt s (drop o m) d v l
+
+-- a size is at most the block size of its class
+class-fits : (al n : ℕ) → 1 ≤ al → n ≤ sizeOf al (classOf al n)
+class-fits al n h = omega (arith, div-add-mod (n - 1) al, mod-lt (n - 1) {m = al} h, mul-add al (classOf al n) 1, mul-one al)
 
 sets-off : (m : List ℕ) (o : ℕ) (text : List ℕ) (i : ℕ) → Outside o (length text) i → at (sets m o text) i ≡ at m i
 sets-off m o [] i f = refl
@@ -342,6 +358,227 @@ module _ {al : ℕ} (L : Aligned al) (m₀ : List ℕ) where
               away i l q (inl a) = omega arith
               away i l q (inr a) = omega arith
 
+  -- a resize that is refused, or keeps the block
+  module _ {x : State} (T : Tied al m₀ x) (o n : ℕ) where
+    resize-size : sizeNumber n ≡ 3 → resize al (x .heap) o n ≡ refused 3 (x .heap)
+    unfolding resize
+    resize-size e = rw (shape-zero (T .sound), e)
+
+    module _ (lo : 1 ≤ n) (hi : n ≤ 512) where
+      resize-dead : live al (T .A) (T .P) (x .heap .books) (x .heap .map) o ≡ false → resize al (x .heap) o n ≡ refused 5 (x .heap)
+      unfolding resize sizeNumber liveNumber
+      resize-dead e = rw (shape-zero (T .sound), le-leb 1 n lo, le-leb n 512 hi, T .sound .rule1 .arenas-are, T .sound .rule1 .pools-are, e)
+
+      module _ (e : live al (T .A) (T .P) (x .heap .books) (x .heap .map) o ≡ true) where
+        resize-keeps : keeps (sizeAt al (T .A) (x .heap .books) o) n ≡ true → resize al (x .heap) o n ≡ done o (x .heap)
+        unfolding resize resizeStep sizeNumber liveNumber
+        resize-keeps q = rw (shape-zero (T .sound), le-leb 1 n lo, le-leb n 512 hi, T .sound .rule1 .arenas-are, T .sound .rule1 .pools-are, e, q)
+
+        resize-none : keeps (sizeAt al (T .A) (x .heap .books) o) n ≡ false → plainAsk al (T .P) (T .rows) (classOf al n) ≡ NoRoom → resize al (x .heap) o n ≡ refused 4 (x .heap)
+        unfolding resize resizeStep moved askStep askAnswer afterAsk sizeNumber liveNumber
+        resize-none q z =
+            rw (shape-zero (T .sound), le-leb 1 n lo, le-leb n 512 hi, T .sound .rule1 .arenas-are, T .sound .rule1 .pools-are, e, q, ask-done L (T .sound) n lo hi .plan-is, z)
+
+  -- where the ledger has bytes, the heap has a live block of that many
+  some-live : {y : State} (R : Tied al m₀ y) (o : ℕ) → 1 ≤ length (y .ledger o) → live al (R .A) (R .P) (y .heap .books) (y .heap .map) o ≡ true
+  some-live {y} R o l = go (live al (R .A) (R .P) (y .heap .books) (y .heap .map) o) refl
+    where
+      go : (b : Bool) → live al (R .A) (R .P) (y .heap .books) (y .heap .map) o ≡ b → live al (R .A) (R .P) (y .heap .books) (y .heap .map) o ≡ true
+      go true e = e
+      go false e = absurd (omega (arith, ap length (R .tie o ∙ dead-holding al (R .A) (R .P) (y .heap) o e)))
+
+  long : (m : List ℕ) (o s : ℕ) → o + s ≤ length m → length (part o s m) ≡ s
+  long m o s l = length-take-le s (drop o m) (omega (arith, length-drop o m))
+
+  entry-long : {y : State} (R : Tied al m₀ y) (o : ℕ) (t : LiveAt al (R .A) (R .P) (R .rows) o) → length (y .ledger o) ≡ sizeOf al (R .rows .class (t .pool))
+  entry-long {y} R o t = ap length (R .tie o ∙ holding-live L (R .sound) o t) ∙ long (y .heap .memory) o (sizeOf al (R .rows .class (t .pool))) (in-memory R o t)
+
+  -- ---- resize: ask, copy, give back, each of which keeps the state tied
+  module _ {x : State} (T : Tied al m₀ x) (o n : ℕ) (lo : 1 ≤ n) (hi : n ≤ 512) (e : live al (T .A) (T .P) (x .heap .books) (x .heap .map) o ≡ true)
+      (z : askAnswer (plainAsk al (T .P) (T .rows) (classOf al n)) .number ≡ 0) where
+    abbrev new : ℕ
+    new = askAnswer (plainAsk al (T .P) (T .rows) (classOf al n)) .offset
+
+    abbrev size : ℕ
+    size = sizeOf al (classOf al n)
+
+    abbrev h₁ : Heap
+    h₁ = afterAsk al (T .A) (T .P) (classOf al n) (plainAsk al (T .P) (T .rows) (classOf al n)) (x .heap)
+
+    abbrev x₁ : State
+    x₁ = record { heap = h₁; ledger = to new (part new size (h₁ .memory)) (x .ledger) }
+
+    t₀ : LiveAt al (T .A) (T .P) (T .rows) o
+    t₀ = live-rows L (T .sound) o e
+
+    T₁ : Tied al m₀ x₁
+    unfolding numberOf after
+    T₁ = (rw (ask-is L (T .sound) n lo hi, z) at (step-ask T n)) .1
+
+    D : Asked al (T .A) (T .P) (x .heap) (T .rows) (classOf al n)
+    D = ask-done L (T .sound) n lo hi
+
+    H : Hand al (T .A) (T .P) (T .rows) (plainAfterAsk al (T .P) (T .rows) (classOf al n) (plainAsk al (T .P) (T .rows) (classOf al n))) (classOf al n) new
+    H = D .hand z
+
+    old-some : 8 ≤ length (x .ledger o)
+    old-some = omega (arith, entry-long T o t₀, size-low L (T .rows .class (t₀ .pool)) (t₀ .class))
+
+    differ : o ≢ new
+    differ q = absurd (omega (arith, old-some, ap length (T .tie o ∙ ap (holding al (T .A) (T .P) (x .heap)) q ∙ holding-none L (T .sound) (D .sound) (D .quiet) (has-class L n hi) H)))
+
+    new-fits : new + size ≤ length (h₁ .memory)
+    new-fits = omega (arith, H .place, H .inside, held (D .sound) .says .bytes, block-ends size (H .block) (suc (H .block)) (omega arith) (H .fits))
+
+    size-some : 8 ≤ size
+    size-some = size-low L (classOf al n) (has-class L n hi)
+
+    new-bytes : x₁ .ledger new ≡ part new size (h₁ .memory)
+    new-bytes = to-same new (part new size (h₁ .memory)) (x .ledger) new refl
+
+    old-bytes : x₁ .ledger o ≡ x .ledger o
+    old-bytes = to-other new (part new size (h₁ .memory)) (x .ledger) o differ
+
+    t₁ : LiveAt al (T₁ .A) (T₁ .P) (T₁ .rows) new
+    t₁ = live-rows L (T₁ .sound) new (some-live T₁ new (omega (arith, ap length new-bytes, long (h₁ .memory) new size new-fits, size-some)))
+
+    size₁ : sizeOf al (T₁ .rows .class (t₁ .pool)) ≡ size
+    size₁ = sym (entry-long T₁ new t₁) ∙ ap length new-bytes ∙ long (h₁ .memory) new size new-fits
+
+    u₁ : LiveAt al (T₁ .A) (T₁ .P) (T₁ .rows) o
+    u₁ = live-rows L (T₁ .sound) o (some-live T₁ o (omega (arith, ap length old-bytes, old-some)))
+
+    -- the bytes that are copied are the ledger's
+    abbrev k : ℕ
+    k = min n (sizeAt al (T .A) (x .heap .books) o)
+
+    abbrev text : List ℕ
+    text = take k (drop o (h₁ .memory))
+
+    k-is : k ≡ min n (length (x .ledger o))
+    k-is = ap (min n) (size-is T o t₀ ∙ sym (entry-long T o t₀))
+
+    k-old : k ≤ length (x .ledger o)
+    k-old = rw k-is (min-le-right n (length (x .ledger o)))
+
+    k-new : k ≤ size
+    k-new = omega (arith, min-le-left n (sizeAt al (T .A) (x .heap .books) o), class-fits al n (omega (arith, L .low)))
+
+    text-is : text ≡ take k (x .ledger o)
+    text-is =
+        sym (take-take k (length (x .ledger o)) (drop o (h₁ .memory)) k-old)
+        ∙ ap (take k) (sym (sym old-bytes ∙ T₁ .tie o ∙ holding-live L (T₁ .sound) o u₁ ∙ ap (λ (s : ℕ). part o s (h₁ .memory)) (sym (entry-long T₁ o u₁) ∙ ap length old-bytes)))
+
+    text-long : length text ≡ k
+    text-long = ap length text-is ∙ length-take-le k (x .ledger o) k-old
+
+    abbrev m₂ : List ℕ
+    m₂ = sets (h₁ .memory) new text
+
+    abbrev x₂ : State
+    x₂ = record { heap = heapOf m₂ (h₁ .books) (h₁ .map); ledger = to new (part new size m₂) (x₁ .ledger) }
+
+    T₂ : Tied al m₀ x₂
+    T₂ =
+        held-bytes T₁ new t₁ m₂ (part new size m₂) (length-sets (h₁ .memory) new text) (λ i f. sets-off (h₁ .memory) new text i (wide f)) (ap (λ (s : ℕ). part new s m₂) (sym size₁))
+      where
+        wide : {i : ℕ} → Outside new (sizeOf al (T₁ .rows .class (t₁ .pool))) i → Outside new (length text) i
+        wide (inl a) = inl a
+        wide (inr a) = inr (omega (arith, text-long, k-new, size₁))
+
+    -- what the new block holds in the end
+    new-end : take k (x .ledger o) ++ drop k (part new size m₂) ≡ part new size m₂
+    new-end =
+        let q = text-part (h₁ .memory) text new size (omega (arith, text-long, k-new)) new-fits in
+        ap (λ (b : List ℕ). take k (x .ledger o) ++ drop k b) q
+        ∙ ap (λ (b : List ℕ). take k (x .ledger o) ++ b) (drop-at text (drop (length text) (part new size (h₁ .memory))) k text-long)
+        ∙ ap (λ (b : List ℕ). b ++ drop (length text) (part new size (h₁ .memory))) (sym text-is)
+        ∙ sym q
+
+    old-stays : x₂ .ledger o ≡ x .ledger o
+    old-stays = to-other new (part new size m₂) (x₁ .ledger) o differ ∙ old-bytes
+
+    e₂ : live al (T₂ .A) (T₂ .P) (x₂ .heap .books) (x₂ .heap .map) o ≡ true
+    e₂ = some-live T₂ o (omega (arith, ap length old-stays, old-some))
+
+    -- the old block is given back
+    given : giveBack al (x₂ .heap) o .answer .number ≡ 0
+    given = ap (λ (y : Outcome). y .answer .number) (back-is L (T₂ .sound) o e₂)
+
+    abbrev x₃ : State
+    x₃ = record { heap = giveBack al (x₂ .heap) o .heap; ledger = to o [] (x₂ .ledger) }
+
+    T₃ : Tied al m₀ x₃
+    unfolding numberOf after
+    T₃ = (rw given at (step-give T₂ o)) .1
+
+    give-old-is : giveOld al (T .A) (T .P) (x₂ .heap) o ≡ giveBack al (x₂ .heap) o
+    unfolding giveOld giveBack liveNumber
+    give-old-is =
+        let ea : T₂ .A ≡ T .A = sym (T₂ .sound .rule1 .arenas-are) ∙ D .sound .rule1 .arenas-are in
+        let ep : T₂ .P ≡ T .P = sym (T₂ .sound .rule1 .pools-are) ∙ D .sound .rule1 .pools-are in
+        let l = rw (ea, ep) at e₂ in
+        rw (shape-zero (T₂ .sound), D .sound .rule1 .arenas-are, D .sound .rule1 .pools-are, l)
+
+    resize-moves : keeps (sizeAt al (T .A) (x .heap .books) o) n ≡ false → resize al (x .heap) o n ≡ done new (giveBack al (x₂ .heap) o .heap)
+    unfolding resize resizeStep moved askStep sizeNumber liveNumber
+    resize-moves q =
+        rw (shape-zero (T .sound), le-leb 1 n lo, le-leb n 512 hi, T .sound .rule1 .arenas-are, T .sound .rule1 .pools-are, e, q, D .plan-is, z, give-old-is, given)
+
+    -- the ledger that a moving resize notes is what is held
+    moved-tied : Tied al m₀ (record { heap = giveBack al (x₂ .heap) o .heap; ledger = carried al n o new (giveBack al (x₂ .heap) o .heap .memory) (x .ledger) })
+    moved-tied = record { A = T₃ .A; P = T₃ .P; rows = T₃ .rows; sound = T₃ .sound; tie = λ y. same-entry y (ℕ-discrete y new) (ℕ-discrete y o) ∙ T₃ .tie y; first = T₃ .first }
+      where
+        m₃ : List ℕ
+        m₃ = giveBack al (x₂ .heap) o .heap .memory
+
+        at-new : x₃ .ledger new ≡ part new size m₂
+        at-new = to-other o [] (x₂ .ledger) new (λ q. differ (sym q)) ∙ to-same new (part new size m₂) (x₁ .ledger) new refl
+
+        t₃ : LiveAt al (T₃ .A) (T₃ .P) (T₃ .rows) new
+        t₃ = live-rows L (T₃ .sound) new (some-live T₃ new (omega (arith, ap length at-new, long m₂ new size (rw (length-sets (h₁ .memory) new text) new-fits), size-some)))
+
+        size₃ : sizeOf al (T₃ .rows .class (t₃ .pool)) ≡ size
+        size₃ = sym (entry-long T₃ new t₃) ∙ ap length at-new ∙ long m₂ new size (rw (length-sets (h₁ .memory) new text) new-fits)
+
+        part-is : part new size (giveBack al (x₂ .heap) o .heap .memory) ≡ part new size m₂
+        part-is = sym (sym at-new ∙ T₃ .tie new ∙ holding-live L (T₃ .sound) new t₃ ∙ ap (λ (s : ℕ). part new s (giveBack al (x₂ .heap) o .heap .memory)) size₃)
+
+        same-entry : (y : ℕ) → Dec (y ≡ new) → Dec (y ≡ o) → carried al n o new (giveBack al (x₂ .heap) o .heap .memory) (x .ledger) y ≡ x₃ .ledger y
+        same-entry y (yes q) d =
+            to-same new (take (min n (length (x .ledger o))) (x .ledger o) ++ drop (min n (length (x .ledger o))) (part new size (giveBack al (x₂ .heap) o .heap .memory))) (to o [] (x .ledger)) y q
+            ∙ ap (λ (j : ℕ). take j (x .ledger o) ++ drop j (part new size (giveBack al (x₂ .heap) o .heap .memory))) (sym k-is)
+            ∙ ap (λ (b : List ℕ). take k (x .ledger o) ++ drop k b) part-is
+            ∙ new-end
+            ∙ sym (ap (x₃ .ledger) q ∙ at-new)
+        same-entry y (no q) (yes d) = rw (ne-eqb y new q, eq-eqb y o d)
+        same-entry y (no q) (no d) = rw (ne-eqb y new q, ne-eqb y o d)
+
+  step-resize : {x : State} → Tied al m₀ x → (o n : ℕ) → Good al m₀ (numberOf al x (resizes o n)) (after al x (resizes o n))
+  unfolding numberOf after
+  step-resize {x} T o n = by-size (size-number n)
+    where
+      Q : Outcome → Type 0
+      Q y = Good al m₀ (y .answer .number) (noted (y .answer .number) (y .heap) (x .ledger) (if eqb (y .answer .offset) o then x .ledger else carried al n o (y .answer .offset) (y .heap .memory) (x .ledger)))
+
+      by-room : (lo : 1 ≤ n) (hi : n ≤ 512) (e : live al (T .A) (T .P) (x .heap .books) (x .heap .map) o ≡ true) → keeps (sizeAt al (T .A) (x .heap .books) o) n ≡ false
+          → (askAnswer (plainAsk al (T .P) (T .rows) (classOf al n)) .number ≡ 0) ⊎ (plainAsk al (T .P) (T .rows) (classOf al n) ≡ NoRoom) → Q (resize al (x .heap) o n)
+      by-room lo hi e q (inl z) =
+          rw (resize-moves T o n lo hi e z q) ((omega arith), rw (ne-eqb (new T o n lo hi e z) o (λ u. differ T o n lo hi e z (sym u))) (moved-tied T o n lo hi e z))
+      by-room lo hi e q (inr z) = rw (resize-none T o n lo hi e q z) (same T 4 refl (omega arith) (x .ledger))
+
+      by-keep : (lo : 1 ≤ n) (hi : n ≤ 512) (e : live al (T .A) (T .P) (x .heap .books) (x .heap .map) o ≡ true) (b : Bool) → keeps (sizeAt al (T .A) (x .heap .books) o) n ≡ b → Q (resize al (x .heap) o n)
+      by-keep lo hi e true q = rw (resize-keeps T o n lo hi e q, eq-eqb o o refl) ((omega arith), T)
+      by-keep lo hi e false q = by-room lo hi e q (plain-number al (T .P) (T .rows) (classOf al n))
+
+      by-live : (lo : 1 ≤ n) (hi : n ≤ 512) (b : Bool) → live al (T .A) (T .P) (x .heap .books) (x .heap .map) o ≡ b → Q (resize al (x .heap) o n)
+      by-live lo hi false e = rw (resize-dead T o n lo hi e) (same T 5 refl (omega arith) (x .ledger))
+      by-live lo hi true e = by-keep lo hi e (keeps (sizeAt al (T .A) (x .heap .books) o) n) refl
+
+      by-size : ((1 ≤ n) × (n ≤ 512)) ⊎ (sizeNumber n ≡ 3) → Q (resize al (x .heap) o n)
+      by-size (inr e) = rw (resize-size T o n e) (same T 3 refl (omega arith) (x .ledger))
+      by-size (inl t) = by-live (t .0) (t .1) (live al (T .A) (T .P) (x .heap .books) (x .heap .map) o) refl
+
   -- a fresh heap is tied to the empty ledger
   fresh-tied : (m : List ℕ) (m₁ : List ℕ) (A P : ℕ) → inRange A P ≡ true → length m ≡ memoryLength A P → ((i : ℕ) → i % 4096 < 48 → at m i ≡ at m₁ i)
       → Tied al m₁ (record { heap = heapOf m (freshBooks A P) (replicate (mapLength A P) 0); ledger = λ o. [] })
@@ -395,6 +632,7 @@ module _ {al : ℕ} (L : Aligned al) (m₀ : List ℕ) where
   step T (formats A P) = step-format T A P
   step T (asks n) = step-ask T n
   step T (gives o) = step-give T o
+  step T (resizes o n) = step-resize T o n
   step {x} T (views o) = (view-number T o, T)
   step T (writes o text) = step-write T o text
   step T (rolls words) = (roll-number T words, T)
