@@ -24,3 +24,4 @@ pub mod Roll
 pub mod NoRoom
 pub mod History
 pub mod Theorems
+pub mod Reached
