@@ -1,0 +1,141 @@
+-- The calls of 01 over a sound heap: the tests of 1 and 2 pass, and ask and give back do the plain heap's step.
+-- Assumes nothing.
+use mathlib.Core.Path.{_≡_, refl, sym, ap, ap₂, _∙_, subst}
+use mathlib.Core.Logic.{_≢_, _⊎_, inl, inr}
+use mathlib.Core.Bool.{Bool, true, false, not, _&&_}
+use mathlib.Core.List.{List, [], _∷_}
+use Prim.Native.Nat.{ℕ, zero, suc, _+_, _*_, _-_, _/_, _%_, _≤_, _<_}
+use native.Mathlib.Omega.{arith}
+use lib.Dec.{leb, ltb, eqb}
+use lib.ListN.{length}
+use borrow.Author.Tests.{le-leb, le-ltb, leb-true}
+use Rattle.rules.specs.declared.AskPlan.{AskPlan}
+use Rattle.rules.specs.declared.AskPlan.the-variants.{NoRoom}
+use Rattle.rules.specs.declared.BackPlan.{BackPlan}
+use Rattle.rules.specs.declared.BackPlan.the-variants.{Joins, Stays, Empties, Returns, Releases}
+use Rattle.rules.specs.Say.{if_then_else_}
+use Rattle.rules.specs.Books.{Heap, arenas, pools, offsetOf}
+use Rattle.rules.specs.Blocks.{classOf, sizeOf, lastClass, startOf, blockNo, capacity, live, liveNumber}
+use Rattle.rules.specs.Outcome.{Outcome, outcome, refused, answerOf, passing}
+use Rattle.rules.specs.Ask.{askStep, askAnswer, afterAsk, planAsk}
+use Rattle.rules.specs.GiveBack.{backStep, backAnswer, afterBack, planBack}
+use Rattle.rules.specs.Numbers.{fitNumber, shapeNumber, sizeNumber, ask, giveBack}
+use Rattle.books.specs.Tests.{both}
+use Rattle.books.specs.Known.{Shaped, shaped}
+use Rattle.laws.specs.Update.{to}
+use Rattle.laws.specs.Plain.{Plain, count, free, none, front, rest, planAsk as plainAsk, afterAsk as plainAfterAsk, planBack as plainBack, afterBack as plainAfterBack, fromClass, fromListed, fromUsable, fromArena, fromUnused, askPlain, backPlain}
+use Rattle.laws.specs.Sizes.{Aligned, has-class}
+use Rattle.laws.specs.Sound.{Sound}
+use Rattle.laws.specs.Paths.{Asked, Backed}
+use Rattle.laws.specs.Emptied.{back-any}
+use Rattle.laws.specs.Sources.{ask-any}
+use Rattle.laws.specs.Holding.{LiveAt, live-rows, pool-is, start-at, class-is}
+
+-- rule 1: no 1 or 2
+pub shape-zero : {al A P : ℕ} {h : Heap} {r : Plain} → Sound al A P h r → shapeNumber h ≡ 0
+unfolding shapeNumber fitNumber
+shape-zero {al} {A} {P} {h} S =
+    let K = shaped h A P (S .rule1 .range) (S .rule1 .lengths) in
+    rw (le-ltb (length (h .books)) 2 (omega (arith, K .books)), S .rule1 .arenas-are, S .rule1 .pools-are, S .rule1 .range, S .rule1 .lengths)
+
+-- ---- the plain heap's ask is done, or finds no room
+either : (t : Bool) (x y : AskPlan) → askAnswer x .number ≡ 0 → askAnswer y .number ≡ 0 → askAnswer (if t then x else y) .number ≡ 0
+either true x y e f = e
+either false x y e f = f
+
+pub plain-number : (al P : ℕ) (r : Plain) (c : ℕ) → (askAnswer (plainAsk al P r c) .number ≡ 0) ⊎ (plainAsk al P r c ≡ NoRoom)
+unfolding askAnswer
+plain-number al P r c = by-class (r .listed c)
+  where
+    by-listed : (p k : ℕ) (ks : List ℕ) → (askAnswer (fromListed al P r c p k ks) .number ≡ 0) ⊎ (fromListed al P r c p k ks ≡ NoRoom)
+    by-listed p k (j ∷ js) = inl refl
+    by-listed p k [] = inl (either (ltb (r .virgin p) (capacity (sizeOf al c))) _ _ refl refl)
+
+    by-arena : (a : ℕ) (ps : List ℕ) → (askAnswer (fromArena al P r c a ps) .number ≡ 0) ⊎ (fromArena al P r c a ps ≡ NoRoom)
+    by-arena a [] = inl refl
+    by-arena a (p ∷ ps) = inl (either (eqb (r .class p) c) _ _ refl refl)
+
+    by-unused : (us : List ℕ) → (askAnswer (fromUnused al P r c us) .number ≡ 0) ⊎ (fromUnused al P r c us ≡ NoRoom)
+    by-unused [] = inr refl
+    by-unused (a ∷ us) = inl refl
+
+    by-usable : (us : List ℕ) → (askAnswer (fromUsable al P r c us) .number ≡ 0) ⊎ (fromUsable al P r c us ≡ NoRoom)
+    by-usable [] = by-unused (r .unused)
+    by-usable (a ∷ us) = by-arena a (r .freed a)
+
+    by-class : (ps : List ℕ) → (askAnswer (fromClass al P r c ps) .number ≡ 0) ⊎ (fromClass al P r c ps ≡ NoRoom)
+    by-class [] = by-usable (r .usable)
+    by-class (p ∷ ps) = by-listed p (front (r .chain p)) (rest (r .chain p))
+
+-- ---- ask
+module _ {al A P : ℕ} {h : Heap} {r : Plain} (L : Aligned al) (S : Sound al A P h r) (n : ℕ) where
+  pub ask-size : sizeNumber n ≡ 3 → ask al h n ≡ refused 3 h
+  unfolding ask
+  ask-size e = rw (shape-zero S, e)
+
+  module _ (low : 1 ≤ n) (high : n ≤ 512) where
+    abbrev pub c : ℕ
+    c = classOf al n
+
+    pub ask-done : Asked al A P h r (classOf al n)
+    ask-done = ask-any L S (classOf al n) (has-class L n high)
+
+    -- an ask answers number and offset as the plain heap does
+    pub ask-is : ask al h n ≡ outcome (askAnswer (plainAsk al P r (classOf al n))) (afterAsk al A P (classOf al n) (plainAsk al P r (classOf al n)) h)
+    unfolding ask askStep sizeNumber
+    ask-is = rw (shape-zero S, le-leb 1 n low, le-leb n 512 high, S .rule1 .arenas-are, S .rule1 .pools-are, ask-done .plan-is)
+
+-- the sizes that are refused with 3
+pub size-number : (n : ℕ) → ((1 ≤ n) × (n ≤ 512)) ⊎ (sizeNumber n ≡ 3)
+unfolding sizeNumber
+size-number n = go (leb 1 n) (leb n 512) refl refl
+  where
+    go : (t u : Bool) → leb 1 n ≡ t → leb n 512 ≡ u → ((1 ≤ n) × (n ≤ 512)) ⊎ (_≡_ {A = ℕ} (if t && u then 0 else 3) 3)
+    go true true e f = inl (leb-true 1 n e, leb-true n 512 f)
+    go true false e f = inr refl
+    go false u e f = inr refl
+
+-- ---- give back
+-- every path of the plain heap is done, turns the block off and leaves the classes
+pub plain-back : (P : ℕ) (r : Plain) (p j o : ℕ)
+    → (backAnswer o (plainBack P r p j) ≡ answerOf 0 o) × (backPlain P r p j .live ≡ to p (to j false (r .live p)) (r .live)) × (backPlain P r p j .class ≡ r .class)
+unfolding backAnswer
+plain-back P r p j o = go (none (r .chain p)) (eqb (count r p) 1) (eqb (free P r (p / P) + 1) P) (eqb (free P r (p / P)) 0)
+  where
+    go : (t u v w : Bool)
+        → (backAnswer o (if t then Joins else (if u then (if v then Releases else (if w then Returns else Empties)) else Stays)) ≡ answerOf 0 o)
+        × (plainAfterBack P r p j (if t then Joins else (if u then (if v then Releases else (if w then Returns else Empties)) else Stays)) .live ≡ to p (to j false (r .live p)) (r .live))
+        × (plainAfterBack P r p j (if t then Joins else (if u then (if v then Releases else (if w then Returns else Empties)) else Stays)) .class ≡ r .class)
+    go true u v w = (refl, refl, refl)
+    go false false v w = (refl, refl, refl)
+    go false true true w = (refl, refl, refl)
+    go false true false true = (refl, refl, refl)
+    go false true false false = (refl, refl, refl)
+
+module _ {al A P : ℕ} {h : Heap} {r : Plain} (L : Aligned al) (S : Sound al A P h r) (o : ℕ) where
+  pub back-dead : live al A P (h .books) (h .map) o ≡ false → giveBack al h o ≡ refused 5 h
+  unfolding giveBack liveNumber
+  back-dead e = rw (shape-zero S, S .rule1 .arenas-are, S .rule1 .pools-are, e)
+
+  module _ (e : live al A P (h .books) (h .map) o ≡ true) where
+    pub block-of : LiveAt al A P r o
+    block-of = live-rows L S o e
+
+    pub back-done : Backed al A P h r (block-of .pool) (block-of .block)
+    back-done = back-any L S (block-of .pool) (block-of .block) (block-of .inside) (block-of .on)
+
+    pub back-is : giveBack al h o ≡ outcome (answerOf 0 o)
+        (afterBack al A P (r .class (block-of .pool)) (block-of .pool) (startOf (sizeOf al (r .class (block-of .pool))) (block-of .block)) (plainBack P r (block-of .pool) (block-of .block)) h)
+    unfolding giveBack backStep liveNumber
+    back-is =
+        rw (
+          shape-zero S,
+          S .rule1 .arenas-are,
+          S .rule1 .pools-are,
+          e,
+          class-is L S o block-of,
+          pool-is L S o block-of,
+          start-at L S o block-of,
+          back-done .plan-is,
+          plain-back P r (block-of .pool) (block-of .block) o .0,
+        )

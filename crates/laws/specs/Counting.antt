@@ -1,0 +1,104 @@
+-- The laws of counting: `howMany test n` where the test changes at one number, and where it passes everywhere or nowhere.
+-- Assumes nothing.
+use mathlib.Core.Path.{_≡_, refl, sym, ap, _∙_}
+use mathlib.Core.Logic.{_≢_}
+use mathlib.Core.Bool.{Bool, true, false, not}
+use Prim.Native.Nat.{ℕ, zero, suc, _+_, _≤_, _<_}
+use native.Mathlib.Decide.{ℕ-discrete}
+use native.Mathlib.Omega.{arith}
+use Rattle.rules.specs.Say.{if_then_else_}
+use Rattle.laws.specs.Plain.{howMany}
+
+abbrev one : Bool → ℕ
+one t = if t then 1 else 0
+
+one-le : (t : Bool) → one t ≤ 1
+one-le true = omega arith
+one-le false = omega arith
+
+pub many-same : (f g : ℕ → Bool) (n : ℕ) → ((k : ℕ) → k < n → g k ≡ f k) → howMany g n ≡ howMany f n
+unfolding howMany
+many-same f g zero e = refl
+many-same f g (suc n) e = rw (e n (omega arith), many-same f g n (λ k l. e k (omega arith)))
+
+-- one more passes
+pub many-more : (f g : ℕ → Bool) (x n : ℕ) → x < n → f x ≡ false → g x ≡ true → ((k : ℕ) → k ≢ x → g k ≡ f k) → howMany g n ≡ suc (howMany f n)
+unfolding howMany
+many-more f g x zero l p q s = absurd (omega arith)
+many-more f g x (suc n) l p q s = go (ℕ-discrete n x) (λ h. many-more f g x n h p q s)
+  where
+    go : Dec (n ≡ x) → (x < n → howMany g n ≡ suc (howMany f n)) → one (g n) + howMany g n ≡ suc (one (f n) + howMany f n)
+    go (yes e) h = rw (e, p, q) (omega (arith, rw e at (many-same f g n (λ k m. s k (omega arith)))))
+    go (no d) h = rw (s n d, h (omega arith)) (omega arith)
+
+pub many-none : (f : ℕ → Bool) (n : ℕ) → ((k : ℕ) → k < n → f k ≡ false) → howMany f n ≡ 0
+unfolding howMany
+many-none f zero e = refl
+many-none f (suc n) e = rw (e n (omega arith), many-none f n (λ k l. e k (omega arith)))
+
+pub many-all : (f : ℕ → Bool) (n : ℕ) → ((k : ℕ) → k < n → f k ≡ true) → howMany f n ≡ n
+unfolding howMany
+many-all f zero e = refl
+many-all f (suc n) e = rw (e n (omega arith), many-all f n (λ k l. e k (omega arith))) (omega arith)
+
+pub many-some : (f : ℕ → Bool) (k n : ℕ) → k < n → f k ≡ true → 1 ≤ howMany f n
+unfolding howMany
+many-some f k zero l e = absurd (omega arith)
+many-some f k (suc n) l e = go (ℕ-discrete k n) (λ u. many-some f k n u e)
+  where
+    go : Dec (k ≡ n) → (k < n → 1 ≤ howMany f n) → 1 ≤ one (f n) + howMany f n
+    go (yes q) t = rw (← q, e) (omega arith)
+    go (no q) t = omega (arith, t (omega arith))
+
+-- none passes where none is counted
+pub none-many : (f : ℕ → Bool) (n : ℕ) → howMany f n ≡ 0 → (k : ℕ) → k < n → f k ≡ false
+none-many f n z k l = go (f k) refl
+  where
+    go : (t : Bool) → f k ≡ t → f k ≡ false
+    go true e = absurd (omega (arith, many-some f k n l e))
+    go false e = e
+
+-- numbers at which no test passes count for nothing
+pub many-cut : (f : ℕ → Bool) (v n : ℕ) → v ≤ n → ((k : ℕ) → v ≤ k → k < n → f k ≡ false) → howMany f n ≡ howMany f v
+unfolding howMany
+many-cut f zero zero l e = refl
+many-cut f (suc v) zero l e = absurd (omega arith)
+many-cut f v (suc n) l e = go (ℕ-discrete v (suc n)) (λ u. many-cut f v n u (λ k a b. e k a (omega arith)))
+  where
+    go : Dec (v ≡ suc n) → (v ≤ n → howMany f n ≡ howMany f v) → howMany f (suc n) ≡ howMany f v
+    go (yes q) t = ap (howMany f) (sym q)
+    go (no q) t = rw (e n (omega arith) (omega arith)) (omega (arith, t (omega arith)))
+
+pub many-le : (f : ℕ → Bool) (n : ℕ) → howMany f n ≤ n
+unfolding howMany
+many-le f zero = omega arith
+many-le f (suc n) = omega (arith, one-le (f n), many-le f n)
+
+-- all pass where all are counted
+pub all-many : (f : ℕ → Bool) (n : ℕ) → howMany f n ≡ n → (k : ℕ) → k < n → f k ≡ true
+unfolding howMany
+all-many f zero e k l = absurd (omega arith)
+all-many f (suc n) e k l = go (ℕ-discrete k n) (f n) refl (λ z. all-many f n z k)
+  where
+    go : Dec (k ≡ n) → (t : Bool) → f n ≡ t → (howMany f n ≡ n → k < n → f k ≡ true) → f k ≡ true
+    go d false q h = absurd (omega (arith, ap one q, many-le f n))
+    go (yes p) true q h = ap f p ∙ q
+    go (no p) true q h = h (omega (arith, ap one q)) (omega arith)
+
+-- where some are counted, one passes
+pub record Passes (f : ℕ → Bool) (n : ℕ) : Type 0 where
+  pub number : ℕ
+  pub low : number < n
+  pub yes : f number ≡ true
+
+pub many-has : (f : ℕ → Bool) (n : ℕ) → 1 ≤ howMany f n → Passes f n
+unfolding howMany
+many-has f zero l = absurd (omega arith)
+many-has f (suc n) l = go (f n) refl (many-has f n)
+  where
+    up : Passes f n → Passes f (suc n)
+    up t = record { number = t .number; low = omega (arith, t .low); yes = t .yes }
+
+    go : (t : Bool) → f n ≡ t → (1 ≤ howMany f n → Passes f n) → Passes f (suc n)
+    go true e h = record { number = n; low = omega arith; yes = e }
+    go false e h = up (h (omega (arith, ap one e)))

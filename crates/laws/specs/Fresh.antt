@@ -1,0 +1,266 @@
+-- Format: the books that it writes, word by word, and that they hold the fresh plain heap, whatever the buffers held.
+-- Assumes nothing.
+use mathlib.Core.Path.{_≡_, refl, sym, ap, ap₂, _∙_, subst}
+use mathlib.Core.Logic.{_≢_, _⊎_, inl, inr}
+use mathlib.Core.Bool.{Bool, true, false}
+use mathlib.Core.List.{List, [], _∷_, _++_}
+use Prim.Native.Nat.{ℕ, zero, suc, _+_, _*_, _-_, _/_, _%_, _^_, _≤_, _<_}
+use native.Mathlib.Nat.{zero-div, zero-mod}
+use native.Mathlib.Decide.{ℕ-discrete, decLe}
+use native.Mathlib.Omega.{arith}
+use lib.Dec.{eqb}
+use lib.ListN.{length, getD, replicate, length-append, length-replicate, getD-replicate, List·getD-append, List·getD-eq-default}
+use lib.Seq.{getD-append-add}
+use borrow.Author.Tests.{eq-eqb, ne-eqb, le-ltb, ltb-true}
+use Rattle.rules.specs.Say.{if_then_else_}
+use Rattle.rules.specs.Books.{Heap, at, inRange, exact, memoryLength, mapLength, bit, isSet, mapWord, classHead, freedHead, arenaWord, poolWord, linkTo, noClass}
+use Rattle.rules.specs.Format.{freshArenas, freshPools, freshBooks}
+use Rattle.rules.specs.Outcome.{heapOf}
+use Rattle.books.specs.Known.{Shaped, shaped, in-range}
+use Rattle.laws.specs.Rows.{All, Not, Once, In, Seg}
+use Rattle.laws.specs.Linked.{Doubly}
+use Rattle.laws.specs.Families.{At, Family}
+use Rattle.laws.specs.Books.{View, Books, ArenaHead}
+use Rattle.laws.specs.Plain.{Plain, count, inUse, carved, free, from, fresh}
+use Rattle.laws.specs.Counting.{many-none}
+use Rattle.laws.specs.Sizes.{Aligned}
+use Rattle.laws.specs.Sound.{home, base, arenaRows, Sound}
+use Rattle.laws.specs.Held.{Says, viewOf, home-away, base-unused, clash, sound}
+
+-- ---- the records
+-- word w of record a, in a list of records of eight words
+eight : (a w : ℕ) → 8 * suc a + w ≡ suc (suc (suc (suc (suc (suc (suc (suc (8 * a + w))))))))
+eight a w = omega arith
+
+arena-words : (i k a w : ℕ) → a < k → w < 8
+    → at (freshArenas i k) (8 * a + w) ≡ (if eqb w 4 then (if eqb (k - suc a) 0 then 0 else linkTo (i + a + 1)) else if eqb w 5 then i + a else 0)
+arena-words i zero a w l u = absurd (omega arith)
+arena-words i (suc k) (suc a) w l u =
+    let e : suc k - suc (suc a) ≡ k - suc a = omega arith in
+    let f : i + suc a + 1 ≡ suc i + a + 1 = omega arith in
+    let g : i + suc a ≡ suc i + a = omega arith in
+    rw (eight a w, e, f, g) (arena-words (suc i) k a w (omega arith) u)
+arena-words i (suc k) zero w l u =
+    let e : 8 * 0 + w ≡ w = omega arith in
+    let f : suc k - 1 ≡ k = omega arith in
+    let g : i + 0 + 1 ≡ i + 1 = omega arith in
+    let h : i + 0 ≡ i = omega arith in
+    rw (e, f, g, h) (go w u)
+  where
+    go : (w : ℕ) → w < 8 → at (freshArenas i (suc k)) w ≡ (if eqb w 4 then (if eqb k 0 then 0 else linkTo (i + 1)) else if eqb w 5 then i else 0)
+    go zero u = refl
+    go (suc zero) u = refl
+    go (suc (suc zero)) u = refl
+    go (suc (suc (suc zero))) u = refl
+    go (suc (suc (suc (suc zero)))) u = refl
+    go (suc (suc (suc (suc (suc zero))))) u = refl
+    go (suc (suc (suc (suc (suc (suc zero)))))) u = refl
+    go (suc (suc (suc (suc (suc (suc (suc zero))))))) u = refl
+    go (suc (suc (suc (suc (suc (suc (suc (suc w)))))))) u = absurd (omega arith)
+
+pool-words : (k n w : ℕ) → n < k → w < 8 → at (freshPools k) (8 * n + w) ≡ (if eqb w 4 then noClass else 0)
+pool-words zero n w l u = absurd (omega arith)
+pool-words (suc k) (suc n) w l u = rw (eight n w) (pool-words k n w (omega arith) u)
+pool-words (suc k) zero w l u = let e : 8 * 0 + w ≡ w = omega arith in rw e (go w u)
+  where
+    go : (w : ℕ) → w < 8 → at (freshPools (suc k)) w ≡ (if eqb w 4 then noClass else 0)
+    go zero u = refl
+    go (suc zero) u = refl
+    go (suc (suc zero)) u = refl
+    go (suc (suc (suc zero))) u = refl
+    go (suc (suc (suc (suc zero)))) u = refl
+    go (suc (suc (suc (suc (suc zero))))) u = refl
+    go (suc (suc (suc (suc (suc (suc zero)))))) u = refl
+    go (suc (suc (suc (suc (suc (suc (suc zero))))))) u = refl
+    go (suc (suc (suc (suc (suc (suc (suc (suc w)))))))) u = absurd (omega arith)
+
+length-arenas : (i k : ℕ) → length (freshArenas i k) ≡ 8 * k
+length-arenas i zero = refl
+length-arenas i (suc k) = omega (arith, length-arenas (suc i) k)
+
+length-pools : (k : ℕ) → length (freshPools k) ≡ 8 * k
+length-pools zero = refl
+length-pools (suc k) = omega (arith, length-pools k)
+
+-- ---- the books, word by word
+module _ (A P : ℕ) where
+  abbrev heads : List ℕ
+  heads = A ∷ P ∷ 0 ∷ linkTo 0 ∷ replicate 68 0
+
+  abbrev records : List ℕ
+  records = freshArenas 0 A ++ freshPools (A * P)
+
+  length-heads : length heads ≡ 72
+  length-heads = refl
+
+  pub length-fresh : length (freshBooks A P) ≡ 72 + 8 * A + 8 * (A * P)
+  unfolding freshBooks
+  length-fresh =
+      omega (arith, length-append heads records, length-heads, length-append (freshArenas 0 A) (freshPools (A * P)), length-arenas 0 A, length-pools (A * P))
+
+  head-word : (i : ℕ) → i < 72 → at (freshBooks A P) i ≡ at heads i
+  unfolding freshBooks
+  head-word i l = List·getD-append heads records 0 i (rw length-heads l)
+
+  pub first-words : (at (freshBooks A P) 0 ≡ A) × (at (freshBooks A P) 1 ≡ P) × (at (freshBooks A P) 2 ≡ 0) × (at (freshBooks A P) 3 ≡ 1)
+  first-words = (head-word 0 (omega arith), head-word 1 (omega arith), head-word 2 (omega arith), head-word 3 (omega arith))
+
+  pub other-heads : (i : ℕ) → 4 ≤ i → i < 72 → at (freshBooks A P) i ≡ 0
+  other-heads i u v =
+      let e : i ≡ suc (suc (suc (suc (i - 4)))) = omega arith in
+      head-word i v ∙ ap (at heads) e ∙ getD-replicate 68 (i - 4) 0 0 (omega arith)
+
+  pub arena-word : (w a : ℕ) → w < 8 → a < A
+      → at (freshBooks A P) (arenaWord w a) ≡ (if eqb w 4 then (if eqb (A - suc a) 0 then 0 else linkTo (0 + a + 1)) else if eqb w 5 then 0 + a else 0)
+  unfolding freshBooks
+  arena-word w a u l =
+      let e : arenaWord w a ≡ 72 + (8 * a + w) = omega arith in
+      ap (at (heads ++ records)) e
+      ∙ getD-append-add heads records (8 * a + w) 0
+      ∙ List·getD-append (freshArenas 0 A) (freshPools (A * P)) 0 (8 * a + w) (omega (arith, length-arenas 0 A))
+      ∙ arena-words 0 A a w l u
+
+  pub pool-word : (w n : ℕ) → w < 8 → n < A * P → at (freshBooks A P) (poolWord A w n) ≡ (if eqb w 4 then noClass else 0)
+  unfolding freshBooks
+  pool-word w n u l =
+      let e : poolWord A w n ≡ 72 + (8 * A + (8 * n + w)) = omega arith in
+      let f : 8 * A + (8 * n + w) ≡ length (freshArenas 0 A) + (8 * n + w) = ap (λ (x : ℕ). x + (8 * n + w)) (sym (length-arenas 0 A)) in
+      ap (at (heads ++ records)) e
+      ∙ getD-append-add heads records (8 * A + (8 * n + w)) 0
+      ∙ ap (at records) f
+      ∙ getD-append-add (freshArenas 0 A) (freshPools (A * P)) (8 * n + w) 0
+      ∙ pool-words (A * P) n w l u
+
+-- ---- the unused list is every arena in rising order
+all-from-low : (Q : ℕ → Type 0) (i k : ℕ) → ((y : ℕ) → i ≤ y → y < i + k → Q y) → All Q (from i k)
+all-from-low Q i zero f = tt
+all-from-low Q i (suc k) f = (f i (omega arith) (omega arith), all-from-low Q (suc i) k (λ y l h. f y (omega arith) (omega arith)))
+
+once-from : (i k : ℕ) → Once (from i k)
+once-from i zero = tt
+once-from i (suc k) = (all-from-low (λ y. i ≢ y) (suc i) k (λ y l h. omega arith), once-from (suc i) k)
+
+in-from : (i k y : ℕ) → i ≤ y → y < i + k → In y (from i k)
+in-from i zero y l u = absurd (omega arith)
+in-from i (suc k) y l u = go (ℕ-discrete y i) (λ v. in-from (suc i) k y v (omega arith))
+  where
+    go : Dec (y ≡ i) → (suc i ≤ y → In y (from (suc i) k)) → (y ≡ i) ⊎ In y (from (suc i) k)
+    go (yes q) f = inl q
+    go (no q) f = inr (f (omega arith))
+
+module _ (A P : ℕ) (low : 1 ≤ A) where
+  next : (a : ℕ) → suc a < A → at (freshBooks A P) (arenaWord 4 a) ≡ suc (suc a)
+  next a l = arena-word A P 4 a (omega arith) (omega arith) ∙ rw (ne-eqb (A - suc a) 0 (omega arith)) (omega arith)
+
+  last : (a : ℕ) → suc a ≡ A → at (freshBooks A P) (arenaWord 4 a) ≡ 0
+  last a e = arena-word A P 4 a (omega arith) (omega arith) ∙ rw (eq-eqb (A - suc a) 0 (omega arith))
+
+  previous : (a : ℕ) → a < A → at (freshBooks A P) (arenaWord 5 a) ≡ a
+  previous a l = arena-word A P 5 a (omega arith) l ∙ omega arith
+
+  walk : (i k : ℕ) → i + suc k ≡ A → Seg (λ a. at (freshBooks A P) (arenaWord 4 a)) (λ a. at (freshBooks A P) (arenaWord 5 a)) (suc i) i (from i (suc k))
+  walk i zero e = (refl, (previous i (omega arith), last i (omega arith)))
+  walk i (suc k) e = (refl, (previous i (omega arith), rw (next i (omega arith)) (walk (suc i) k (omega arith))))
+
+  unused-row : Doubly (arenaWord 4) (arenaWord 5) (freshBooks A P) 3 (from 0 A)
+  unused-row = go A refl
+    where
+      go : (k : ℕ) → k ≡ A → Doubly (arenaWord 4) (arenaWord 5) (freshBooks A P) 3 (from 0 k)
+      go zero e = absurd (omega arith)
+      go (suc k) e = record { row = record { walk = rw (first-words A P .3) (walk 0 k (omega arith)); once = once-from 0 (suc k) } }
+
+-- ---- the fresh heap
+module _ (al A P : ℕ) (L : Aligned al) (m : List ℕ) (range : inRange A P ≡ true) (bytes : length m ≡ memoryLength A P) where
+  arenas-low : 1 ≤ A
+  arenas-low = in-range A P range .0
+
+  pools-low : 2 ≤ P
+  pools-low = in-range A P range .2
+
+  no-live : (n : ℕ) → count (fresh A) n ≡ 0
+  no-live n = many-none (λ j. false) 512 (λ j _. refl)
+
+  away : (n : ℕ) → home al P (fresh A) n ≡ 1
+  away n = home-away al P (fresh A) n (no-live n) (le-ltb (n % P) 0 (omega arith))
+
+  unused : (a : ℕ) → base P (fresh A) a ≡ 3
+  unused a = base-unused P (fresh A) a refl
+
+  dark : (n j : ℕ) → n < A * P → j < 512 → isSet (replicate (mapLength A P) 0) n j ≡ false
+  unfolding bit
+  dark n j l u =
+      rw (getD-replicate {A = ℕ} (mapLength A P) (mapWord n j) 0 0 (omega arith), zero-div (2 ^ (j % 64)))
+
+  zero-arena : (w a : ℕ) → w < 8 → w ≢ 4 → w ≢ 5 → a < A → at (freshBooks A P) (arenaWord w a) ≡ 0
+  zero-arena w a u d e l = arena-word A P w a u l ∙ rw (ne-eqb w 4 d, ne-eqb w 5 e)
+
+  zero-pool : (w n : ℕ) → w < 8 → w ≢ 4 → n < A * P → at (freshBooks A P) (poolWord A w n) ≡ 0
+  zero-pool w n u d l = pool-word A P w n u l ∙ rw (ne-eqb w 4 d)
+
+  books : Books A (A * P) (freshBooks A P) (viewOf al A P (freshBooks A P) (fresh A))
+  books =
+      record {
+        words = length-fresh A P;
+        first = λ i l. refl;
+        spare = λ i l u. refl;
+        pools = λ w n g l. refl;
+        arenas = λ w a g l. refl;
+        listed = record {
+          row = λ c l. record { row = record { walk = other-heads A P (classHead c) (omega arith) (omega arith); once = tt } };
+          members = λ c l. tt;
+          all = λ c l y u e. absurd (omega (arith, away y));
+        };
+        freed = record {
+          row = λ a l. record { walk = zero-arena 3 a (omega arith) (omega arith) (omega arith) l; once = tt; behind = tt };
+          members = λ a l. tt;
+          all = λ a l y u e. absurd (omega (arith, away y));
+        };
+        lists = record { row = λ i h. row′ i h (ℕ-discrete i 2); members = λ i h. members′ i h (ℕ-discrete i 2); all = all′ };
+        loose = λ n l e. absurd (omega (arith, away n));
+        spent = λ a l e. absurd (omega (arith, unused a));
+      }
+    where
+      row′ : (i : ℕ) → ArenaHead i → Dec (i ≡ 2) → Doubly (arenaWord 4) (arenaWord 5) (freshBooks A P) i (arenaRows (fresh A) i)
+      row′ i h (yes q) = rw q (record { row = record { walk = first-words A P .2; once = tt } })
+      row′ i h (no q) = let e : i ≡ 3 = omega arith in rw e (unused-row A P arenas-low)
+
+      members′ : (i : ℕ) → ArenaHead i → Dec (i ≡ 2) → All (At A (base P (fresh A)) i) (arenaRows (fresh A) i)
+      members′ i h (yes q) = rw q tt
+      members′ i h (no q) =
+          let e : i ≡ 3 = omega arith in
+          rw e (all-from-low (At A (base P (fresh A)) 3) 0 A (λ y _ l. record { low = omega arith; is = unused y }))
+
+      all′ : (i : ℕ) → ArenaHead i → (y : ℕ) → y < A → base P (fresh A) y ≡ i → In y (arenaRows (fresh A) i)
+      all′ i h y l e = let q : i ≡ 3 = sym e ∙ unused y in rw q (in-from 0 A y (omega arith) (omega arith))
+
+  says : Says al A P (viewOf al A P (freshBooks A P) (fresh A)) m (replicate (mapLength A P) 0) (fresh A)
+  says =
+      record {
+        range = range;
+        bytes = bytes;
+        maps = length-replicate (mapLength A P) 0;
+        arenas-are = first-words A P .0;
+        pools-are = first-words A P .1;
+        head-zeros = λ i u v. other-heads A P i (omega arith) v;
+        arena-zeros = λ w a u v l. zero-arena w a v (omega arith) (omega arith) l;
+        pool-zeros = λ n l. zero-pool 7 n (omega arith) (omega arith) l;
+        opens = λ a l. zero-arena 0 a (omega arith) (omega arith) (omega arith) l;
+        marks = λ a l. zero-arena 1 a (omega arith) (omega arith) (omega arith) l;
+        mark-high = λ a l. omega arith;
+        frees = λ a l. zero-arena 2 a (omega arith) (omega arith) (omega arith) l;
+        counts = λ n l. zero-pool 0 n (omega arith) (omega arith) l ∙ sym (no-live n);
+        classes = λ n l. pool-word A P 4 n (omega arith) l;
+        bits = dark;
+        used = λ n j l e. absurd (clash (sym e));
+        pools = λ n l c. absurd (omega (arith, ltb-true (n % P) 0 c));
+        homes = λ n l. refl;
+        bases = λ a l. refl;
+        listed = λ c l. refl;
+        freed = λ a l. refl;
+        usable = refl;
+        unused = refl;
+      }
+
+  -- format leaves the fresh plain heap
+  pub fresh-sound : Sound al A P (heapOf m (freshBooks A P) (replicate (mapLength A P) 0)) (fresh A)
+  fresh-sound = sound L books says

@@ -1,0 +1,284 @@
+-- What a heap holds at an offset: the bytes of the live block there, or nothing. What an ask and a give-back make of it.
+-- Assumes nothing.
+use mathlib.Core.Path.{_≡_, refl, sym, ap, ap₂, _∙_, subst}
+use mathlib.Core.Logic.{_≢_, _⊎_, inl, inr}
+use mathlib.Core.Bool.{Bool, true, false, not, _&&_}
+use mathlib.Core.List.{List, [], _∷_}
+use Prim.Native.Nat.{ℕ, zero, suc, _+_, _*_, _-_, _/_, _%_, _≤_, _<_}
+use native.Mathlib.Nat.{mul-le-mul-right, suc-mul}
+use native.Mathlib.Decide.{ℕ-discrete, decLe}
+use native.Mathlib.Omega.{arith}
+use lib.Dec.{leb, ltb, eqb}
+use lib.ListN.{length, getD, take, drop, length-drop}
+use lib.Seq.{ext-getD, getD-take, getD-drop, length-take-le}
+use borrow.Author.Tests.{eq-eqb, ne-eqb, le-leb, lt-ltb}
+use Rattle.rules.specs.Say.{if_then_else_}
+use Rattle.rules.specs.Books.{Heap, at, memoryLength, isSet, offsetOf}
+use Rattle.rules.specs.Blocks.{sizeOf, lastClass, startOf, isStart, blockNo, capacity, classAt, sizeAt, live}
+use Rattle.rules.specs.View.{part}
+use Rattle.books.specs.Starts.{start-is, number-is}
+use Rattle.books.specs.Known.{LiveBlock, live-is}
+use Rattle.laws.specs.Update.{to, to-same, to-other}
+use Rattle.laws.specs.Plain.{Plain}
+use Rattle.laws.specs.Sizes.{Aligned, size-low, size-high, capacity-high}
+use Rattle.laws.specs.Chains.{block-ends}
+use Rattle.laws.specs.Sound.{Sound}
+use Rattle.laws.specs.Held.{Held, held, in-class, clash}
+use Rattle.laws.specs.Paths.{Quiet, Hand}
+
+-- the bytes that the heap h of A arenas with P pools holds at offset o
+unfoldable pub holding : ℕ → ℕ → ℕ → Heap → ℕ → List ℕ
+holding al A P h o = if live al A P (h .books) (h .map) o then part o (sizeAt al A (h .books) o) (h .memory) else []
+
+-- ---- the rows have block k of pool p live, at offset o
+pub record LiveAt (al A P : ℕ) (r : Plain) (o : ℕ) : Type 0 where
+  pub pool : ℕ
+  pub block : ℕ
+  pub place : o ≡ offsetOf pool (startOf (sizeOf al (r .class pool)) block)
+  pub inside : pool < A * P
+  pub class : r .class pool ≤ lastClass al
+  pub fits : block < capacity (sizeOf al (r .class pool))
+  pub on : r .live pool block ≡ true
+
+module _ {al A P : ℕ} {h : Heap} {r : Plain} (L : Aligned al) (S : Sound al A P h r) where
+  -- what the live test says is what the rows have
+  pub live-rows : (o : ℕ) → live al A P (h .books) (h .map) o ≡ true → LiveAt al A P r o
+  live-rows o e =
+      let t = live-is al A P (h .books) (h .map) o (L .low) (L .high) e in
+      let c : classAt A (h .books) o ≡ r .class (o / 4096) = S .classes (o / 4096) (t .pool) in
+      let z = rw c at (t .start) in
+      record {
+        pool = o / 4096;
+        block = blockNo (sizeOf al (r .class (o / 4096))) (o % 4096);
+        place = omega (arith, z .place);
+        inside = t .pool;
+        class = rw c at (t .class);
+        fits = z .number;
+        on = sym (S .bits (o / 4096) _ (t .pool) (omega (arith, z .few))) ∙ rw c at (t .set);
+      }
+
+  module _ (o : ℕ) (t : LiveAt al A P r o) where
+    ends : startOf (sizeOf al (r .class (t .pool))) (t .block) + sizeOf al (r .class (t .pool)) ≤ 4096
+    ends = block-ends (sizeOf al (r .class (t .pool))) (t .block) (suc (t .block)) (omega arith) (t .fits)
+
+    low : 8 ≤ sizeOf al (r .class (t .pool))
+    low = size-low L (r .class (t .pool)) (t .class)
+
+    pub pool-is : o / 4096 ≡ t .pool
+    pool-is = omega (arith, t .place, ends, low)
+
+    pub start-at : o % 4096 ≡ startOf (sizeOf al (r .class (t .pool))) (t .block)
+    start-at = omega (arith, t .place, ends, low)
+
+    pub class-is : classAt A (h .books) o ≡ r .class (t .pool)
+    class-is = S .classes (o / 4096) (rw pool-is (t .inside)) ∙ ap (r .class) pool-is
+
+    pub rows-live : live al A P (h .books) (h .map) o ≡ true
+    unfolding live
+    rows-live =
+        rw (
+          class-is,
+          lt-ltb o (memoryLength A P) (omega (arith, t .place, ends, low, t .inside)),
+          le-leb (r .class (t .pool)) (lastClass al) (t .class),
+          start-at,
+          start-is (sizeOf al (r .class (t .pool))) (t .block) (t .fits),
+          number-is (sizeOf al (r .class (t .pool))) (t .block) (omega (arith, low)),
+          pool-is,
+          S .bits (t .pool) (t .block) (t .inside) (omega (arith, t .fits, capacity-high L (r .class (t .pool)) (t .class))),
+          t .on,
+        )
+
+    pub holding-live : holding al A P h o ≡ part o (sizeOf al (r .class (t .pool))) (h .memory)
+    unfolding holding
+    holding-live = rw (rows-live, class-is)
+
+-- ---- where live blocks and their bytes stand, so does what is held
+flag : (t u : Bool) → (t ≡ true → u ≡ true) → (u ≡ true → t ≡ true) → t ≡ u
+flag true true f g = refl
+flag true false f g = sym (f refl)
+flag false true f g = g refl
+flag false false f g = refl
+
+pub dead-holding : (al A P : ℕ) (h : Heap) (o : ℕ) → live al A P (h .books) (h .map) o ≡ false → holding al A P h o ≡ []
+unfolding holding
+dead-holding al A P h o e = rw e
+
+-- two parts are equal where their bytes are
+pub part-same : (m m′ : List ℕ) (o s : ℕ) → length m′ ≡ length m → o + s ≤ length m → ((d : ℕ) → d < s → at m′ (o + d) ≡ at m (o + d)) → part o s m′ ≡ part o s m
+part-same m m′ o s e l f =
+    ext-getD 0 (part o s m′) (part o s m) (long m′ (rw e l) ∙ sym (long m l))
+    (λ i u. let v : i < s = rw (long m′ (rw e l)) at u in
+    getD-take s (drop o m′) i 0 v ∙ getD-drop o m′ i 0 ∙ f i v ∙ sym (getD-take s (drop o m) i 0 v ∙ getD-drop o m i 0))
+  where
+    long : (x : List ℕ) → o + s ≤ length x → length (part o s x) ≡ s
+    long x u = length-take-le s (drop o x) (omega (arith, length-drop o x))
+
+module _ {al A P : ℕ} {h h′ : Heap} {r r′ : Plain} (L : Aligned al) (S : Sound al A P h r) (S′ : Sound al A P h′ r′) (Q : Quiet al A P (h .memory) (h′ .memory) r′) where
+  -- an offset that is live before and after, in a pool of the same class
+  pub holding-same : (o : ℕ) → (LiveAt al A P r o → LiveAt al A P r′ o) → ((t : LiveAt al A P r′ o) → LiveAt al A P r o × (r .class (t .pool) ≡ r′ .class (t .pool)))
+      → holding al A P h′ o ≡ holding al A P h o
+  holding-same o f g = go (live al A P (h′ .books) (h′ .map) o) refl
+    where
+      go : (t : Bool) → live al A P (h′ .books) (h′ .map) o ≡ t → holding al A P h′ o ≡ holding al A P h o
+      go false e =
+          dead-holding al A P h′ o e
+          ∙ sym (dead-holding al A P h o (flag (live al A P (h .books) (h .map) o) false (λ u. absurd (clash (sym (rows-live L S′ o (f (live-rows L S o u))) ∙ e))) (λ u. absurd (clash (sym u)))))
+      go true e =
+          let t = live-rows L S′ o e in
+          let u = g t .0 in
+          let q : u .pool ≡ t .pool = sym (pool-is L S o u) ∙ pool-is L S′ o t in
+          let c : r .class (u .pool) ≡ r′ .class (t .pool) = ap (r .class) q ∙ g t .1 in
+          let z = block-ends (sizeOf al (r′ .class (t .pool))) (t .block) (suc (t .block)) (omega arith) (t .fits) in
+          holding-live L S′ o t
+          ∙ part-same (h .memory) (h′ .memory) o (sizeOf al (r′ .class (t .pool))) (Q .same-length)
+          (omega (arith, z, t .place, t .inside, held S .says .bytes))
+          (λ d v. subst (λ (x : ℕ). at (h′ .memory) (x + d) ≡ at (h .memory) (x + d)) (sym (t .place)) (Q .live-bytes (t .pool) (t .block) d (t .inside) (t .on) v))
+          ∙ sym (holding-live L S o u ∙ ap (λ (x : ℕ). part o (sizeOf al x) (h .memory)) c)
+
+  -- ---- an ask that hands out the block at o
+  module _ {c o : ℕ} (lc : c ≤ lastClass al) (H : Hand al A P r r′ c o) where
+    live-at : (y j : ℕ) → r′ .live y j ≡ to (H .pool) (to (H .block) true (r .live (H .pool))) (r .live) y j
+    live-at y j = ap (λ (g : ℕ → ℕ → Bool). g y j) (H .live-now)
+
+    at-block : LiveAt al A P r′ o
+    at-block =
+        record {
+          pool = H .pool;
+          block = H .block;
+          place = rw (H .class-now) (H .place);
+          inside = H .inside;
+          class = rw (H .class-now) lc;
+          fits = rw (H .class-now) (H .fits);
+          on = live-at (H .pool) (H .block) ∙ rw (eq-eqb (H .pool) (H .pool) refl, eq-eqb (H .block) (H .block) refl);
+        }
+
+    pub holding-new : holding al A P h′ o ≡ part o (sizeOf al c) (h′ .memory)
+    unfolding at-block
+    holding-new = holding-live L S′ o at-block ∙ ap (λ (x : ℕ). part o (sizeOf al x) (h′ .memory)) (H .class-now)
+
+    was-free : LiveAt al A P r o → ⊥
+    was-free t = go (H .kind)
+      where
+        ends : startOf (sizeOf al c) (H .block) + sizeOf al c ≤ 4096
+        ends = block-ends (sizeOf al c) (H .block) (suc (H .block)) (omega arith) (H .fits)
+
+        q : t .pool ≡ H .pool
+        q = sym (pool-is L S o t) ∙ omega (arith, H .place, ends, size-low L c lc)
+
+        go : (r .class (H .pool) ≡ c) ⊎ ((j : ℕ) → r .live (H .pool) j ≡ false) → ⊥
+        go (inr f) = clash (sym (t .on) ∙ ap (λ (x : ℕ). r .live x (t .block)) q ∙ f (t .block))
+        go (inl e) =
+            let c′ : r .class (t .pool) ≡ c = ap (r .class) q ∙ e in
+            let k : t .block ≡ H .block =
+            sym (number-is (sizeOf al (r .class (t .pool))) (t .block) (omega (arith, size-low L (r .class (t .pool)) (t .class))))
+            ∙ ap₂ (λ (x y : ℕ). blockNo (sizeOf al x) y) c′ (sym (start-at L S o t) ∙ omega (arith, H .place, ends, size-low L c lc))
+            ∙ number-is (sizeOf al c) (H .block) (omega (arith, size-low L c lc)) in
+            clash (sym (t .on) ∙ ap₂ (r .live) q k ∙ H .was-dead)
+
+    -- nothing was held there
+    pub holding-none : holding al A P h o ≡ []
+    holding-none = dead-holding al A P h o (flag (live al A P (h .books) (h .map) o) false (λ u. absurd (was-free (live-rows L S o u))) (λ u. absurd (clash (sym u))))
+
+    pub holding-others : (x : ℕ) → x ≢ o → holding al A P h′ x ≡ holding al A P h x
+    holding-others x d = holding-same x stays back
+      where
+        stays : LiveAt al A P r x → LiveAt al A P r′ x
+        stays t = go (ℕ-discrete (t .pool) (H .pool))
+          where
+            same : r′ .class (t .pool) ≡ r .class (t .pool) → r′ .live (t .pool) (t .block) ≡ true → LiveAt al A P r′ x
+            same e f = record { pool = t .pool; block = t .block; place = rw e (t .place); inside = t .inside; class = rw e (t .class); fits = rw e (t .fits); on = f }
+
+            go : Dec (t .pool ≡ H .pool) → LiveAt al A P r′ x
+            go (no q) = same (H .classes (t .pool) q) (live-at (t .pool) (t .block) ∙ rw (ne-eqb (t .pool) (H .pool) q) (t .on))
+            go (yes q) = pick (H .kind)
+              where
+                pick : (r .class (H .pool) ≡ c) ⊎ ((j : ℕ) → r .live (H .pool) j ≡ false) → LiveAt al A P r′ x
+                pick (inr f) = absurd (clash (sym (t .on) ∙ ap (λ (y : ℕ). r .live y (t .block)) q ∙ f (t .block)))
+                pick (inl e) = same (rw q (H .class-now ∙ sym e)) (live-at (t .pool) (t .block) ∙ rw (eq-eqb (t .pool) (H .pool) q) (on′ (ℕ-discrete (t .block) (H .block))))
+                  where
+                    on′ : Dec (t .block ≡ H .block) → to (H .block) true (r .live (H .pool)) (t .block) ≡ true
+                    on′ (yes u) = rw (eq-eqb (t .block) (H .block) u)
+                    on′ (no u) = rw (ne-eqb (t .block) (H .block) u, ← q) (t .on)
+
+        back : (t : LiveAt al A P r′ x) → LiveAt al A P r x × (r .class (t .pool) ≡ r′ .class (t .pool))
+        back t = go (ℕ-discrete (t .pool) (H .pool))
+          where
+            same : r .class (t .pool) ≡ r′ .class (t .pool) → r .live (t .pool) (t .block) ≡ true → LiveAt al A P r x × (r .class (t .pool) ≡ r′ .class (t .pool))
+            same e f = (record { pool = t .pool; block = t .block; place = rw e (t .place); inside = t .inside; class = rw e (t .class); fits = rw e (t .fits); on = f }, e)
+
+            go : Dec (t .pool ≡ H .pool) → LiveAt al A P r x × (r .class (t .pool) ≡ r′ .class (t .pool))
+            go (no q) = same (sym (H .classes (t .pool) q)) (sym (rw (ne-eqb (t .pool) (H .pool) q) at (live-at (t .pool) (t .block))) ∙ t .on)
+            go (yes q) = other (ℕ-discrete (t .block) (H .block))
+              where
+                now : r′ .class (t .pool) ≡ c
+                now = ap (r′ .class) q ∙ H .class-now
+
+                other : Dec (t .block ≡ H .block) → LiveAt al A P r x × (r .class (t .pool) ≡ r′ .class (t .pool))
+                other (yes u) = absurd (d (t .place ∙ ap₂ (λ (y z : ℕ). offsetOf y (startOf (sizeOf al (r′ .class (t .pool))) z)) q u ∙ ap (λ (y : ℕ). offsetOf (H .pool) (startOf (sizeOf al y) (H .block))) now ∙ sym (H .place)))
+                other (no u) = pick (H .kind)
+                  where
+                    on : r .live (H .pool) (t .block) ≡ true
+                    on = sym (rw (eq-eqb (t .pool) (H .pool) q, ne-eqb (t .block) (H .block) u) at (live-at (t .pool) (t .block))) ∙ t .on
+
+                    pick : (r .class (H .pool) ≡ c) ⊎ ((j : ℕ) → r .live (H .pool) j ≡ false) → LiveAt al A P r x × (r .class (t .pool) ≡ r′ .class (t .pool))
+                    pick (inr f) = absurd (clash (sym on ∙ f (t .block)))
+                    pick (inl e) = same (ap (r .class) q ∙ e ∙ sym now) (rw q on)
+
+  -- ---- a give-back of block j of pool p
+  module _ (p j : ℕ) (lp : p < A * P) (cl : r .class p ≤ lastClass al) (fits : j < capacity (sizeOf al (r .class p))) (class-same : r′ .class ≡ r .class)
+      (live-now : r′ .live ≡ to p (to j false (r .live p)) (r .live)) where
+    abbrev o : ℕ
+    o = offsetOf p (startOf (sizeOf al (r .class p)) j)
+
+    off : (y i : ℕ) → r′ .live y i ≡ to p (to j false (r .live p)) (r .live) y i
+    off y i = ap (λ (g : ℕ → ℕ → Bool). g y i) live-now
+
+    -- nothing is held there any more
+    pub holding-gone : holding al A P h′ o ≡ []
+    holding-gone =
+        dead-holding al A P h′ o (flag (live al A P (h′ .books) (h′ .map) o) false (λ u. absurd (gone (live-rows L S′ o u))) (λ u. absurd (clash (sym u))))
+      where
+        gone : LiveAt al A P r′ o → ⊥
+        gone t =
+            let ends = block-ends (sizeOf al (r .class p)) j (suc j) (omega arith) fits in
+            let low = size-low L (r .class p) cl in
+            let q : t .pool ≡ p = sym (pool-is L S′ o t) ∙ omega (arith, ends, low) in
+            let c′ : r′ .class (t .pool) ≡ r .class p = ap (r′ .class) q ∙ ap (λ (g : ℕ → ℕ). g p) class-same in
+            let k : t .block ≡ j =
+            sym (number-is (sizeOf al (r′ .class (t .pool))) (t .block) (omega (arith, size-low L (r′ .class (t .pool)) (t .class))))
+            ∙ ap₂ (λ (x y : ℕ). blockNo (sizeOf al x) y) c′ (sym (start-at L S′ o t) ∙ omega (arith, ends, low))
+            ∙ number-is (sizeOf al (r .class p)) j (omega (arith, low)) in
+            clash (sym (t .on) ∙ off (t .pool) (t .block) ∙ rw (eq-eqb (t .pool) p q, eq-eqb (t .block) j k))
+
+    pub holding-kept : (x : ℕ) → x ≢ o → holding al A P h′ x ≡ holding al A P h x
+    holding-kept x d = holding-same x stays back
+      where
+        class-at : (y : ℕ) → r′ .class y ≡ r .class y
+        class-at y = ap (λ (g : ℕ → ℕ). g y) class-same
+
+        stays : LiveAt al A P r x → LiveAt al A P r′ x
+        stays t =
+            record {
+              pool = t .pool;
+              block = t .block;
+              place = rw (class-at (t .pool)) (t .place);
+              inside = t .inside;
+              class = rw (class-at (t .pool)) (t .class);
+              fits = rw (class-at (t .pool)) (t .fits);
+              on = off (t .pool) (t .block) ∙ go (ℕ-discrete (t .pool) p) (ℕ-discrete (t .block) j);
+            }
+          where
+            go : Dec (t .pool ≡ p) → Dec (t .block ≡ j) → to p (to j false (r .live p)) (r .live) (t .pool) (t .block) ≡ true
+            go (no q) u = rw (ne-eqb (t .pool) p q) (t .on)
+            go (yes q) (no u) = rw (eq-eqb (t .pool) p q, ne-eqb (t .block) j u, ← q) (t .on)
+            go (yes q) (yes u) = absurd (d (t .place ∙ ap₂ (λ (y z : ℕ). offsetOf y (startOf (sizeOf al (r .class y)) z)) q u))
+
+        back : (t : LiveAt al A P r′ x) → LiveAt al A P r x × (r .class (t .pool) ≡ r′ .class (t .pool))
+        back t =
+            let e = sym (class-at (t .pool)) in
+            (record { pool = t .pool; block = t .block; place = rw e (t .place); inside = t .inside; class = rw e (t .class); fits = rw e (t .fits); on = go (ℕ-discrete (t .pool) p) (ℕ-discrete (t .block) j) (sym (off (t .pool) (t .block)) ∙ t .on) }, e)
+          where
+            go : Dec (t .pool ≡ p) → Dec (t .block ≡ j) → to p (to j false (r .live p)) (r .live) (t .pool) (t .block) ≡ true → r .live (t .pool) (t .block) ≡ true
+            go (no q) u e = rw (ne-eqb (t .pool) p q) at e
+            go (yes q) (no u) e = rw q (rw (eq-eqb (t .pool) p q, ne-eqb (t .block) j u) at e)
+            go (yes q) (yes u) e = absurd (clash (sym e ∙ rw (eq-eqb (t .pool) p q, eq-eqb (t .block) j u)))

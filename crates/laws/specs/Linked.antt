@@ -1,0 +1,281 @@
+-- Rows in the words of the books: the writes of joining and leaving a doubly linked list and of a stack, and what they leave of every list.
+-- Assumes nothing.
+use mathlib.Core.Path.{_≡_, refl, sym, ap, ap₂, _∙_}
+use mathlib.Core.Logic.{_≢_, _⊎_, inl, inr}
+use mathlib.Core.Bool.{not}
+use mathlib.Core.List.{List, [], _∷_, _++_}
+use Prim.Native.Nat.{ℕ, zero, suc, _+_, _*_, _-_, _<_, _≤_}
+use native.Mathlib.Omega.{arith}
+use lib.Dec.{eqb·suc-zero}
+use lib.ListN.{length, set, length-set}
+use lib.Seq.{getD-set-same, getD-set-other, lt-length-set}
+use Rattle.rules.specs.Say.{if_then_else_, only}
+use Rattle.rules.specs.Books.{at, none?}
+use Rattle.rules.specs.Lists.{nextAt, previousAt, leave, join, leaveBy, joinBy}
+use Rattle.laws.specs.Rows.{All, Not, Once, In, Seg, Row, Joined, Left, row-same, row-joins, row-leaves, head-in, next-in, prev-in, all-map, all-two, all-from, all-left, all-right, all-join, all-drop, flip}
+
+-- ---- the two kinds of lists, by their head word
+-- from the head word h exactly xs is met, linked both ways
+pub record Doubly (nx pv : ℕ → ℕ) (b : List ℕ) (h : ℕ) (xs : List ℕ) : Type 0 where
+  pub row : Row (λ n. at b (nx n)) (λ n. at b (pv n)) (at b h) xs
+
+-- the same by next alone, and each previous is 0
+abbrev pub Stack : (ℕ → ℕ) → ℕ → List ℕ → Type 0
+Stack next k [] = k ≡ 0
+Stack next k (x ∷ xs) = (k ≡ suc x) × Stack next (next x) xs
+
+pub record Singly (nx pv : ℕ → ℕ) (b : List ℕ) (h : ℕ) (xs : List ℕ) : Type 0 where
+  pub walk : Stack (λ n. at b (nx n)) (at b h) xs
+  pub once : Once xs
+  pub behind : All (λ y. at b (pv y) ≡ 0) xs
+
+-- the words of one list, of at most N members, lie in len words and do not meet
+pub record Lay (nx pv : ℕ → ℕ) (h N len : ℕ) : Type 0 where
+  pub nx-nx : (m n : ℕ) → m ≢ n → nx m ≢ nx n
+  pub pv-pv : (m n : ℕ) → m ≢ n → pv m ≢ pv n
+  pub nx-pv : (m n : ℕ) → nx m ≢ pv n
+  pub pv-nx : (m n : ℕ) → pv m ≢ nx n
+  pub nx-h : (n : ℕ) → nx n ≢ h
+  pub pv-h : (n : ℕ) → pv n ≢ h
+  pub h-nx : (n : ℕ) → h ≢ nx n
+  pub h-pv : (n : ℕ) → h ≢ pv n
+  pub h-in : h < len
+  pub nx-in : (n : ℕ) → n < N → nx n < len
+  pub pv-in : (n : ℕ) → n < N → pv n < len
+
+-- ---- the writes, over any two words nx n and pv n of member n
+-- v is stored at the word that f gives for the link's target, if it has one; that word, or h where there is no target
+abbrev store : List ℕ → (ℕ → ℕ) → ℕ → ℕ → List ℕ
+store b f zero v = b
+store b f (suc n) v = set b (f n) v
+
+abbrev place : ℕ → (ℕ → ℕ) → ℕ → ℕ
+place h f zero = h
+place h f (suc n) = f n
+
+unfoldable pub joined : (nx pv : ℕ → ℕ) (h x : ℕ) → List ℕ → List ℕ
+joined nx pv h x b = set (store (set (set b (nx x) (at b h)) (pv x) 0) pv (at b h) (suc x)) h (suc x)
+
+unfoldable pub left : (nx pv : ℕ → ℕ) (h x : ℕ) → List ℕ → List ℕ
+left nx pv h x b =
+    set (set (store (set b (place h nx (at b (pv x))) (at b (nx x))) pv (at b (nx x)) (at b (pv x))) (nx x) 0) (pv x) 0
+
+-- ---- they are the rules' writes
+store-only : (b : List ℕ) (f : ℕ → ℕ) (base k v : ℕ) → ((y : ℕ) → f y ≡ base + 8 * y + 1)
+    → only (not (none? k)) (λ x. set x (base + 8 * (k - 1) + 1) v) b ≡ store b f k v
+store-only b f base zero v e = refl
+store-only b f base (suc k) v e =
+    let q : base + 8 * (suc k - 1) + 1 ≡ f k = omega (arith, e k) in
+    rw (eqb·suc-zero k, q)
+
+place-only : (f : ℕ → ℕ) (base h k : ℕ) → ((y : ℕ) → f y ≡ base + 8 * y) → (if none? k then h else base + 8 * (k - 1)) ≡ place h f k
+place-only f base h zero e = refl
+place-only f base h (suc k) e = rw (eqb·suc-zero k) (omega (arith, e k))
+
+module _ (nx pv : ℕ → ℕ) (base : ℕ) (e : (y : ℕ) → nx y ≡ base + 8 * y) (f : (y : ℕ) → pv y ≡ base + 8 * y + 1) (h n : ℕ) (b : List ℕ) where
+  pub leave-is : leave base h n b ≡ left nx pv h n b
+  unfolding leaveBy left
+  leave-is =
+      rw (place-only nx base h (at b (base + 8 * n + 1)) e, store-only _ pv base (at b (base + 8 * n)) (at b (base + 8 * n + 1)) f, ← f n, ← e n)
+
+  pub join-is : join base h n b ≡ joined nx pv h n b
+  unfolding joinBy joined
+  join-is = let q : n + 1 ≡ suc n = omega arith in rw (store-only _ pv base (at b h) (n + 1) f, ← f n, ← e n, q)
+
+-- ---- what they write
+module _ (nx pv : ℕ → ℕ) (h N len : ℕ) (L : Lay nx pv h N len) (x : ℕ) (b : List ℕ) where
+  join-writes : (k : ℕ) → nx x < length b → pv x < length b → h < length b → ((y : ℕ) → k ≡ suc y → pv y < length b)
+      → k ≢ suc x
+      → (b′ : List ℕ) → b′ ≡ set (store (set (set b (nx x) k) (pv x) 0) pv k (suc x)) h (suc x)
+      → Joined x (λ n. at b (nx n)) (λ n. at b (pv n)) k (λ n. at b′ (nx n)) (λ n. at b′ (pv n)) (at b′ h)
+  join-writes zero i j l m d b′ e =
+      record {
+        head = rw e (search (getD-set-same, lt-length-set));
+        own-next = rw e (simp (getD-set-other, getD-set-same, L .nx-h, L .nx-pv));
+        own-prev = rw e (search (getD-set-other, getD-set-same, lt-length-set, L .pv-h));
+        old-head = λ y n f. absurd (omega arith);
+        next-same = λ y n. rw e (simp (getD-set-other, L .nx-h, L .nx-pv, L .nx-nx));
+        prev-same = λ y n f. rw e (simp (getD-set-other, L .pv-h, L .pv-pv, L .pv-nx));
+      }
+  join-writes (suc k) i j l m d b′ e =
+      record {
+        head = rw e (search (getD-set-same, lt-length-set));
+        own-next = rw e (simp (getD-set-other, getD-set-same, L .nx-h, L .nx-pv));
+        own-prev =
+            let g : x ≢ k = (λ t. d (ap suc (sym t))) in
+            rw e (search (getD-set-other, getD-set-same, lt-length-set, L .pv-h, L .pv-pv));
+        old-head = λ y n f.
+            let g : y ≡ k = omega arith in
+            let o : pv k < length b = m k refl in
+            rw (g, e) (search (getD-set-other, getD-set-same, lt-length-set, L .pv-h));
+        next-same = λ y n. rw e (simp (getD-set-other, L .nx-h, L .nx-pv, L .nx-nx));
+        prev-same = λ y n f.
+            let g : y ≢ k = (λ t. f (ap suc (sym t))) in
+            rw e (simp (getD-set-other, L .pv-h, L .pv-pv, L .pv-nx));
+      }
+
+  leave-writes : (p n : ℕ) → nx x < length b → pv x < length b → h < length b
+      → ((y : ℕ) → p ≡ suc y → nx y < length b) → ((y : ℕ) → n ≡ suc y → pv y < length b)
+      → (b′ : List ℕ) → b′ ≡ set (set (store (set b (place h nx p) n) pv n p) (nx x) 0) (pv x) 0
+      → Left x p n (λ n. at b (nx n)) (λ n. at b (pv n)) (at b h) (λ n. at b′ (nx n)) (λ n. at b′ (pv n)) (at b′ h)
+  leave-writes zero zero i j l f g b′ e =
+      record {
+        head = λ _. rw e (search (getD-set-other, getD-set-same, L .h-nx, L .h-pv));
+        head-same = λ a. absurd (a refl);
+        before = λ y a c. absurd (omega arith);
+        after = λ y a c. absurd (omega arith);
+        next-same = λ y a c. rw e (simp (getD-set-other, L .nx-h, L .nx-pv, L .nx-nx));
+        prev-same = λ y a c. rw e (simp (getD-set-other, L .pv-h, L .pv-nx, L .pv-pv));
+      }
+  leave-writes zero (suc n) i j l f g b′ e =
+      record {
+        head = λ _. rw e (search (getD-set-other, getD-set-same, L .h-nx, L .h-pv));
+        head-same = λ a. absurd (a refl);
+        before = λ y a c. absurd (omega arith);
+        after = λ y a c.
+            let o : pv y < length b = g y c in
+            let q : n ≡ y = omega arith in
+            rw (e, q) (search (getD-set-other, getD-set-same, lt-length-set, L .pv-nx, L .pv-pv));
+        next-same = λ y a c. rw e (simp (getD-set-other, L .nx-h, L .nx-pv, L .nx-nx));
+        prev-same = λ y a c. let q : y ≢ n = (λ t. c (ap suc (sym t))) in rw e (simp (getD-set-other, L .pv-h, L .pv-nx, L .pv-pv));
+      }
+  leave-writes (suc p) zero i j l f g b′ e =
+      record {
+        head = λ a. absurd (omega arith);
+        head-same = λ a. rw e (simp (getD-set-other, L .h-nx, L .h-pv));
+        before = λ y a c.
+            let o : nx y < length b = f y c in
+            let q : p ≡ y = omega arith in
+            rw (e, q) (search (getD-set-other, getD-set-same, lt-length-set, L .nx-nx, L .nx-pv));
+        after = λ y a c. absurd (omega arith);
+        next-same = λ y a c. let q : y ≢ p = (λ t. c (ap suc (sym t))) in rw e (simp (getD-set-other, L .nx-pv, L .nx-nx));
+        prev-same = λ y a c. rw e (simp (getD-set-other, L .pv-nx, L .pv-pv));
+      }
+  leave-writes (suc p) (suc n) i j l f g b′ e =
+      record {
+        head = λ a. absurd (omega arith);
+        head-same = λ a. rw e (simp (getD-set-other, L .h-nx, L .h-pv));
+        before = λ y a c.
+            let o : nx y < length b = f y c in
+            let q : p ≡ y = omega arith in
+            rw (e, q) (search (getD-set-other, getD-set-same, lt-length-set, L .nx-nx, L .nx-pv));
+        after = λ y a c.
+            let o : pv y < length b = g y c in
+            let q : n ≡ y = omega arith in
+            rw (e, q) (search (getD-set-other, getD-set-same, lt-length-set, L .pv-nx, L .pv-pv));
+        next-same = λ y a c. let q : y ≢ p = (λ t. c (ap suc (sym t))) in rw e (simp (getD-set-other, L .nx-pv, L .nx-nx));
+        prev-same = λ y a c. let q : y ≢ n = (λ t. c (ap suc (sym t))) in rw e (simp (getD-set-other, L .pv-nx, L .pv-pv));
+      }
+
+-- ---- the list itself
+module _ {nx pv : ℕ → ℕ} {h N : ℕ} {b : List ℕ} (L : Lay nx pv h N (length b)) where
+  pub join-in : {x : ℕ} {xs : List ℕ} → x < N → Not x xs → All (λ y. y < N) xs → Doubly nx pv b h xs → Doubly nx pv (joined nx pv h x b) h (x ∷ xs)
+  unfolding joined
+  join-in {x} {xs} l n i r =
+      record {
+        row = row-joins (join-writes nx pv h N (length b) L x b (at b h) (L .nx-in x l) (L .pv-in x l) (L .h-in)
+            (λ y e. L .pv-in y (head-in (λ y. y < N) (λ n. at b (nx n)) (λ n. at b (pv n)) (at b h) 0 xs i (r .row .walk) y e))
+            (λ e. head-in (λ y. x ≢ y) (λ n. at b (nx n)) (λ n. at b (pv n)) (at b h) 0 xs n (r .row .walk) x e refl)
+            _ refl) n (r .row);
+      }
+
+  pub leave-in : (x : ℕ) (pre post : List ℕ) → All (λ y. y < N) (pre ++ x ∷ post) → Doubly nx pv b h (pre ++ x ∷ post)
+      → Doubly nx pv (left nx pv h x b) h (pre ++ post)
+  unfolding left
+  leave-in x pre post i r =
+      let l : x < N = all-right (λ y. y < N) pre (x ∷ post) i .0 in
+      record {
+        row = row-leaves pre post (leave-writes nx pv h N (length b) L x b (at b (pv x)) (at b (nx x)) (L .nx-in x l) (L .pv-in x l) (L .h-in)
+            (λ y e. L .nx-in y (prev-in (λ y. y < N) (λ n. at b (nx n)) (λ n. at b (pv n)) x pre post (at b h) 0 i (r .row .walk) (λ y e. absurd (omega arith)) y e))
+            (λ y e. L .pv-in y (next-in (λ y. y < N) (λ n. at b (nx n)) (λ n. at b (pv n)) x pre post (at b h) 0 i (r .row .walk) y e))
+            _ refl) (r .row);
+      }
+
+-- ---- the frames: where the words of a list stand, the list stands
+pub doubly-same : {nx pv : ℕ → ℕ} {h : ℕ} {b b′ xs : List ℕ} → at b′ h ≡ at b h
+    → All (λ y. (at b′ (nx y) ≡ at b (nx y)) × (at b′ (pv y) ≡ at b (pv y))) xs → Doubly nx pv b h xs → Doubly nx pv b′ h xs
+doubly-same {nx} {pv} {h} {b} {b′} {xs} e f r =
+    record {
+      row = rw e (row-same
+          (all-map {R = λ y. at b′ (nx y) ≡ at b (nx y)} (λ y (t : (at b′ (nx y) ≡ at b (nx y)) × (at b′ (pv y) ≡ at b (pv y))). t .0) xs f)
+          (all-map {R = λ y. at b′ (pv y) ≡ at b (pv y)} (λ y (t : (at b′ (nx y) ≡ at b (nx y)) × (at b′ (pv y) ≡ at b (pv y))). t .1) xs f) (r .row));
+    }
+
+pub stack-same : (next next′ : ℕ → ℕ) (k : ℕ) (xs : List ℕ) → All (λ y. next′ y ≡ next y) xs → Stack next k xs → Stack next′ k xs
+stack-same next next′ k [] a s = s
+stack-same next next′ k (x ∷ xs) a s = (s .0, rw (a .0) (stack-same next next′ (next x) xs (a .1) (s .1)))
+
+pub singly-same : {nx pv : ℕ → ℕ} {h : ℕ} {b b′ xs : List ℕ} → at b′ h ≡ at b h
+    → All (λ y. (at b′ (nx y) ≡ at b (nx y)) × (at b′ (pv y) ≡ at b (pv y))) xs → Singly nx pv b h xs → Singly nx pv b′ h xs
+singly-same {nx} {pv} {h} {b} {b′} {xs} e f r =
+    record {
+      walk = rw e (stack-same (λ n. at b (nx n)) (λ n. at b′ (nx n)) (at b h) xs
+          (all-map {R = λ y. at b′ (nx y) ≡ at b (nx y)} (λ y (t : (at b′ (nx y) ≡ at b (nx y)) × (at b′ (pv y) ≡ at b (pv y))). t .0) xs f) (r .walk));
+      once = r .once;
+      behind = all-two {S = λ y. at b′ (pv y) ≡ 0} (λ y (t : (at b′ (nx y) ≡ at b (nx y)) × (at b′ (pv y) ≡ at b (pv y))) (q : at b (pv y) ≡ 0). t .1 ∙ q) xs f (r .behind);
+    }
+
+-- ---- joining and leaving touch no other word
+store-other : (f : ℕ → ℕ) (k v i : ℕ) (b : List ℕ) → ((y : ℕ) → k ≡ suc y → i ≢ f y) → at (store b f k v) i ≡ at b i
+store-other f zero v i b n = refl
+store-other f (suc k) v i b n = getD-set-other b (f k) i v 0 (n k refl)
+
+place-other : (f : ℕ → ℕ) (h k i : ℕ) → i ≢ h → ((y : ℕ) → k ≡ suc y → i ≢ f y) → i ≢ place h f k
+place-other f h zero i m n = m
+place-other f h (suc k) i m n = n k refl
+
+pub joined-other : (nx pv : ℕ → ℕ) (h x i : ℕ) (b : List ℕ) → i ≢ nx x → i ≢ pv x → i ≢ h → ((y : ℕ) → at b h ≡ suc y → i ≢ pv y)
+    → at (joined nx pv h x b) i ≡ at b i
+unfolding joined
+joined-other nx pv h x i b p q r s = simp (getD-set-other, store-other)
+
+pub left-other : (nx pv : ℕ → ℕ) (h x i : ℕ) (b : List ℕ) → i ≢ nx x → i ≢ pv x → i ≢ h
+    → ((y : ℕ) → at b (pv x) ≡ suc y → i ≢ nx y) → ((y : ℕ) → at b (nx x) ≡ suc y → i ≢ pv y)
+    → at (left nx pv h x b) i ≡ at b i
+unfolding left
+left-other nx pv h x i b p q r s t = simp (getD-set-other, store-other, place-other)
+
+store-length : (b : List ℕ) (f : ℕ → ℕ) (k v : ℕ) → length (store b f k v) ≡ length b
+store-length b f zero v = refl
+store-length b f (suc k) v = length-set b (f k) v
+
+pub joined-length : (nx pv : ℕ → ℕ) (h x : ℕ) (b : List ℕ) → length (joined nx pv h x b) ≡ length b
+unfolding joined
+joined-length nx pv h x b = simp (length-set, store-length)
+
+pub left-length : (nx pv : ℕ → ℕ) (h x : ℕ) (b : List ℕ) → length (left nx pv h x b) ≡ length b
+unfolding left
+left-length nx pv h x b = simp (length-set, store-length)
+
+-- who has left has both links 0
+pub left-own : {nx pv : ℕ → ℕ} {h N : ℕ} (b : List ℕ) → Lay nx pv h N (length b) → (x : ℕ) → x < N
+    → (at (left nx pv h x b) (nx x) ≡ 0) × (at (left nx pv h x b) (pv x) ≡ 0)
+unfolding left
+left-own {nx} {pv} {h} {N} b L x l =
+    let i : nx x < length b = L .nx-in x l in
+    let j : pv x < length b = L .pv-in x l in
+    (search (getD-set-other, getD-set-same, lt-length-set, lt-store, L .nx-pv), search (getD-set-same, lt-length-set, lt-store))
+  where
+    lt-store : (b : List ℕ) (f : ℕ → ℕ) (k v : ℕ) {i : ℕ} → i < length b → i < length (store b f k v)
+    lt-store b f k v {i} h = rw store-length h
+
+-- ---- a record that is no member, nor the one that joins or leaves, keeps its links
+module _ {nx pv : ℕ → ℕ} {h N : ℕ} {b : List ℕ} (L : Lay nx pv h N (length b)) (x y : ℕ) (d : y ≢ x) (xs : List ℕ) (n : Not y xs) (r : Doubly nx pv b h xs) where
+  pub join-strange : (at (joined nx pv h x b) (nx y) ≡ at b (nx y)) × (at (joined nx pv h x b) (pv y) ≡ at b (pv y))
+  join-strange = (
+    joined-other nx pv h x (nx y) b (L .nx-nx y x d) (L .nx-pv y x) (L .nx-h y) (λ z e. L .nx-pv y z),
+    joined-other nx pv h x (pv y) b (L .pv-nx y x) (L .pv-pv y x d) (L .pv-h y)
+        (λ z e. L .pv-pv y z (head-in (λ z. y ≢ z) (λ n. at b (nx n)) (λ n. at b (pv n)) (at b h) 0 xs n (r .row .walk) z e)),
+  )
+
+  pub leave-strange : (pre post : List ℕ) → xs ≡ pre ++ x ∷ post
+      → (at (left nx pv h x b) (nx y) ≡ at b (nx y)) × (at (left nx pv h x b) (pv y) ≡ at b (pv y))
+  leave-strange pre post e =
+      let walk = rw e at (r .row .walk) in
+      let not = rw e at n in (
+        left-other nx pv h x (nx y) b (L .nx-nx y x d) (L .nx-pv y x) (L .nx-h y)
+            (λ z f. L .nx-nx y z (prev-in (λ z. y ≢ z) (λ n. at b (nx n)) (λ n. at b (pv n)) x pre post (at b h) 0 not walk (λ y e. absurd (omega arith)) z f))
+            (λ z f. L .nx-pv y z),
+        left-other nx pv h x (pv y) b (L .pv-nx y x) (L .pv-pv y x d) (L .pv-h y) (λ z f. L .pv-nx y z)
+            (λ z f. L .pv-pv y z (next-in (λ z. y ≢ z) (λ n. at b (nx n)) (λ n. at b (pv n)) x pre post (at b h) 0 not walk z f)),
+      )

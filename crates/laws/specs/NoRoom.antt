@@ -1,0 +1,170 @@
+-- When an ask finds no room: exactly if every pool holds a live block and every pool of the class is full of them.
+-- Assumes nothing.
+use mathlib.Core.Path.{_≡_, refl, sym, ap, ap₂, _∙_, subst}
+use mathlib.Core.Logic.{_≢_, _⊎_, inl, inr}
+use mathlib.Core.Bool.{Bool, true, false, not, _&&_}
+use mathlib.Core.List.{List, [], _∷_}
+use Prim.Native.Nat.{ℕ, zero, suc, _+_, _*_, _-_, _/_, _%_, _≤_, _<_}
+use native.Mathlib.Nat.{div-add-mod', mod-lt}
+use native.Mathlib.Decide.{ℕ-discrete, decLe}
+use native.Mathlib.Omega.{arith}
+use lib.Dec.{leb, ltb, eqb}
+use lib.ListN.{length}
+use borrow.Author.Tests.{ltb-true, not-false, eq-eqb, ne-eqb}
+use Rattle.rules.specs.declared.AskPlan.{AskPlan}
+use Rattle.rules.specs.declared.AskPlan.the-variants.{NoRoom}
+use Rattle.rules.specs.Say.{if_then_else_}
+use Rattle.rules.specs.Books.{Heap, isSet, class, pool, classHead}
+use Rattle.rules.specs.Blocks.{classOf, sizeOf, lastClass, capacity}
+use Rattle.rules.specs.Ask.{askAnswer}
+use Rattle.rules.specs.Outcome.{Outcome}
+use Rattle.rules.specs.Numbers.{ask}
+use Rattle.books.specs.Known.{in-range}
+use Rattle.laws.specs.Plain.{Plain, count, inUse, free, front, rest, planAsk as plainAsk, afterAsk as plainAfterAsk, fromClass, fromListed, fromUsable, fromArena, fromUnused}
+use Rattle.laws.specs.Counting.{Passes, many-has, many-some, none-many}
+use Rattle.laws.specs.Sizes.{Aligned, has-class, capacity-high, class-low}
+use Rattle.laws.specs.Chains.{Blocks, room, among}
+use Rattle.laws.specs.Sound.{home, base, Sound, InClass}
+use Rattle.laws.specs.Held.{Held, held, Says, in-class, home-listed, base-unused, base-usable, arena-low, clash}
+use Rattle.laws.specs.Paths.{Hand}
+use Rattle.laws.specs.Calls.{plain-number, ask-done, ask-is}
+
+-- the heap has no room for class c, by the map and the books' classes
+pub record Full (al A P : ℕ) (h : Heap) (c : ℕ) : Type 0 where
+  pub held-all : (p : ℕ) → p < A * P → Passes (λ k. isSet (h .map) p k) 512
+  pub full-class : (p : ℕ) → p < A * P → pool A (h .books) class p ≡ c → (k : ℕ) → k < capacity (sizeOf al c) → isSet (h .map) p k ≡ true
+
+-- the plain heap finds no room exactly with empty lists
+empty-lists : (al P : ℕ) (r : Plain) (c : ℕ) → plainAsk al P r c ≡ NoRoom → (r .listed c ≡ []) × (r .usable ≡ []) × (r .unused ≡ [])
+unfolding askAnswer
+empty-lists al P r c e = by-class (r .listed c) refl
+  where
+    number : askAnswer (plainAsk al P r c) .number ≡ 4
+    number = ap (λ (q : AskPlan). askAnswer q .number) e
+
+    clash-zero : askAnswer (plainAsk al P r c) .number ≡ 0 → ⊥
+    clash-zero z = omega (arith, number)
+
+    pick : (t : Bool) (x y : AskPlan) → askAnswer x .number ≡ 0 → askAnswer y .number ≡ 0 → askAnswer (if t then x else y) .number ≡ 0
+    pick true x y a b = a
+    pick false x y a b = b
+
+    by-unused : r .listed c ≡ [] → r .usable ≡ [] → (xs : List ℕ) → r .unused ≡ xs → (r .listed c ≡ []) × (r .usable ≡ []) × (r .unused ≡ [])
+    by-unused f g [] k = (f, g, k)
+    by-unused f g (a ∷ xs) k = absurd (clash-zero (rw (f, g, k)))
+
+    by-freed : (a : ℕ) (us : List ℕ) → r .listed c ≡ [] → r .usable ≡ a ∷ us → (xs : List ℕ) → r .freed a ≡ xs → (r .listed c ≡ []) × (r .usable ≡ []) × (r .unused ≡ [])
+    by-freed a us f g [] k = absurd (clash-zero (rw (f, g, k)))
+    by-freed a us f g (p ∷ ps) k = absurd (clash-zero (rw (f, g, k) (pick (eqb (r .class p) c) _ _ refl refl)))
+
+    by-usable : r .listed c ≡ [] → (xs : List ℕ) → r .usable ≡ xs → (r .listed c ≡ []) × (r .usable ≡ []) × (r .unused ≡ [])
+    by-usable f [] g = by-unused f g (r .unused) refl
+    by-usable f (a ∷ us) g = by-freed a us f g (r .freed a) refl
+
+    by-class : (xs : List ℕ) → r .listed c ≡ xs → (r .listed c ≡ []) × (r .usable ≡ []) × (r .unused ≡ [])
+    by-class [] f = by-usable f (r .usable) refl
+    by-class (p ∷ ps) f = absurd (clash-zero (rw f (by-chain (front (r .chain p)) (rest (r .chain p)))))
+      where
+        by-chain : (k : ℕ) (ks : List ℕ) → askAnswer (fromListed al P r c p k ks) .number ≡ 0
+        by-chain k (j ∷ js) = refl
+        by-chain k [] = pick (ltb (r .virgin p) (capacity (sizeOf al c))) _ _ refl refl
+
+module _ {al A P : ℕ} {h : Heap} {r : Plain} (L : Aligned al) (S : Sound al A P h r) (n : ℕ) (low : 1 ≤ n) (high : n ≤ 512) where
+  F : Says al A P (held S .view) (h .memory) (h .map) r
+  F = held S .says
+
+  -- ---- refused with 4, the heap is full
+  module _ (none : (r .listed (classOf al n) ≡ []) × (r .usable ≡ []) × (r .unused ≡ [])) where
+    pools-low : 2 ≤ P
+    pools-low = in-range A P (S .rule1 .range) .2
+
+    -- every pool is in use: its arena is open, and has no free pool
+    all-used : (p : ℕ) → p < A * P → 1 ≤ count r p
+    all-used p l = ltb-true 0 (count r p) (not-false (inUse r p) (subst (λ (x : ℕ). not (inUse r x) ≡ false) (div-add-mod' p P) (none-many (λ i. not (inUse r (p / P * P + i))) P no-free (p % P) (mod-lt p (omega (arith, pools-low))))))
+      where
+        a : ℕ
+        a = p / P
+
+        la : p / P < A
+        la = arena-low A P p pools-low l
+
+        marked : r .mark (p / P) ≢ 0
+        marked z = absurd (rw (none .2) at (S .rule6 .arenas .all 3 (omega arith) (p / P) la (base-unused P r (p / P) z)))
+
+        no-free : free P r (p / P) ≡ 0
+        no-free = go (ℕ-discrete (free P r (p / P)) 0)
+          where
+            go : Dec (free P r (p / P) ≡ 0) → free P r (p / P) ≡ 0
+            go (yes q) = q
+            go (no q) = absurd (rw (none .1) at (S .rule6 .arenas .all 2 (omega arith) (p / P) la (base-usable P r (p / P) marked q)))
+
+    is-full : Full al A P h (classOf al n)
+    is-full =
+        record {
+          held-all = λ p l. let t = many-has (r .live p) 512 (all-used p l) in record { number = t .number; low = t .low; yes = S .bits p (t .number) l (t .low) ∙ t .yes };
+          full-class = λ p l e k u. whole p l (sym (S .classes p l) ∙ e) k u;
+        }
+      where
+        whole : (p : ℕ) → p < A * P → r .class p ≡ classOf al n → (k : ℕ) → k < capacity (sizeOf al (classOf al n)) → isSet (h .map) p k ≡ true
+        whole p l e k u = S .bits p k l (omega (arith, u, capacity-high L (classOf al n) (has-class L n high))) ∙ on
+          where
+            t : Passes (r .live p) 512
+            t = many-has (r .live p) 512 (all-used p l)
+
+            I : InClass al p (h .memory) (count r p) (held S .view .pool 1 p) (r .class p) (held S .view .pool 5 p) (held S .view .pool 6 p) (r .live p) (r .chain p) (r .virgin p)
+            I = in-class L F p (t .number) l (t .yes)
+
+            less : count r p < capacity (sizeOf al (r .class p)) → ⊥
+            less z = rw (none .0) at (S .rule6 .listed .all (classOf al n) (class-low L (classOf al n) (has-class L n high)) p l (home-listed al P r p (all-used p l) z ∙ ap classHead e))
+
+            rooms : count r p + length (r .chain p) ≡ r .virgin p
+            rooms = room (I .blocks) (omega (arith, capacity-high L (r .class p) (I .class-low)))
+
+            u′ : k < capacity (sizeOf al (r .class p))
+            u′ = rw e u
+
+            all-live : capacity (sizeOf al (r .class p)) ≤ count r p
+            all-live = go (decLe (capacity (sizeOf al (r .class p))) (count r p))
+              where
+                go : Dec (capacity (sizeOf al (r .class p)) ≤ count r p) → capacity (sizeOf al (r .class p)) ≤ count r p
+                go (yes q) = q
+                go (no q) = absurd (less (omega arith))
+
+            on : r .live p k ≡ true
+            on = I .blocks .either k (omega (arith, rooms, all-live, I .blocks .fits, u′)) ∙ empty (r .chain p) (omega (arith, rooms, all-live, I .blocks .fits))
+              where
+                empty : (ks : List ℕ) → length ks ≡ 0 → not (among k ks) ≡ true
+                empty [] z = refl
+                empty (j ∷ js) z = absurd (omega arith)
+
+  -- ---- a full heap refuses
+  refuses : Full al A P h (classOf al n) → plainAsk al P r (classOf al n) ≡ NoRoom
+  refuses Z = go (plain-number al P r (classOf al n))
+    where
+      go : (askAnswer (plainAsk al P r (classOf al n)) .number ≡ 0) ⊎ (plainAsk al P r (classOf al n) ≡ NoRoom) → plainAsk al P r (classOf al n) ≡ NoRoom
+      go (inr e) = e
+      go (inl e) = absurd (none (H .kind))
+        where
+          H : Hand al A P r (plainAfterAsk al P r (classOf al n) (plainAsk al P r (classOf al n))) (classOf al n) (askAnswer (plainAsk al P r (classOf al n)) .offset)
+          H = ask-done L S n low high .hand e
+
+          none : (r .class (H .pool) ≡ classOf al n) ⊎ ((j : ℕ) → r .live (H .pool) j ≡ false) → ⊥
+          none (inl c) =
+              clash (sym (Z .full-class (H .pool) (H .inside) (S .classes (H .pool) (H .inside) ∙ c) (H .block) (H .fits)) ∙ S .bits (H .pool) (H .block) (H .inside) (omega (arith, H .fits, capacity-high L (classOf al n) (has-class L n high))) ∙ H .was-dead)
+          none (inr d) = let t = Z .held-all (H .pool) (H .inside) in clash (sym (t .yes) ∙ S .bits (H .pool) (t .number) (H .inside) (t .low) ∙ d (t .number))
+
+  -- ask n is refused with 4 exactly if the heap is full for its class
+  pub four-full : ask al h n .answer .number ≡ 4 → Full al A P h (classOf al n)
+  unfolding askAnswer
+  four-full e = is-full (empty-lists al P r (classOf al n) (go (plain-number al P r (classOf al n))))
+    where
+      number : askAnswer (plainAsk al P r (classOf al n)) .number ≡ 4
+      number = sym (ap (λ (y : Outcome). y .answer .number) (ask-is L S n low high)) ∙ e
+
+      go : (askAnswer (plainAsk al P r (classOf al n)) .number ≡ 0) ⊎ (plainAsk al P r (classOf al n) ≡ NoRoom) → plainAsk al P r (classOf al n) ≡ NoRoom
+      go (inl z) = absurd (omega (arith, number))
+      go (inr z) = z
+
+  pub full-four : Full al A P h (classOf al n) → ask al h n .answer .number ≡ 4
+  unfolding askAnswer
+  full-four Z = ap (λ (y : Outcome). y .answer .number) (ask-is L S n low high) ∙ ap (λ (q : AskPlan). askAnswer q .number) (refuses Z)

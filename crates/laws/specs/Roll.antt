@@ -1,0 +1,166 @@
+-- The roll, of any books and map: offset and size of what the live test finds at each offset, by rising offset.
+-- Assumes nothing.
+use mathlib.Core.Path.{_≡_, refl, sym, ap, ap₂, _∙_}
+use mathlib.Core.Bool.{Bool, true, false, _&&_}
+use mathlib.Core.List.{List, [], _∷_, _++_, append-assoc, append-nil}
+use Prim.Native.Nat.{ℕ, zero, suc, _+_, _*_, _-_, _/_, _%_, _≤_, _<_}
+use native.Mathlib.Nat.{mul-le-mul-right, div-mul-le-self, add-zero, suc-mul, mod-eq-of-lt, add-mul-mod-self-right, mul-comm, div-add-mod', mod-lt}
+use native.Mathlib.Omega.{arith}
+use lib.Dec.{leb, ltb, eqb}
+use borrow.Author.Tests.{lt-leb, leb-true, ne-eqb, lt-ltb}
+use Rattle.rules.specs.Say.{if_then_else_}
+use Rattle.rules.specs.Books.{memoryLength, isSet, class, pool, offsetOf}
+use Rattle.rules.specs.Blocks.{sizeOf, lastClass, startOf, lastStart, isStart, blockNo, capacity, sizeAt, live}
+use Rattle.rules.specs.View.{rollBlocks, rollPool, rollPools, roll}
+use Rattle.books.specs.Starts.{start-is, number-is}
+use Rattle.laws.specs.Sizes.{Aligned, size-low}
+use Rattle.laws.specs.AskListed.{past-last}
+
+-- offset and size of what is held at the n offsets from o on, rising, where g says the size held at each offset, 0 for none
+unfoldable pub listing : (ℕ → ℕ) → ℕ → ℕ → List ℕ
+listing g o zero = []
+listing g o (suc n) = (if eqb (g o) 0 then [] else (o ∷ g o ∷ [])) ++ listing g (suc o) n
+
+pub listing-same : (f g : ℕ → ℕ) → ((o : ℕ) → f o ≡ g o) → (o n : ℕ) → listing f o n ≡ listing g o n
+unfolding listing
+listing-same f g e o zero = refl
+listing-same f g e o (suc n) = rw (e o, listing-same f g e (suc o) n)
+
+listing-none : (g : ℕ → ℕ) (o n : ℕ) → ((i : ℕ) → i < n → g (o + i) ≡ 0) → listing g o n ≡ []
+unfolding listing
+listing-none g o zero e = refl
+listing-none g o (suc n) e =
+    let z : g o ≡ 0 = ap g (sym (add-zero o)) ∙ e 0 (omega arith) in
+    rw z (listing-none g (suc o) n (λ i l. let q : suc o + i ≡ o + suc i = omega arith in ap g q ∙ e (suc i) (omega arith)))
+
+listing-add : (g : ℕ → ℕ) (o m n : ℕ) → listing g o (m + n) ≡ listing g o m ++ listing g (o + m) n
+unfolding listing
+listing-add g o zero n =
+    let a : o ≡ o + 0 = omega arith in
+    let e : 0 + n ≡ n = omega arith in
+    ap₂ (λ (x y : ℕ). listing g x y) a e
+listing-add g o (suc m) n =
+    let q : suc m + n ≡ suc (m + n) = omega arith in
+    let t : suc o + m ≡ o + suc m = omega arith in
+    ap (listing g o) q
+    ∙ ap (λ (l : List ℕ). (if eqb (g o) 0 then [] else (o ∷ g o ∷ [])) ++ l) (listing-add g (suc o) m n ∙ ap (λ (x : ℕ). listing g (suc o) m ++ listing g x n) t)
+    ∙ sym (append-assoc (if eqb (g o) 0 then [] else (o ∷ g o ∷ [])) (listing g (suc o) m) (listing g (o + suc m) n))
+
+-- ---- what a pool of blocks of the size s holds
+record Holds (g : ℕ → ℕ) (p s : ℕ) (set : ℕ → Bool) : Type 0 where
+  some : 1 ≤ s
+  low : (x : ℕ) → x < 48 → g (4096 * p + x) ≡ 0
+  first : (k : ℕ) → k < capacity s → g (4096 * p + 48 + k * s) ≡ (if set k then s else 0)
+  other : (k i : ℕ) → k < capacity s → 1 ≤ i → i < s → g (4096 * p + 48 + k * s + i) ≡ 0
+  high : (x : ℕ) → 48 + capacity s * s ≤ x → x < 4096 → g (4096 * p + x) ≡ 0
+
+module _ {g : ℕ → ℕ} {p s : ℕ} (m : List ℕ) (H : Holds g p s (λ k. isSet m p k)) where
+  one-block : (k : ℕ) → k < capacity s → listing g (4096 * p + 48 + k * s) s ≡ (if isSet m p k then offsetOf p (startOf s k) ∷ s ∷ [] else [])
+  unfolding listing
+  one-block k l =
+      let e : s ≡ suc (s - 1) = omega (arith, H .some) in
+      let q : 4096 * p + 48 + k * s ≡ offsetOf p (startOf s k) = omega arith in
+      ap (listing g (4096 * p + 48 + k * s)) e
+      ∙ ap (λ (t : List ℕ). (if eqb (g (4096 * p + 48 + k * s)) 0 then [] else ((4096 * p + 48 + k * s) ∷ g (4096 * p + 48 + k * s) ∷ [])) ++ t)
+      (listing-none g (suc (4096 * p + 48 + k * s)) (s - 1)
+      (λ i u. let w : suc (4096 * p + 48 + k * s) + i ≡ 4096 * p + 48 + k * s + suc i = omega arith in ap g w ∙ H .other k (suc i) l (omega arith) (omega arith)))
+      ∙ rw (H .first k l, q) (go (isSet m p k))
+    where
+      go : (t : Bool) → (if eqb (if t then s else 0) 0 then [] else (offsetOf p (startOf s k) ∷ (if t then s else 0) ∷ [])) ++ [] ≡ (if t then offsetOf p (startOf s k) ∷ s ∷ [] else [])
+      go true = rw (ne-eqb s 0 (omega (arith, H .some)))
+      go false = refl
+
+  blocks-are : (k n : ℕ) → k + n ≤ capacity s → rollBlocks m p s k n ≡ listing g (4096 * p + 48 + k * s) (n * s)
+  unfolding rollBlocks
+  blocks-are k zero l =
+      let z : 0 * s ≡ 0 = omega arith in
+      sym (ap (listing g (4096 * p + 48 + k * s)) z ∙ listing-none g (4096 * p + 48 + k * s) 0 (λ i u. absurd (omega arith)))
+  blocks-are k (suc n) l =
+      let q : suc n * s ≡ s + n * s = omega (arith, suc-mul n s) in
+      let t : 4096 * p + 48 + k * s + s ≡ 4096 * p + 48 + suc k * s = omega (arith, suc-mul k s) in
+      ap₂ (λ (x y : List ℕ). x ++ y) (sym (one-block k (omega arith))) (blocks-are (suc k) n (omega arith) ∙ ap (λ (x : ℕ). listing g x (n * s)) (sym t))
+      ∙ sym (ap (listing g (4096 * p + 48 + k * s)) q ∙ listing-add g (4096 * p + 48 + k * s) s (n * s))
+
+  pool-is : rollBlocks m p s 0 (capacity s) ≡ listing g (4096 * p) 4096
+  pool-is =
+      let z : 4096 * p + 48 + 0 * s ≡ 4096 * p + 48 = omega arith in
+      let all : 4096 ≡ 48 + (4048 / s * s + (4048 - 4048 / s * s)) = omega (arith, div-mul-le-self 4048 s) in
+      blocks-are 0 (4048 / s) (omega arith)
+      ∙ ap (λ (x : ℕ). listing g x (4048 / s * s)) z
+      ∙ sym (ap (listing g (4096 * p)) all
+      ∙ listing-add g (4096 * p) 48 (4048 / s * s + (4048 - 4048 / s * s))
+      ∙ rw (listing-none g (4096 * p) 48 (λ i u. H .low i u)) (listing-add g (4096 * p + 48) (4048 / s * s) (4048 - 4048 / s * s)
+      ∙ rw (listing-none g (4096 * p + 48 + 4048 / s * s) (4048 - 4048 / s * s)
+      (λ i u. let w : 4096 * p + 48 + 4048 / s * s + i ≡ 4096 * p + (48 + 4048 / s * s + i) = omega arith in ap g w ∙ H .high (48 + 4048 / s * s + i) (omega arith) (omega arith)))
+      (append-nil (listing g (4096 * p + 48) (4048 / s * s)))))
+
+-- ---- by the live test
+module _ {al : ℕ} (L : Aligned al) (A P : ℕ) (b m : List ℕ) where
+  -- the size of the live block at o, 0 where there is none
+  unfoldable pub sizeHeld : ℕ → ℕ
+  sizeHeld o = if live al A P b m o then sizeAt al A b o else 0
+
+  module _ (p : ℕ) (l : p < A * P) where
+    abbrev c : ℕ
+    c = pool A b class p
+
+    abbrev s : ℕ
+    s = sizeOf al (pool A b class p)
+
+    at-pool : (x : ℕ) → x < 4096 → sizeHeld (4096 * p + x) ≡ (if leb c (lastClass al) && isStart s x && isSet m p (blockNo s x) then s else 0)
+    unfolding sizeHeld live
+    at-pool x u =
+        let d : (4096 * p + x) / 4096 ≡ p = omega arith in
+        let e : (4096 * p + x) % 4096 ≡ x = omega arith in
+        rw (d, e, lt-ltb (4096 * p + x) (memoryLength A P) (omega arith))
+
+    no-class : leb c (lastClass al) ≡ false → listing sizeHeld (4096 * p) 4096 ≡ []
+    no-class e = listing-none sizeHeld (4096 * p) 4096 (λ i u. at-pool i u ∙ rw e)
+
+    holds : leb c (lastClass al) ≡ true → 8 ≤ s → Holds sizeHeld p s (λ k. isSet m p k)
+    unfolding isStart
+    holds e eight =
+        record {
+          some = omega arith;
+          low = λ x u. at-pool x (omega arith) ∙ rw (e, lt-leb 48 x u);
+          first = λ k u.
+              let q : 4096 * p + 48 + k * s ≡ 4096 * p + startOf s k = omega arith in
+              let f : startOf s k < 4096 = omega (arith, mul-le-mul-right s u, suc-mul k s, div-mul-le-self 4048 s) in
+              ap sizeHeld q ∙ at-pool (startOf s k) f ∙ rw (e, start-is s k u, number-is s k (omega arith));
+          other = λ k i u v w.
+              let q : 4096 * p + 48 + k * s + i ≡ 4096 * p + (48 + k * s + i) = omega arith in
+              let f : 48 + k * s + i < 4096 = omega (arith, mul-le-mul-right s u, suc-mul k s, div-mul-le-self 4048 s) in
+              let d : 48 + k * s + i - 48 ≡ i + k * s = omega arith in
+              let z : (i + k * s) % s ≡ i = add-mul-mod-self-right i k s ∙ mod-eq-of-lt w in
+              ap sizeHeld q ∙ at-pool (48 + k * s + i) f ∙ rw (e, d, z, ne-eqb i 0 (omega arith)) (go (leb 48 (48 + k * s + i)) (leb (48 + k * s + i) (lastStart s)) (isSet m p ((i + k * s) / s)));
+          high = λ x u v. at-pool x v ∙ rw (e, lt-leb x (lastStart s) (omega (arith, past-last s eight, mul-comm s (capacity s)))) (go′ (leb 48 x) (eqb ((x - 48) % s) 0) (isSet m p (blockNo s x)));
+        }
+      where
+        go : (x y z : Bool) → (if x && y && false && z then s else 0) ≡ 0
+        go true true z = refl
+        go true false z = refl
+        go false y z = refl
+
+        go′ : (x y z : Bool) → (if x && false && y && z then s else 0) ≡ 0
+        go′ true y z = refl
+        go′ false y z = refl
+
+    pool-roll : rollPool al A b m p ≡ listing sizeHeld (4096 * p) 4096
+    unfolding rollPool
+    pool-roll = go (leb c (lastClass al)) refl
+      where
+        go : (t : Bool) → leb c (lastClass al) ≡ t → (if t then rollBlocks m p s 0 (capacity s) else []) ≡ listing sizeHeld (4096 * p) 4096
+        go true e = pool-is m (holds e (size-low L c (leb-true c (lastClass al) e)))
+        go false e = sym (no-class e)
+
+  pools-roll : (p n : ℕ) → p + n ≤ A * P → rollPools al A b m p n ≡ listing sizeHeld (4096 * p) (n * 4096)
+  unfolding rollPools
+  pools-roll p zero l = sym (listing-none sizeHeld (4096 * p) 0 (λ i u. absurd (omega arith)))
+  pools-roll p (suc n) l =
+      let q : suc n * 4096 ≡ 4096 + n * 4096 = omega arith in
+      let t : 4096 * p + 4096 ≡ 4096 * suc p = omega arith in
+      ap₂ (λ (x y : List ℕ). x ++ y) (pool-roll p (omega arith)) (pools-roll (suc p) n (omega arith) ∙ ap (λ (x : ℕ). listing sizeHeld x (n * 4096)) (sym t))
+      ∙ sym (ap (listing sizeHeld (4096 * p)) q ∙ listing-add sizeHeld (4096 * p) 4096 (n * 4096))
+
+  pub roll-is : roll al A P b m ≡ listing sizeHeld 0 (memoryLength A P)
+  roll-is = pools-roll 0 (A * P) (omega arith)

@@ -1,0 +1,19 @@
+-- A function with one value changed: how the plain heap writes.
+-- Assumes nothing.
+use mathlib.Core.Path.{_≡_}
+use mathlib.Core.Logic.{_≢_}
+use Prim.Native.Nat.{ℕ}
+use lib.Dec.{eqb}
+use borrow.Author.Tests.{eq-eqb, ne-eqb}
+use Rattle.rules.specs.Say.{if_then_else_}
+
+module _ {A : Type 0} where
+  -- f with v at n
+  abbrev pub to : ℕ → A → (ℕ → A) → ℕ → A
+  to n v f y = if eqb y n then v else f y
+
+  pub to-same : (n : ℕ) (v : A) (f : ℕ → A) (y : ℕ) → y ≡ n → to n v f y ≡ v
+  to-same n v f y e = rw (eq-eqb y n e)
+
+  pub to-other : (n : ℕ) (v : A) (f : ℕ → A) (y : ℕ) → y ≢ n → to n v f y ≡ f y
+  to-other n v f y e = rw (ne-eqb y n e)
