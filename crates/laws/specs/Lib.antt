@@ -25,3 +25,4 @@ pub mod NoRoom
 pub mod History
 pub mod Theorems
 pub mod Reached
+pub mod Code
