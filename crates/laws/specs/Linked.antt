@@ -146,7 +146,7 @@ module _ (nx pv : ℕ → ℕ) (h N len : ℕ) (L : Lay nx pv h N len) (x : ℕ)
         before = λ y a c.
             let o : nx y < length b = f y c in
             let q : p ≡ y = omega arith in
-            rw (e, q) (search (getD-set-other, getD-set-same, lt-length-set, L .nx-nx, L .nx-pv));
+            rw (e, q) (search (getD-set-other, getD-set-same, L .nx-nx, L .nx-pv));
         after = λ y a c. absurd (omega arith);
         next-same = λ y a c. let q : y ≢ p = (λ t. c (ap suc (sym t))) in rw e (simp (getD-set-other, L .nx-pv, L .nx-nx));
         prev-same = λ y a c. rw e (simp (getD-set-other, L .pv-nx, L .pv-pv));
@@ -158,7 +158,7 @@ module _ (nx pv : ℕ → ℕ) (h N len : ℕ) (L : Lay nx pv h N len) (x : ℕ)
         before = λ y a c.
             let o : nx y < length b = f y c in
             let q : p ≡ y = omega arith in
-            rw (e, q) (search (getD-set-other, getD-set-same, lt-length-set, L .nx-nx, L .nx-pv));
+            rw (e, q) (search (getD-set-other, getD-set-same, L .nx-nx, L .nx-pv));
         after = λ y a c.
             let o : pv y < length b = g y c in
             let q : n ≡ y = omega arith in
