@@ -2,7 +2,7 @@
 -- Assumes nothing.
 use mathlib.Core.Path.{_≡_, refl, sym, ap, ap₂, _∙_}
 use Prim.Native.Nat.{ℕ, zero, suc, _+_, _-_, _*_, _/_, _%_, _^_, _≤_, _<_, min, max}
-use native.Mathlib.Nat.{mul-assoc, mul-comm, one-mul, pow-suc, div-div-eq-div-mul, mod-lt, mod-eq-of-lt, zero-lt-suc, not-suc-le-zero, le-of-suc-le-suc}
+use native.Mathlib.Nat.{mul-assoc, mul-comm, one-mul, pow-suc, div-div-eq-div-mul, mod-eq-of-lt, not-suc-le-zero, le-of-suc-le-suc}
 use native.Mathlib.Omega.{arith}
 use lib.Pow.{pow-lt}
 use lib.Bits.{bitAnd, bitOr, or-step, and-step, or-zero-r, and-mask}
@@ -43,11 +43,6 @@ put-rest : (w d : ℕ) → d < 2 → putBit w zero d / 2 ≡ w / 2
 put-rest w d h = omega (arith, put-zero w d)
 
 -- ---- the laws
--- a bit is 0 or 1
-pub bit-lt : (w j : ℕ) → bit w j < 2
-unfolding bit
-bit-lt w j = mod-lt (w / 2 ^ j) (zero-lt-suc 1)
-
 -- the bit that is put is as it was put
 pub put-same : (w j d : ℕ) → d < 2 → bit (putBit w j d) j ≡ d
 put-same w zero d h = omega (arith, bit-zero (putBit w zero d), put-zero w d)
@@ -64,28 +59,6 @@ put-other w (suc j) (suc i) d hd h =
     ∙ ap (λ (x : ℕ). bit x i) (put-half w j d)
     ∙ put-other (w / 2) j i d hd (λ e. h (ap suc e))
     ∙ sym (bit-suc w i)
-
--- a word of k bits stays one
-pub put-fits : (k w j d : ℕ) → d < 2 → j < k → w < 2 ^ k → putBit w j d < 2 ^ k
-put-fits zero w j d hd hj hw = absurd (not-suc-le-zero hj)
-put-fits (suc k) w zero d hd hj hw = omega (arith, put-zero w d, pow-suc 2 k)
-put-fits (suc k) w (suc j) d hd hj hw =
-    omega (
-      arith,
-      put-suc w j d,
-      pow-suc 2 k,
-      put-fits k (w / 2) j d hd (le-of-suc-le-suc hj) (omega (arith, pow-suc 2 k)),
-    )
-
--- of two puts of one bit the second stands
-pub put-put : (w j d e : ℕ) → d < 2 → putBit (putBit w j d) j e ≡ putBit w j e
-unfolding putBit
-put-put w j d e h = omega (arith, ap (λ (x : ℕ). x * 2 ^ j) (put-same w j d h))
-
--- a bit that is put as it stands changes nothing
-pub put-self : (w j : ℕ) → putBit w j (bit w j) ≡ w
-unfolding putBit
-put-self w j = omega (arith, bit-le w j)
 
 -- ---- the machine's operations, with the bit at its weight
 or-put : (w j : ℕ) → bitOr w (2 ^ j) ≡ putBit w j 1

@@ -34,9 +34,6 @@ pub leave-reads : (base head next previous n : ℕ) (b : List ℕ) → at b (nex
     → leave base head n b ≡ leaveBy base head next previous n b
 leave-reads base head next previous n b e f = ap₂ (λ (x y : ℕ). leaveBy base head x y n b) e f
 
-pub join-reads : (base head old n : ℕ) (b : List ℕ) → at b head ≡ old → join base head n b ≡ joinBy base head old n b
-join-reads base head old n b e = ap (λ (x : ℕ). joinBy base head x n b) e
-
 -- the same of pool n, whose two words are those of its record
 pub pool-leaves : (A head next previous n : ℕ) (b : List ℕ) → pool A b poolNext n ≡ next → pool A b poolPrevious n ≡ previous
     → leave (poolLinks A) head n b ≡ leaveBy (poolLinks A) head next previous n b
@@ -72,16 +69,7 @@ pub join-keeps : (base head old n : ℕ) (b : List ℕ) (j : ℕ)
 unfolding joinBy
 join-keeps base head old n b j h = simp (getD-set-other, only-keeps, h .0, h .1, h .2, h .3)
 
--- ---- the arenas' lists leave every word of a pool record as it is, and the pools' lists every word of an arena record
-pub arena-leave-keeps : (A head next previous a : ℕ) (b : List ℕ) (w n : ℕ) → head < 72 → a < A → next ≤ A → previous ≤ A
-    → pool A (leaveBy arenaLinks head next previous a b) w n ≡ pool A b w n
-arena-leave-keeps A head next previous a b w n h l k p =
-    leave-keeps arenaLinks head next previous a b (poolWord A w n) (omega arith)
-
-pub arena-join-keeps : (A head old a : ℕ) (b : List ℕ) (w n : ℕ) → head < 72 → a < A → old ≤ A
-    → pool A (joinBy arenaLinks head old a b) w n ≡ pool A b w n
-arena-join-keeps A head old a b w n h l k = join-keeps arenaLinks head old a b (poolWord A w n) (omega arith)
-
+-- ---- the pools' lists leave every word of an arena record as it is
 pub pool-leave-keeps : (A head next previous n : ℕ) (b : List ℕ) (w a : ℕ) → head < 72 → a < A → w < 8
     → arena (leaveBy (poolLinks A) head next previous n b) w a ≡ arena b w a
 pool-leave-keeps A head next previous n b w a h l k =

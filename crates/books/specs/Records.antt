@@ -82,11 +82,6 @@ abbrev pub setTo : Pool → ℕ → ℕ → Pool
 setTo p c size = poolOf 1 (48 + size) 0 0 c (48 + 2 * size) (lastStart size) (p .spare)
 
 -- ---- storing a record
--- the length stays
-pub length-putPool : (A n : ℕ) (p : Pool) (b : List ℕ) → length (putPool A n p b) ≡ length b
-unfolding putPool
-length-putPool A n p b = simp length-set
-
 -- a word that is stored as it stands
 kept : (b : List ℕ) (i v : ℕ) → at b i ≡ v → put i v b ≡ b
 kept b i v e = ap (λ (x : ℕ). put i x b) (sym e) ∙ set-getD b i 0

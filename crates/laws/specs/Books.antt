@@ -101,9 +101,6 @@ pool-lay A N h len e l = omega arith
 arena-lay : (A N h len : ℕ) → len ≡ 72 + 8 * A + 8 * N → h < 72 → Lay (arenaWord 4) (arenaWord 5) h A len
 arena-lay A N h len e l = omega arith
 
-freed-lay : (A N a len : ℕ) → len ≡ 72 + 8 * A + 8 * N → a < A → Lay (poolWord A 2) (poolWord A 3) (arenaWord 3 a) N len
-freed-lay A N a len e l = omega arith
-
 -- two words of arena records differ where their numbers do
 arena-apart : (w a v x : ℕ) → w < 8 → v < 8 → w ≢ v → arenaWord w a ≢ arenaWord v x
 arena-apart w a v x l m d = omega arith

@@ -347,9 +347,6 @@ module _ {al A P : ℕ} {h : Heap} {U : View} {r : Plain} (L : Aligned al) (K : 
       links = member-links (K .lists) 2 a (omega arith) la usable-a
 
       -- it leaves
-      b₆ : List ℕ
-      b₆ = leave arenaLinks usableHead a b₅
-
       U₆ : View
       U₆ = U₅ ▷ baseTo a 0 ▷ arenasTo 2 (erase a (U .arenas 2))
 
@@ -420,9 +417,6 @@ module _ {al A P : ℕ} {h : Heap} {U : View} {r : Plain} (L : Aligned al) (K : 
             virgins = λ y d. refl;
             lives = λ y d. to-other p (to j false (r .live p)) (r .live) y d;
           }
-
-      home-clear : (y : ℕ) → V₈ .home y ≡ (if eqb (U₅ .home y) (arenaWord freedHead a) then 1 else U₅ .home y)
-      home-clear y = refl
 
       H : HomesAfter al A P p V₈ r r′
       H =

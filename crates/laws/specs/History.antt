@@ -529,9 +529,6 @@ module _ {al : ℕ} (L : Aligned al) (m₀ : List ℕ) where
     moved-tied : Tied al m₀ (record { heap = giveBack al (x₂ .heap) o .heap; ledger = carried al n o new (giveBack al (x₂ .heap) o .heap .memory) (x .ledger) })
     moved-tied = record { A = T₃ .A; P = T₃ .P; rows = T₃ .rows; sound = T₃ .sound; tie = λ y. same-entry y (ℕ-discrete y new) (ℕ-discrete y o) ∙ T₃ .tie y; first = T₃ .first }
       where
-        m₃ : List ℕ
-        m₃ = giveBack al (x₂ .heap) o .heap .memory
-
         at-new : x₃ .ledger new ≡ part new size m₂
         at-new = to-other o [] (x₂ .ledger) new (λ q. differ (sym q)) ∙ to-same new (part new size m₂) (x₁ .ledger) new refl
 

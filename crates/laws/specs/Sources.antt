@@ -41,109 +41,101 @@ use Rattle.laws.specs.AskListed.{ask-listed}
 use Rattle.laws.specs.Taken.{no-live, spentBooks, spend-is, From, newRows, setTo, set-anew, takeFor, taken-again}
 
 -- ---- the arena that gives a pool
--- it had another free pool, and keeps its place
-spend-more : {al A P p a c : ℕ} {b : List ℕ} {U U₁ : View} {r r₁ : Plain} → From al A P p a c b U U₁ r r₁ (free P r a) 2 → a < A → 2 ≤ free P r a
-    → From al A P p a c (spentBooks a b) U (U₁ ▷ arenaTo 2 a (at b (arenaWord freePools a) - 1)) r r₁ (free P r a - 1) 2
-spend-more {al} {A} {P} {p} {a} {c} {b} {U} {U₁} {r} {r₁} O la many =
-    record {
-      books = subst (λ (t : Bool). Books A (A * P) (only t (leave arenaLinks usableHead a) b₂) U₂) (sym still) K₂;
-      inside = O .inside;
-      of = O .of;
-      heads = O .heads;
-      pools = O .pools;
-      spare-word = O .spare-word;
-      arenas = λ w x d. arenas-other 2 a (at b (arenaWord freePools a) - 1) U₁ w x d ∙ O .arenas w x d;
-      spares = λ w u. rw (ne-eqb w 2 (omega arith)) (O .spares w u);
-      bases = O .bases;
-      homes = O .homes;
-      home-p = O .home-p;
-      listed = O .listed;
-      open-a = O .open-a;
-      mark-a = O .mark-a;
-      free-a = rw (eq-eqb a a refl) fallen;
-      base-a = O .base-a;
-      unused-p = O .unused-p;
-      marked = O .marked;
-      mark-high = O .mark-high;
-      marks = O .marks;
-      carved-p = O .carved-p;
-      carved-others = O .carved-others;
-      freed = O .freed;
-      usable = O .usable;
-      unused = O .unused;
-      class-same = O .class-same;
-      chain-same = O .chain-same;
-      virgin-same = O .virgin-same;
-      live-same = O .live-same;
-      listed-same = O .listed-same;
-    }
-  where
-    b₂ : List ℕ
-    b₂ = put (arenaWord freePools a) (at b (arenaWord freePools a) - 1) b
+module _ {al A P p a c : ℕ} {b : List ℕ} {U U₁ : View} {r r₁ : Plain} (O : From al A P p a c b U U₁ r r₁ (free P r a) 2) (la : a < A) where
+  -- its free pools fall by 1
+  abbrev fewer : List ℕ
+  fewer = put (arenaWord freePools a) (at b (arenaWord freePools a) - 1) b
 
-    U₂ : View
-    U₂ = U₁ ▷ arenaTo 2 a (at b (arenaWord freePools a) - 1)
+  abbrev fewerView : View
+  fewerView = U₁ ▷ arenaTo 2 a (at b (arenaWord freePools a) - 1)
 
-    K₂ : Books A (A * P) b₂ U₂
-    K₂ = put-arena (O .books) 2 a (at b (arenaWord freePools a) - 1) (omega arith) la
+  fewer-books : Books A (A * P) fewer fewerView
+  fewer-books = put-arena (O .books) 2 a (at b (arenaWord freePools a) - 1) (omega arith) la
 
-    fallen : at b (arenaWord freePools a) - 1 ≡ free P r a - 1
-    fallen = ap (λ (x : ℕ). x - 1) (O .books .arenas 2 a (omega arith) la ∙ O .free-a)
+  fallen : at b (arenaWord freePools a) - 1 ≡ free P r a - 1
+  fallen = ap (λ (x : ℕ). x - 1) (O .books .arenas 2 a (omega arith) la ∙ O .free-a)
 
-    still : none? (at b₂ (arenaWord freePools a)) ≡ false
-    still = let e : at b₂ (arenaWord freePools a) ≡ free P r a - 1 = K₂ .arenas 2 a (omega arith) la ∙ rw (eq-eqb a a refl) fallen in rw e (ne-eqb (free P r a - 1) 0 (omega arith))
+  fewer-is : at fewer (arenaWord freePools a) ≡ free P r a - 1
+  fewer-is = fewer-books .arenas 2 a (omega arith) la ∙ rw (eq-eqb a a refl) fallen
 
--- it had no other, and leaves the usable list
-spend-one : {al A P p a c : ℕ} {b : List ℕ} {U U₁ : View} {r r₁ : Plain} → From al A P p a c b U U₁ r r₁ (free P r a) 2 → a < A → free P r a ≡ 1
-    → From al A P p a c (spentBooks a b) U (U₁ ▷ arenaTo 2 a (at b (arenaWord freePools a) - 1) ▷ baseTo a 0 ▷ arenasTo 2 (erase a (U₁ .arenas 2))) r (r₁ ▷ setUsable (erase a (r₁ .usable))) (free P r a - 1) 0
-spend-one {al} {A} {P} {p} {a} {c} {b} {U} {U₁} {r} {r₁} O la one =
-    record {
-      books = subst (λ (t : Bool). Books A (A * P) (only t (leave arenaLinks usableHead a) b₂) (U₂ ▷ baseTo a 0 ▷ arenasTo 2 (erase a (U₁ .arenas 2)))) (sym gone) (arena-leaves K₂ 2 a (omega arith) la (O .base-a));
-      inside = O .inside;
-      of = O .of;
-      heads = O .heads;
-      pools = O .pools;
-      spare-word = O .spare-word;
-      arenas = λ w x d. arenas-other 2 a (at b (arenaWord freePools a) - 1) U₁ w x d ∙ O .arenas w x d;
-      spares = λ w u. rw (ne-eqb w 2 (omega arith)) (O .spares w u);
-      bases = λ x d. to-other a 0 (U₁ .base) x d ∙ O .bases x d;
-      homes = O .homes;
-      home-p = O .home-p;
-      listed = O .listed;
-      open-a = O .open-a;
-      mark-a = O .mark-a;
-      free-a = rw (eq-eqb a a refl) fallen;
-      base-a = to-same a 0 (U₁ .base) a refl;
-      unused-p = O .unused-p;
-      marked = O .marked;
-      mark-high = O .mark-high;
-      marks = O .marks;
-      carved-p = O .carved-p;
-      carved-others = O .carved-others;
-      freed = O .freed;
-      usable = ap (erase a) (O .usable);
-      unused = O .unused;
-      class-same = O .class-same;
-      chain-same = O .chain-same;
-      virgin-same = O .virgin-same;
-      live-same = O .live-same;
-      listed-same = O .listed-same;
-    }
-  where
-    b₂ : List ℕ
-    b₂ = put (arenaWord freePools a) (at b (arenaWord freePools a) - 1) b
+  -- it had another free pool, and keeps its place
+  spend-more : 2 ≤ free P r a → From al A P p a c (spentBooks a b) U fewerView r r₁ (free P r a - 1) 2
+  spend-more many =
+      record {
+        books = subst (λ (t : Bool). Books A (A * P) (only t (leave arenaLinks usableHead a) fewer) fewerView) (sym still) fewer-books;
+        inside = O .inside;
+        of = O .of;
+        heads = O .heads;
+        pools = O .pools;
+        spare-word = O .spare-word;
+        arenas = λ w x d. arenas-other 2 a (at b (arenaWord freePools a) - 1) U₁ w x d ∙ O .arenas w x d;
+        spares = λ w u. rw (ne-eqb w 2 (omega arith)) (O .spares w u);
+        bases = O .bases;
+        homes = O .homes;
+        home-p = O .home-p;
+        listed = O .listed;
+        open-a = O .open-a;
+        mark-a = O .mark-a;
+        free-a = rw (eq-eqb a a refl) fallen;
+        base-a = O .base-a;
+        unused-p = O .unused-p;
+        marked = O .marked;
+        mark-high = O .mark-high;
+        marks = O .marks;
+        carved-p = O .carved-p;
+        carved-others = O .carved-others;
+        freed = O .freed;
+        usable = O .usable;
+        unused = O .unused;
+        class-same = O .class-same;
+        chain-same = O .chain-same;
+        virgin-same = O .virgin-same;
+        live-same = O .live-same;
+        listed-same = O .listed-same;
+      }
+    where
+      still : none? (at fewer (arenaWord freePools a)) ≡ false
+      still = rw fewer-is (ne-eqb (free P r a - 1) 0 (omega arith))
 
-    U₂ : View
-    U₂ = U₁ ▷ arenaTo 2 a (at b (arenaWord freePools a) - 1)
-
-    K₂ : Books A (A * P) b₂ U₂
-    K₂ = put-arena (O .books) 2 a (at b (arenaWord freePools a) - 1) (omega arith) la
-
-    fallen : at b (arenaWord freePools a) - 1 ≡ free P r a - 1
-    fallen = ap (λ (x : ℕ). x - 1) (O .books .arenas 2 a (omega arith) la ∙ O .free-a)
-
-    gone : none? (at b₂ (arenaWord freePools a)) ≡ true
-    gone = let e : at b₂ (arenaWord freePools a) ≡ 0 = K₂ .arenas 2 a (omega arith) la ∙ rw (eq-eqb a a refl) (fallen ∙ omega arith) in rw e
+  -- it had no other, and leaves the usable list
+  spend-one : free P r a ≡ 1
+      → From al A P p a c (spentBooks a b) U (fewerView ▷ baseTo a 0 ▷ arenasTo 2 (erase a (U₁ .arenas 2))) r (r₁ ▷ setUsable (erase a (r₁ .usable))) (free P r a - 1) 0
+  spend-one one =
+      record {
+        books = subst (λ (t : Bool). Books A (A * P) (only t (leave arenaLinks usableHead a) fewer) (fewerView ▷ baseTo a 0 ▷ arenasTo 2 (erase a (U₁ .arenas 2)))) (sym gone) (arena-leaves fewer-books 2 a (omega arith) la (O .base-a));
+        inside = O .inside;
+        of = O .of;
+        heads = O .heads;
+        pools = O .pools;
+        spare-word = O .spare-word;
+        arenas = λ w x d. arenas-other 2 a (at b (arenaWord freePools a) - 1) U₁ w x d ∙ O .arenas w x d;
+        spares = λ w u. rw (ne-eqb w 2 (omega arith)) (O .spares w u);
+        bases = λ x d. to-other a 0 (U₁ .base) x d ∙ O .bases x d;
+        homes = O .homes;
+        home-p = O .home-p;
+        listed = O .listed;
+        open-a = O .open-a;
+        mark-a = O .mark-a;
+        free-a = rw (eq-eqb a a refl) fallen;
+        base-a = to-same a 0 (U₁ .base) a refl;
+        unused-p = O .unused-p;
+        marked = O .marked;
+        mark-high = O .mark-high;
+        marks = O .marks;
+        carved-p = O .carved-p;
+        carved-others = O .carved-others;
+        freed = O .freed;
+        usable = ap (erase a) (O .usable);
+        unused = O .unused;
+        class-same = O .class-same;
+        chain-same = O .chain-same;
+        virgin-same = O .virgin-same;
+        live-same = O .live-same;
+        listed-same = O .listed-same;
+      }
+    where
+      gone : none? (at fewer (arenaWord freePools a)) ≡ true
+      gone = let e : at fewer (arenaWord freePools a) ≡ 0 = fewer-is ∙ omega arith in rw e
 
 -- ---- the heap, its books and the wanted class c, whose list is empty
 module _ {al A P : ℕ} {h : Heap} {U : View} {r : Plain} (L : Aligned al) (K : Books A (A * P) (h .books) U) (F : Says al A P U (h .memory) (h .map) r)
