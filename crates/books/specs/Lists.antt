@@ -9,8 +9,8 @@ use native.Mathlib.Omega.{arith}
 use lib.ListN.{length, getD, length-set}
 use lib.Seq.{getD-set-other}
 use Rattle.rules.specs.Say.{if_then_else_, only}
-use Rattle.rules.specs.Books.{at, put, arenaWord, arena, poolNext, poolPrevious, poolWord, pool, none?, linked}
-use Rattle.rules.specs.Lists.{nextAt, previousAt, leaveBy, joinBy, leave, join, arenaLinks, poolLinks}
+use Rattle.rules.specs.Books.{at, put, arenaWord, arena, poolNext, poolPrevious, pool, none?, linked}
+use Rattle.rules.specs.Lists.{nextAt, previousAt, leaveBy, joinBy, leave, poolLinks}
 
 -- the record that a link leads to, if any, has its next and previous words inside books of that many words
 abbrev pub Within : ℕ → ℕ → ℕ → Type 0

@@ -6,7 +6,6 @@ use mathlib.Core.List.{List}
 use Prim.Native.Nat.{ℕ, _+_, _*_, _-_}
 use native.Mathlib.Omega.{arith}
 use lib.Dec.{eqb}
-use lib.ListN.{length, length-set}
 use borrow.Author.Tests.{eqb-false}
 use lib.Seq.{getD-set-other, set-getD, set-comm}
 use Rattle.rules.specs.Say.{_▷_}

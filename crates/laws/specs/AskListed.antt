@@ -1,37 +1,37 @@
 -- Ask, where the class list has a pool: by a link to follow, by another block set ready, as its last spare block.
 -- Assumes nothing.
-use mathlib.Core.Path.{_≡_, refl, sym, ap, ap₂, _∙_, subst}
-use mathlib.Core.Logic.{_≢_, _⊎_, inl, inr}
-use mathlib.Core.Bool.{Bool, true, false, not, _&&_, _||_}
+use mathlib.Core.Path.{_≡_, refl, sym, ap, _∙_, subst}
+use mathlib.Core.Logic.{inl, inr}
+use mathlib.Core.Bool.{Bool, true, false, not, _||_}
 use mathlib.Core.List.{List, [], _∷_}
-use Prim.Native.Nat.{ℕ, zero, suc, _+_, _*_, _-_, _/_, _%_, _≤_, _<_}
-use native.Mathlib.Nat.{mul-le-mul-right, suc-mul, div-mul-le-self, mul-comm, div-add-mod', mod-lt}
+use Prim.Native.Nat.{ℕ, zero, suc, _+_, _*_, _-_, _/_, _≤_, _<_}
+use native.Mathlib.Nat.{mul-le-mul-right, mul-comm, div-add-mod', mod-lt}
 use native.Mathlib.Decide.{ℕ-discrete, decLe}
 use native.Mathlib.Omega.{arith}
-use lib.Dec.{leb, ltb, eqb, eqb·suc-zero}
-use lib.ListN.{length, length-set}
+use lib.Dec.{eqb, eqb·suc-zero}
+use lib.ListN.{length}
 use borrow.Author.Tests.{eq-eqb, ne-eqb, le-leb, lt-leb, lt-ltb, le-ltb}
 use Rattle.rules.specs.declared.AskPlan.{AskPlan}
 use Rattle.rules.specs.declared.AskPlan.the-variants.{Follow, Ready, Last}
 use Rattle.rules.specs.Say.{if_then_else_, _▷_}
 use Rattle.rules.specs.Books.{Heap, at, isSet, putMapBit, classHead, poolWord, pool, offsetOf}
-use Rattle.rules.specs.Blocks.{sizeOf, lastClass, startOf, lastStart, isStart, blockNo, capacity, linkAt, putLink}
+use Rattle.rules.specs.Blocks.{sizeOf, startOf, lastStart, blockNo, capacity, linkAt, putLink}
 use Rattle.rules.specs.Lists.{nextAt, previousAt, poolLinks}
 use Rattle.rules.specs.Ask.{planAsk, spare, fromListed, fromFreeblock, noLink, afterAsk, askAnswer}
 use Rattle.bits.specs.Map.{length-put}
 use Rattle.books.specs.Starts.{start-is, number-is}
 use Rattle.laws.specs.Update.{to, to-same, to-other}
-use Rattle.laws.specs.Rows.{All, In, erase, Seg, Split, split, next-in, prev-in}
-use Rattle.laws.specs.Families.{At, Family, inside}
+use Rattle.laws.specs.Rows.{erase, Seg, next-in}
+use Rattle.laws.specs.Families.{At, inside}
 use Rattle.laws.specs.Books.{View, Books, put-pool, pool-leaves, words-other, poolTo, homeTo, listedTo}
-use Rattle.laws.specs.Plain.{Plain, count, carved, front, rest, setChain, setLive, setVirgin, setListed, planAsk as plainAsk, afterAsk as plainAfterAsk}
+use Rattle.laws.specs.Plain.{Plain, count, rest, setChain, setLive, setVirgin, setListed}
 use Rattle.laws.specs.Counting.{many-has}
-use Rattle.laws.specs.Sizes.{Aligned, size-low, size-high, capacity-high, capacity-low}
-use Rattle.laws.specs.Chains.{Blocks, among, room, taken, extended, block-ends}
-use Rattle.laws.specs.Sound.{home, Sound, InClass, PoolRule}
+use Rattle.laws.specs.Sizes.{Aligned, size-low, size-high, capacity-high}
+use Rattle.laws.specs.Chains.{Blocks, room, taken, extended, block-ends}
+use Rattle.laws.specs.Sound.{home, Sound, InClass}
 use Rattle.laws.specs.Held.{Says, Held, held, sound, listed-is, home-listed, home-full, in-class}
-use Rattle.laws.specs.Step.{Aside, PoolAfter, ListsAfter, bits-after, link-after, no-bytes}
-use Rattle.laws.specs.Paths.{Quiet, quiet-same, quiet-link, Hand, Asked, asked, count-on, still-used, inner}
+use Rattle.laws.specs.Step.{Aside, PoolAfter, bits-after, link-after, no-bytes}
+use Rattle.laws.specs.Paths.{quiet-same, quiet-link, Hand, Asked, asked, count-on, still-used, inner}
 
 -- past the last block of a pool no other fits
 pub past-last : (s : ℕ) → 8 ≤ s → 4048 < s * capacity s + s

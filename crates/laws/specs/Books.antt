@@ -1,23 +1,22 @@
 -- What the books say, record by record and list by list, and one law for each kind of write: a path of 01 is a chain of these laws.
 -- Assumes nothing.
-use mathlib.Core.Path.{_≡_, refl, sym, ap, ap₂, _∙_, subst}
-use mathlib.Core.Logic.{_≢_, _⊎_, inl, inr}
-use mathlib.Core.Bool.{Bool, true, false}
+use mathlib.Core.Path.{_≡_, refl, sym, ap, _∙_, subst}
+use mathlib.Core.Logic.{_≢_}
 use mathlib.Core.List.{List, [], _∷_, _++_}
-use Prim.Native.Nat.{ℕ, zero, suc, _+_, _*_, _-_, _<_, _≤_}
+use Prim.Native.Nat.{ℕ, suc, _+_, _*_, _<_, _≤_}
 use native.Mathlib.Decide.{ℕ-discrete}
 use native.Mathlib.Omega.{arith}
 use lib.Dec.{eqb}
 use lib.ListN.{length, set, length-set}
-use lib.Seq.{getD-set-same, getD-set-other, lt-length-set, set-comm, set-getD}
+use lib.Seq.{getD-set-same, getD-set-other, lt-length-set, set-comm}
 use borrow.Author.Tests.{eq-eqb, ne-eqb}
 use Rattle.rules.specs.Say.{if_then_else_, _▷_}
-use Rattle.rules.specs.Books.{at, put, usableHead, unusedHead, classHead, freedHead, arenaNext, arenaPrevious, arenaWord, arena, poolNext, poolPrevious, poolWord, pool, linkTo}
+use Rattle.rules.specs.Books.{at, put, classHead, freedHead, arenaNext, arenaPrevious, arenaWord, arena, poolNext, poolPrevious, poolWord, pool, linkTo}
 use Rattle.rules.specs.Lists.{leave, join, arenaLinks, poolLinks}
 use Rattle.laws.specs.Update.{to, to-same, to-other}
-use Rattle.laws.specs.Rows.{All, Not, In, Once, Seg, erase, Split, split, erase-is, erase-front, head-in, next-in, prev-in, all-map, all-two, all-every, flip}
+use Rattle.laws.specs.Rows.{All, Not, In, Seg, erase, Split, split, erase-is, erase-front, head-in, next-in, prev-in, all-map, all-two, all-every, flip}
 use Rattle.laws.specs.Linked.{Doubly, Singly, Stack, Lay, joined, left, leave-is, join-is, join-in, leave-in, joined-other, left-other, joined-length, left-length, left-own, join-strange, leave-strange, doubly-same, singly-same, stack-same}
-use Rattle.laws.specs.Families.{At, Family, stranger, inside, comes, goes, Alike, alike, aside, Stand, doubly-stay, singly-stay}
+use Rattle.laws.specs.Families.{At, Family, stranger, inside, comes, goes, Alike, alike, aside, doubly-stay, singly-stay}
 
 -- ---- what the books say
 pub record View : Type 0 where

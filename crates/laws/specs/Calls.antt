@@ -1,35 +1,35 @@
 -- The calls of 01 over a sound heap: the tests of 1 and 2 pass, and ask and give back do the plain heap's step.
 -- Assumes nothing.
-use mathlib.Core.Path.{_≡_, refl, sym, ap, ap₂, _∙_, subst}
-use mathlib.Core.Logic.{_≢_, _⊎_, inl, inr}
-use mathlib.Core.Bool.{Bool, true, false, not, _&&_}
+use mathlib.Core.Path.{_≡_, refl, sym, _∙_}
+use mathlib.Core.Logic.{_⊎_, inl, inr}
+use mathlib.Core.Bool.{Bool, true, false, _&&_}
 use mathlib.Core.List.{List, [], _∷_}
-use Prim.Native.Nat.{ℕ, zero, suc, _+_, _*_, _-_, _/_, _%_, _≤_, _<_}
+use Prim.Native.Nat.{ℕ, _+_, _/_, _≤_}
+use native.Mathlib.Decide.{ℕ-discrete}
 use native.Mathlib.Omega.{arith}
 use lib.Dec.{leb, ltb, eqb}
 use lib.ListN.{length}
-use borrow.Author.Tests.{le-leb, le-ltb, leb-true}
+use borrow.Author.Tests.{eq-eqb, ne-eqb, le-leb, le-ltb, leb-true}
 use Rattle.rules.specs.declared.AskPlan.{AskPlan}
 use Rattle.rules.specs.declared.AskPlan.the-variants.{NoRoom}
-use Rattle.rules.specs.declared.BackPlan.{BackPlan}
 use Rattle.rules.specs.declared.BackPlan.the-variants.{Joins, Stays, Empties, Returns, Releases}
 use Rattle.rules.specs.Say.{if_then_else_}
-use Rattle.rules.specs.Books.{Heap, arenas, pools, offsetOf}
-use Rattle.rules.specs.Blocks.{classOf, sizeOf, lastClass, startOf, blockNo, capacity, live, liveNumber}
-use Rattle.rules.specs.Outcome.{Outcome, outcome, refused, answerOf, passing}
-use Rattle.rules.specs.Ask.{askStep, askAnswer, afterAsk, planAsk}
-use Rattle.rules.specs.GiveBack.{backStep, backAnswer, afterBack, planBack}
+use Rattle.rules.specs.Books.{Heap}
+use Rattle.rules.specs.Blocks.{classOf, sizeOf, startOf, capacity, live, liveNumber}
+use Rattle.rules.specs.Outcome.{outcome, refused, answerOf}
+use Rattle.rules.specs.Ask.{askStep, askAnswer, afterAsk}
+use Rattle.rules.specs.GiveBack.{backStep, backAnswer, afterBack}
+use Rattle.rules.specs.View.{part}
 use Rattle.rules.specs.Numbers.{fitNumber, shapeNumber, sizeNumber, ask, giveBack}
-use Rattle.books.specs.Tests.{both}
-use Rattle.books.specs.Known.{Shaped, shaped}
+use Rattle.books.specs.Known.{shaped}
 use Rattle.laws.specs.Update.{to}
-use Rattle.laws.specs.Plain.{Plain, count, free, none, front, rest, planAsk as plainAsk, afterAsk as plainAfterAsk, planBack as plainBack, afterBack as plainAfterBack, fromClass, fromListed, fromUsable, fromArena, fromUnused, askPlain, backPlain}
+use Rattle.laws.specs.Plain.{Plain, count, free, none, front, rest, planAsk as plainAsk, planBack as plainBack, afterBack as plainAfterBack, fromClass, fromListed, fromUsable, fromArena, fromUnused, askPlain, backPlain}
 use Rattle.laws.specs.Sizes.{Aligned, has-class}
 use Rattle.laws.specs.Sound.{Sound}
 use Rattle.laws.specs.Paths.{Asked, Backed}
 use Rattle.laws.specs.Emptied.{back-any}
 use Rattle.laws.specs.Sources.{ask-any}
-use Rattle.laws.specs.Holding.{LiveAt, live-rows, pool-is, start-at, class-is}
+use Rattle.laws.specs.Holding.{LiveAt, live-rows, pool-is, start-at, class-is, holding, holding-new, holding-others, holding-gone, holding-kept, Leaves}
 
 -- rule 1: no 1 or 2
 pub shape-zero : {al A P : ℕ} {h : Heap} {r : Plain} → Sound al A P h r → shapeNumber h ≡ 0
@@ -85,6 +85,22 @@ module _ {al A P : ℕ} {h : Heap} {r : Plain} (L : Aligned al) (S : Sound al A 
     unfolding ask askStep sizeNumber
     ask-is = rw (shape-zero S, le-leb 1 n low, le-leb n 512 high, S .rule1 .arenas-are, S .rule1 .pools-are, ask-done .plan-is)
 
+    -- an ask that is done adds the block at its offset, with the bytes that stand there
+    pub ask-leaves : askAnswer (plainAsk al P r (classOf al n)) .number ≡ 0
+        → Leaves al A P h (ask al h n .heap) (askPlain al P r n)
+        (to (ask al h n .answer .offset) (part (ask al h n .answer .offset) (sizeOf al (classOf al n)) (ask al h n .heap .memory)) (holding al A P h))
+    ask-leaves z = rw ask-is (record { sound = ask-done .sound; holds = λ o. go o (ℕ-discrete o new); first = ask-done .quiet .first-bytes })
+      where
+        new : ℕ
+        new = askAnswer (plainAsk al P r (classOf al n)) .offset
+
+        h′ : Heap
+        h′ = afterAsk al A P (classOf al n) (plainAsk al P r (classOf al n)) h
+
+        go : (o : ℕ) → Dec (o ≡ new) → holding al A P h′ o ≡ to new (part new (sizeOf al (classOf al n)) (h′ .memory)) (holding al A P h) o
+        go o (yes q) = rw (eq-eqb o new q, q) (holding-new L S (ask-done .sound) (ask-done .quiet) (has-class L n high) (ask-done .hand z))
+        go o (no q) = rw (ne-eqb o new q) (holding-others L S (ask-done .sound) (ask-done .quiet) (has-class L n high) (ask-done .hand z) o q)
+
 -- the sizes that are refused with 3
 pub size-number : (n : ℕ) → ((1 ≤ n) × (n ≤ 512)) ⊎ (sizeNumber n ≡ 3)
 unfolding sizeNumber
@@ -139,3 +155,20 @@ module _ {al A P : ℕ} {h : Heap} {r : Plain} (L : Aligned al) (S : Sound al A 
           back-done .plan-is,
           plain-back P r (block-of .pool) (block-of .block) o .0,
         )
+
+    -- a give-back takes the block at its offset away
+    pub back-leaves : Leaves al A P h (giveBack al h o .heap) (backPlain P r (block-of .pool) (block-of .block)) (to o [] (holding al A P h))
+    back-leaves = rw back-is (record { sound = back-done .sound; holds = λ x. go x (ℕ-discrete x o); first = back-done .quiet .first-bytes })
+      where
+        t : LiveAt al A P r o
+        t = block-of
+
+        h′ : Heap
+        h′ = afterBack al A P (r .class (block-of .pool)) (block-of .pool) (startOf (sizeOf al (r .class (block-of .pool))) (block-of .block)) (plainBack P r (block-of .pool) (block-of .block)) h
+
+        z : (backAnswer o (plainBack P r (block-of .pool) (block-of .block)) ≡ answerOf 0 o) × (backPlain P r (block-of .pool) (block-of .block) .live ≡ to (block-of .pool) (to (block-of .block) false (r .live (block-of .pool))) (r .live)) × (backPlain P r (block-of .pool) (block-of .block) .class ≡ r .class)
+        z = plain-back P r (block-of .pool) (block-of .block) o
+
+        go : (x : ℕ) → Dec (x ≡ o) → holding al A P h′ x ≡ to o [] (holding al A P h) x
+        go x (yes q) = rw (eq-eqb x o q, q ∙ t .place) (holding-gone L S (back-done .sound) (back-done .quiet) (t .pool) (t .block) (t .inside) (t .class) (t .fits) (z .2) (z .1))
+        go x (no q) = rw (ne-eqb x o q) (holding-kept L S (back-done .sound) (back-done .quiet) (t .pool) (t .block) (t .inside) (t .class) (t .fits) (z .2) (z .1) x (λ k. q (k ∙ sym (t .place))))

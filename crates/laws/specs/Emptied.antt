@@ -1,42 +1,41 @@
 -- Give back the last live block of a pool: its arena keeps its place, becomes usable, or is released.
 -- Assumes nothing.
-use mathlib.Core.Path.{_≡_, refl, sym, ap, ap₂, _∙_, subst}
-use mathlib.Core.Logic.{_≢_, _⊎_, inl, inr}
-use mathlib.Core.Bool.{Bool, true, false, not, _&&_, _||_}
+use mathlib.Core.Path.{_≡_, refl, sym, ap, _∙_, subst}
+use mathlib.Core.Logic.{_≢_, inr}
+use mathlib.Core.Bool.{Bool, true, false, not, _&&_}
 use mathlib.Core.List.{List, [], _∷_, _++_}
-use Prim.Native.Nat.{ℕ, zero, suc, _+_, _*_, _-_, _/_, _%_, _≤_, _<_}
+use Prim.Native.Nat.{ℕ, suc, _+_, _*_, _-_, _/_, _%_, _≤_, _<_}
 use native.Mathlib.Nat.{div-add-mod', mod-lt}
 use native.Mathlib.Decide.{ℕ-discrete, decLe}
 use native.Mathlib.Omega.{arith}
-use lib.Arith.{digits-div}
 use lib.Dec.{leb, ltb, eqb}
-use lib.ListN.{length, replicate}
-use lib.Seq.{sets, set-getD, getD-set-other}
-use borrow.Author.Tests.{eq-eqb, ne-eqb, le-leb, lt-leb, lt-ltb, le-ltb, ltb-true, ltb-false, not-true}
+use lib.ListN.{replicate}
+use lib.Seq.{sets, set-getD}
+use borrow.Author.Tests.{eq-eqb, ne-eqb, le-leb, lt-ltb, le-ltb, ltb-true, ltb-false, not-true}
 use Rattle.rules.specs.declared.BackPlan.{BackPlan}
 use Rattle.rules.specs.declared.BackPlan.the-variants.{Damaged, Empties, Returns, Releases}
 use Rattle.rules.specs.Say.{if_then_else_, _▷_}
 use Rattle.rules.specs.Books.{Heap, at, put, putMapBit, usableHead, unusedHead, classHead, freedHead, arenaWord, arena, freeblock, poolWord, pool}
-use Rattle.rules.specs.Blocks.{sizeOf, lastClass, startOf, isStart, blockNo, capacity}
+use Rattle.rules.specs.Blocks.{sizeOf, startOf, blockNo, capacity}
 use Rattle.rules.specs.Lists.{nextAt, previousAt, leave, join, arenaLinks, poolLinks}
 use Rattle.rules.specs.GiveBack.{planBack, emptying, afterBack}
 use Rattle.bits.specs.Map.{length-put}
 use Rattle.books.specs.Starts.{start-is}
 use Rattle.books.specs.Known.{in-range}
 use Rattle.laws.specs.Update.{to, to-same, to-other}
-use Rattle.laws.specs.Rows.{All, In, erase, Seg, Split, split, head-in, next-in, prev-in}
+use Rattle.laws.specs.Rows.{All, erase, Seg, Split, split, head-in, next-in, prev-in}
 use Rattle.laws.specs.Linked.{Doubly, Singly, Stack}
-use Rattle.laws.specs.Families.{At, Family, inside}
-use Rattle.laws.specs.Books.{View, Books, ArenaHead, put-pool, put-arena, pool-leaves, freed-comes, freed-cleared, without, arena-leaves, arena-joins, words-other, arenas-other, poolTo, arenaTo, homeTo, baseTo, listedTo, freedTo, arenasTo}
-use Rattle.laws.specs.Plain.{Plain, count, inUse, carved, free, howMany, setChain, setLive, setListed, setFreed, setUsable, setUnused, setMark}
-use Rattle.laws.specs.Counting.{many-more, many-le, all-many, many-none, none-many}
-use Rattle.laws.specs.Sizes.{Aligned, size-low, capacity-high, capacity-low}
+use Rattle.laws.specs.Families.{Family, inside}
+use Rattle.laws.specs.Books.{View, Books, put-arena, pool-leaves, freed-comes, freed-cleared, without, arena-leaves, arena-joins, arenas-other, arenaTo, homeTo, baseTo, listedTo, freedTo, arenasTo}
+use Rattle.laws.specs.Plain.{Plain, count, inUse, carved, free, setChain, setLive, setListed, setFreed, setUsable, setUnused, setMark}
+use Rattle.laws.specs.Counting.{many-more, many-le, all-many, none-many}
+use Rattle.laws.specs.Sizes.{Aligned, capacity-high, capacity-low}
 use Rattle.laws.specs.Chains.{Blocks, live-below}
-use Rattle.laws.specs.Sound.{home, base, Sound, InClass, PoolRule}
-use Rattle.laws.specs.Held.{Says, Held, held, sound, in-class, freed-is, use-class, clash, freeWord, opened, arena-low, home-listed, home-freed, home-away, base-usable, base-spent, base-unused}
-use Rattle.laws.specs.Step.{Aside, Still, PoolAfter, ArenaAfter, ListsAfter, HomesAfter, count-same, home-same, homes-same, stepped}
-use Rattle.laws.specs.Paths.{Quiet, quiet-link, Backed, backed}
-use Rattle.laws.specs.GiveBack.{c, s, b, f, I, s-low, c-low, cap-high, j-low, some, room-is, count-is, free-is, tested, b₂, m₂, U₂, K₂, count₂, free₂, pools₂, bytes₂, live-p, count-after, dead-after, in-class-after, bits′, link-low, back-stays, back-joins}
+use Rattle.laws.specs.Sound.{home, base, Sound, InClass}
+use Rattle.laws.specs.Held.{Says, Held, held, sound, in-class, freed-is, use-class, clash, opened, arena-low, home-listed, home-freed, home-away, base-usable, base-spent, base-unused}
+use Rattle.laws.specs.Step.{Aside, ListsAfter, HomesAfter, count-same, home-same, homes-same, stepped}
+use Rattle.laws.specs.Paths.{quiet-link, Backed, backed}
+use Rattle.laws.specs.GiveBack.{b, I, c-low, cap-high, j-low, some, count-is, free-is, tested, b₂, m₂, U₂, K₂, count₂, free₂, pools₂, bytes₂, live-p, count-after, dead-after, in-class-after, bits′, link-low, back-stays, back-joins}
 
 -- the links of a member of a doubly linked list are at most the number of records
 pub member-links : {nx pv : ℕ → ℕ} {H : ℕ → Type 0} {place : ℕ → ℕ} {N : ℕ} {at-home : ℕ → ℕ} {b : List ℕ} {rows : ℕ → List ℕ} → Family (Doubly nx pv b) H place N at-home rows

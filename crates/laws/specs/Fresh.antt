@@ -1,27 +1,27 @@
 -- Format: the books that it writes, word by word, and that they hold the fresh plain heap, whatever the buffers held.
 -- Assumes nothing.
-use mathlib.Core.Path.{_≡_, refl, sym, ap, ap₂, _∙_, subst}
+use mathlib.Core.Path.{_≡_, refl, sym, ap, _∙_}
 use mathlib.Core.Logic.{_≢_, _⊎_, inl, inr}
-use mathlib.Core.Bool.{Bool, true, false}
-use mathlib.Core.List.{List, [], _∷_, _++_}
-use Prim.Native.Nat.{ℕ, zero, suc, _+_, _*_, _-_, _/_, _%_, _^_, _≤_, _<_}
-use native.Mathlib.Nat.{zero-div, zero-mod}
-use native.Mathlib.Decide.{ℕ-discrete, decLe}
+use mathlib.Core.Bool.{true, false}
+use mathlib.Core.List.{List, _∷_, _++_}
+use Prim.Native.Nat.{ℕ, zero, suc, _+_, _*_, _-_, _%_, _^_, _≤_, _<_}
+use native.Mathlib.Nat.{zero-div}
+use native.Mathlib.Decide.{ℕ-discrete}
 use native.Mathlib.Omega.{arith}
 use lib.Dec.{eqb}
-use lib.ListN.{length, getD, replicate, length-append, length-replicate, getD-replicate, List·getD-append, List·getD-eq-default}
+use lib.ListN.{length, replicate, length-append, length-replicate, getD-replicate, List·getD-append}
 use lib.Seq.{getD-append-add}
 use borrow.Author.Tests.{eq-eqb, ne-eqb, le-ltb, ltb-true}
 use Rattle.rules.specs.Say.{if_then_else_}
-use Rattle.rules.specs.Books.{Heap, at, inRange, exact, memoryLength, mapLength, bit, isSet, mapWord, classHead, freedHead, arenaWord, poolWord, linkTo, noClass}
+use Rattle.rules.specs.Books.{at, inRange, memoryLength, mapLength, bit, isSet, mapWord, classHead, arenaWord, poolWord, linkTo, noClass}
 use Rattle.rules.specs.Format.{freshArenas, freshPools, freshBooks}
 use Rattle.rules.specs.Outcome.{heapOf}
-use Rattle.books.specs.Known.{Shaped, shaped, in-range}
-use Rattle.laws.specs.Rows.{All, Not, Once, In, Seg}
+use Rattle.books.specs.Known.{in-range}
+use Rattle.laws.specs.Rows.{All, Once, In, Seg}
 use Rattle.laws.specs.Linked.{Doubly}
-use Rattle.laws.specs.Families.{At, Family}
-use Rattle.laws.specs.Books.{View, Books, ArenaHead}
-use Rattle.laws.specs.Plain.{Plain, count, inUse, carved, free, from, fresh}
+use Rattle.laws.specs.Families.{At}
+use Rattle.laws.specs.Books.{Books, ArenaHead}
+use Rattle.laws.specs.Plain.{count, from, fresh}
 use Rattle.laws.specs.Counting.{many-none}
 use Rattle.laws.specs.Sizes.{Aligned}
 use Rattle.laws.specs.Sound.{home, base, arenaRows, Sound}

@@ -1,36 +1,36 @@
 -- Give back, where the pool stays in use: it was full and joins its class list, or it keeps its place.
 -- Assumes nothing.
-use mathlib.Core.Path.{_≡_, refl, sym, ap, ap₂, _∙_, subst}
-use mathlib.Core.Logic.{_≢_, _⊎_, inl, inr}
-use mathlib.Core.Bool.{Bool, true, false, not, _&&_, _||_}
+use mathlib.Core.Path.{_≡_, refl, sym, ap, _∙_, subst}
+use mathlib.Core.Logic.{_≢_, inr}
+use mathlib.Core.Bool.{Bool, true, false, _||_}
 use mathlib.Core.List.{List, [], _∷_}
-use Prim.Native.Nat.{ℕ, zero, suc, _+_, _*_, _-_, _/_, _%_, _≤_, _<_}
+use Prim.Native.Nat.{ℕ, zero, suc, _+_, _*_, _-_, _/_, _≤_, _<_}
 use native.Mathlib.Decide.{ℕ-discrete, decLe}
 use native.Mathlib.Omega.{arith}
-use lib.Dec.{leb, ltb, eqb}
+use lib.Dec.{eqb}
 use lib.ListN.{length}
-use borrow.Author.Tests.{eq-eqb, ne-eqb, le-leb, lt-leb, lt-ltb, le-ltb}
+use borrow.Author.Tests.{eq-eqb, ne-eqb, le-leb}
 use Rattle.rules.specs.declared.BackPlan.{BackPlan}
 use Rattle.rules.specs.declared.BackPlan.the-variants.{Damaged, Joins, Stays}
 use Rattle.rules.specs.Say.{if_then_else_, _▷_}
 use Rattle.rules.specs.Books.{Heap, at, put, isSet, putMapBit, classHead, freeblock, poolWord, pool, offsetOf}
-use Rattle.rules.specs.Blocks.{sizeOf, lastClass, startOf, lastStart, isStart, blockNo, capacity, linkAt, putLink}
+use Rattle.rules.specs.Blocks.{sizeOf, startOf, isStart, blockNo, capacity, putLink}
 use Rattle.rules.specs.Lists.{mayJoin}
 use Rattle.rules.specs.GiveBack.{planBack, emptying, afterBack}
 use Rattle.bits.specs.Map.{length-put}
 use Rattle.books.specs.Starts.{start-is, number-is}
 use Rattle.laws.specs.Update.{to, to-same, to-other}
-use Rattle.laws.specs.Rows.{All, head-in}
+use Rattle.laws.specs.Rows.{head-in}
 use Rattle.laws.specs.Families.{inside}
 use Rattle.laws.specs.Books.{View, Books, put-pool, pool-joins, words-other, poolTo, homeTo, listedTo}
-use Rattle.laws.specs.Plain.{Plain, count, carved, setChain, setLive, setListed}
+use Rattle.laws.specs.Plain.{Plain, count, setChain, setLive, setListed}
 use Rattle.laws.specs.Counting.{many-some}
 use Rattle.laws.specs.Sizes.{Aligned, size-low, capacity-high, capacity-low, class-low}
 use Rattle.laws.specs.Chains.{Blocks, room, given, live-below, block-ends}
-use Rattle.laws.specs.Sound.{home, Sound, InClass, PoolRule}
+use Rattle.laws.specs.Sound.{home, InClass}
 use Rattle.laws.specs.Held.{Says, sound, home-listed, home-full, in-class}
-use Rattle.laws.specs.Step.{Aside, PoolAfter, ListsAfter, BytesAfter, bits-after, link-after}
-use Rattle.laws.specs.Paths.{Quiet, quiet-link, Backed, backed, count-off, still-used, inner}
+use Rattle.laws.specs.Step.{Aside, PoolAfter, BytesAfter, bits-after, link-after}
+use Rattle.laws.specs.Paths.{quiet-link, Backed, backed, count-off, still-used, inner}
 
 -- a link that leads to one of N, or to none, is at most N
 pub link-low : (N v : ℕ) → ((y : ℕ) → v ≡ suc y → y < N) → v ≤ N

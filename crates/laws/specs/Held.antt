@@ -1,30 +1,29 @@
 -- `Sound`, taken apart for the paths and put together again after them: what the books say (`Books`), and that it says the rows (`Says`).
 -- Assumes nothing.
-use mathlib.Core.Path.{_≡_, refl, sym, ap, ap₂, _∙_}
+use mathlib.Core.Path.{_≡_, refl, sym, ap, _∙_}
 use mathlib.Core.Logic.{_≢_, _⊎_, inl, inr}
-use mathlib.Core.Bool.{Bool, true, false, not, _&&_}
+use mathlib.Core.Bool.{Bool, true, false}
 use mathlib.Core.List.{List, [], _∷_}
-use Prim.Native.Nat.{ℕ, zero, suc, _+_, _*_, _-_, _/_, _%_, _≤_, _<_}
+use Prim.Native.Nat.{ℕ, _*_, _/_, _%_, _≤_, _<_}
 use native.Mathlib.Nat.{div-lt-iff-lt-mul}
 use native.Mathlib.Decide.{ℕ-discrete, decLe}
 use native.Mathlib.Omega.{arith}
-use lib.Dec.{leb, ltb, eqb}
+use lib.Dec.{ltb, eqb}
 use lib.ListN.{length}
 use borrow.Author.Tests.{eq-eqb, ne-eqb, lt-ltb, le-ltb, ltb-true, ltb-false, eqb-true, eqb-false}
 use Rattle.rules.specs.Say.{if_then_else_}
 use Rattle.rules.specs.Books.{Heap, at, inRange, exact, memoryLength, booksLength, mapLength, isSet, usableHead, unusedHead, classHead, openWord, freedHead, arenaWord, arena, poolWord, pool}
 use Rattle.rules.specs.Blocks.{sizeOf, lastClass, capacity}
-use Rattle.books.specs.Tests.{both}
 use Rattle.books.specs.Known.{Shaped, shaped, in-range}
 use Rattle.laws.specs.Rows.{All}
 use Rattle.laws.specs.Linked.{Stack}
-use Rattle.laws.specs.Families.{At, Family, Alike, alike, Stand, doubly-stay, singly-stay}
-use Rattle.laws.specs.Books.{View, Books, PoolWord, ArenaWord, ArenaHead}
+use Rattle.laws.specs.Families.{At, Family, alike, doubly-stay, singly-stay}
+use Rattle.laws.specs.Books.{View, Books, ArenaHead}
 use Rattle.laws.specs.Plain.{Plain, count, inUse, carved, free}
 use Rattle.laws.specs.Counting.{many-none}
 use Rattle.laws.specs.Sizes.{Aligned, capacity-high, class-low}
-use Rattle.laws.specs.Chains.{Blocks, live-below}
-use Rattle.laws.specs.Sound.{home, base, arenaRows, Shape, Zeros, Closed, Open, Carved, BitSet, Lists, Unset, InClass, PoolRule, Sound}
+use Rattle.laws.specs.Chains.{live-below}
+use Rattle.laws.specs.Sound.{home, base, arenaRows, Shape, Carved, BitSet, Lists, InClass, PoolRule, Sound}
 
 -- ---- where a pool and an arena belong
 pub clash : _≡_ {A = Bool} true false → ⊥

@@ -2,29 +2,27 @@
 -- Assumes nothing.
 use mathlib.Core.Path.{_≡_, refl, sym, ap, ap₂, _∙_, subst}
 use mathlib.Core.Logic.{_≢_, _⊎_, inl, inr}
-use mathlib.Core.Bool.{Bool, true, false, not, _&&_}
-use mathlib.Core.List.{List, [], _∷_}
-use Prim.Native.Nat.{ℕ, zero, suc, _+_, _*_, _-_, _/_, _%_, _≤_, _<_}
-use native.Mathlib.Nat.{mul-le-mul-right, suc-mul}
-use native.Mathlib.Decide.{ℕ-discrete, decLe}
+use mathlib.Core.Bool.{Bool, true, false}
+use mathlib.Core.List.{List, []}
+use Prim.Native.Nat.{ℕ, suc, _+_, _*_, _/_, _%_, _≤_, _<_}
+use native.Mathlib.Decide.{ℕ-discrete}
 use native.Mathlib.Omega.{arith}
-use lib.Dec.{leb, ltb, eqb}
-use lib.ListN.{length, getD, take, drop, length-drop}
-use lib.Seq.{ext-getD, getD-take, getD-drop, length-take-le}
+use lib.ListN.{length}
 use borrow.Author.Tests.{eq-eqb, ne-eqb, le-leb, lt-ltb}
 use Rattle.rules.specs.Say.{if_then_else_}
-use Rattle.rules.specs.Books.{Heap, at, memoryLength, isSet, offsetOf}
-use Rattle.rules.specs.Blocks.{sizeOf, lastClass, startOf, isStart, blockNo, capacity, classAt, sizeAt, live}
+use Rattle.rules.specs.Books.{Heap, at, memoryLength, offsetOf}
+use Rattle.rules.specs.Blocks.{sizeOf, lastClass, startOf, blockNo, capacity, classAt, sizeAt, live}
 use Rattle.rules.specs.View.{part}
 use Rattle.books.specs.Starts.{start-is, number-is}
-use Rattle.books.specs.Known.{LiveBlock, live-is}
-use Rattle.laws.specs.Update.{to, to-same, to-other}
+use Rattle.books.specs.Known.{live-is}
+use Rattle.laws.specs.Update.{to}
 use Rattle.laws.specs.Plain.{Plain}
-use Rattle.laws.specs.Sizes.{Aligned, size-low, size-high, capacity-high}
+use Rattle.laws.specs.Sizes.{Aligned, size-low, capacity-high}
 use Rattle.laws.specs.Chains.{block-ends}
 use Rattle.laws.specs.Sound.{Sound}
-use Rattle.laws.specs.Held.{Held, held, in-class, clash}
+use Rattle.laws.specs.Held.{held, clash}
 use Rattle.laws.specs.Paths.{Quiet, Hand}
+use Rattle.laws.specs.Bytes.{part-long, part-same}
 
 -- the bytes that the heap h of A arenas with P pools holds at offset o
 unfoldable pub holding : ℕ → ℕ → ℕ → Heap → ℕ → List ℕ
@@ -39,6 +37,18 @@ pub record LiveAt (al A P : ℕ) (r : Plain) (o : ℕ) : Type 0 where
   pub class : r .class pool ≤ lastClass al
   pub fits : block < capacity (sizeOf al (r .class pool))
   pub on : r .live pool block ≡ true
+
+pub dead-holding : (al A P : ℕ) (h : Heap) (o : ℕ) → live al A P (h .books) (h .map) o ≡ false → holding al A P h o ≡ []
+unfolding holding
+dead-holding al A P h o e = rw e
+
+-- where something is held, the offset is live
+pub holding-some : (al A P : ℕ) (h : Heap) (o : ℕ) → holding al A P h o ≢ [] → live al A P (h .books) (h .map) o ≡ true
+holding-some al A P h o some = go (live al A P (h .books) (h .map) o) refl
+  where
+    go : (b : Bool) → live al A P (h .books) (h .map) o ≡ b → live al A P (h .books) (h .map) o ≡ true
+    go true e = e
+    go false e = absurd (some (dead-holding al A P h o e))
 
 module _ {al A P : ℕ} {h : Heap} {r : Plain} (L : Aligned al) (S : Sound al A P h r) where
   -- what the live test says is what the rows have
@@ -70,6 +80,9 @@ module _ {al A P : ℕ} {h : Heap} {r : Plain} (L : Aligned al) (S : Sound al A 
     pub start-at : o % 4096 ≡ startOf (sizeOf al (r .class (t .pool))) (t .block)
     start-at = omega (arith, t .place, ends, low)
 
+    pub number-at : blockNo (sizeOf al (r .class (t .pool))) (o % 4096) ≡ t .block
+    number-at = ap (blockNo (sizeOf al (r .class (t .pool)))) start-at ∙ number-is (sizeOf al (r .class (t .pool))) (t .block) (omega (arith, low))
+
     pub class-is : classAt A (h .books) o ≡ r .class (t .pool)
     class-is = S .classes (o / 4096) (rw pool-is (t .inside)) ∙ ap (r .class) pool-is
 
@@ -92,26 +105,22 @@ module _ {al A P : ℕ} {h : Heap} {r : Plain} (L : Aligned al) (S : Sound al A 
     unfolding holding
     holding-live = rw (rows-live, class-is)
 
+    -- the block lies in memory, and what is held is as long as it
+    pub in-memory : o + sizeOf al (r .class (t .pool)) ≤ length (h .memory)
+    in-memory = omega (arith, t .place, t .inside, held S .says .bytes, ends)
+
+    pub holding-long : length (holding al A P h o) ≡ sizeOf al (r .class (t .pool))
+    holding-long = ap length holding-live ∙ part-long (h .memory) o (sizeOf al (r .class (t .pool))) in-memory
+
+    pub holding-more : 8 ≤ length (holding al A P h o)
+    holding-more = omega (arith, holding-long, low)
+
 -- ---- where live blocks and their bytes stand, so does what is held
 flag : (t u : Bool) → (t ≡ true → u ≡ true) → (u ≡ true → t ≡ true) → t ≡ u
 flag true true f g = refl
 flag true false f g = sym (f refl)
 flag false true f g = g refl
 flag false false f g = refl
-
-pub dead-holding : (al A P : ℕ) (h : Heap) (o : ℕ) → live al A P (h .books) (h .map) o ≡ false → holding al A P h o ≡ []
-unfolding holding
-dead-holding al A P h o e = rw e
-
--- two parts are equal where their bytes are
-pub part-same : (m m′ : List ℕ) (o s : ℕ) → length m′ ≡ length m → o + s ≤ length m → ((d : ℕ) → d < s → at m′ (o + d) ≡ at m (o + d)) → part o s m′ ≡ part o s m
-part-same m m′ o s e l f =
-    ext-getD 0 (part o s m′) (part o s m) (long m′ (rw e l) ∙ sym (long m l))
-    (λ i u. let v : i < s = rw (long m′ (rw e l)) at u in
-    getD-take s (drop o m′) i 0 v ∙ getD-drop o m′ i 0 ∙ f i v ∙ sym (getD-take s (drop o m) i 0 v ∙ getD-drop o m i 0))
-  where
-    long : (x : List ℕ) → o + s ≤ length x → length (part o s x) ≡ s
-    long x u = length-take-le s (drop o x) (omega (arith, length-drop o x))
 
 module _ {al A P : ℕ} {h h′ : Heap} {r r′ : Plain} (L : Aligned al) (S : Sound al A P h r) (S′ : Sound al A P h′ r′) (Q : Quiet al A P (h .memory) (h′ .memory) r′) where
   -- an offset that is live before and after, in a pool of the same class
@@ -128,10 +137,9 @@ module _ {al A P : ℕ} {h h′ : Heap} {r r′ : Plain} (L : Aligned al) (S : S
           let u = g t .0 in
           let q : u .pool ≡ t .pool = sym (pool-is L S o u) ∙ pool-is L S′ o t in
           let c : r .class (u .pool) ≡ r′ .class (t .pool) = ap (r .class) q ∙ g t .1 in
-          let z = block-ends (sizeOf al (r′ .class (t .pool))) (t .block) (suc (t .block)) (omega arith) (t .fits) in
           holding-live L S′ o t
           ∙ part-same (h .memory) (h′ .memory) o (sizeOf al (r′ .class (t .pool))) (Q .same-length)
-          (omega (arith, z, t .place, t .inside, held S .says .bytes))
+          (omega (arith, in-memory L S′ o t, Q .same-length))
           (λ d v. subst (λ (x : ℕ). at (h′ .memory) (x + d) ≡ at (h .memory) (x + d)) (sym (t .place)) (Q .live-bytes (t .pool) (t .block) d (t .inside) (t .on) v))
           ∙ sym (holding-live L S o u ∙ ap (λ (x : ℕ). part o (sizeOf al x) (h .memory)) c)
 
@@ -140,7 +148,7 @@ module _ {al A P : ℕ} {h h′ : Heap} {r r′ : Plain} (L : Aligned al) (S : S
     live-at : (y j : ℕ) → r′ .live y j ≡ to (H .pool) (to (H .block) true (r .live (H .pool))) (r .live) y j
     live-at y j = ap (λ (g : ℕ → ℕ → Bool). g y j) (H .live-now)
 
-    at-block : LiveAt al A P r′ o
+    pub at-block : LiveAt al A P r′ o
     at-block =
         record {
           pool = H .pool;
@@ -152,9 +160,12 @@ module _ {al A P : ℕ} {h h′ : Heap} {r r′ : Plain} (L : Aligned al) (S : S
           on = live-at (H .pool) (H .block) ∙ rw (eq-eqb (H .pool) (H .pool) refl, eq-eqb (H .block) (H .block) refl);
         }
 
-    pub holding-new : holding al A P h′ o ≡ part o (sizeOf al c) (h′ .memory)
+    pub at-class : r′ .class (at-block .pool) ≡ c
     unfolding at-block
-    holding-new = holding-live L S′ o at-block ∙ ap (λ (x : ℕ). part o (sizeOf al x) (h′ .memory)) (H .class-now)
+    at-class = H .class-now
+
+    pub holding-new : holding al A P h′ o ≡ part o (sizeOf al c) (h′ .memory)
+    holding-new = holding-live L S′ o at-block ∙ ap (λ (x : ℕ). part o (sizeOf al x) (h′ .memory)) at-class
 
     was-free : LiveAt al A P r o → ⊥
     was-free t = go (H .kind)
@@ -170,8 +181,8 @@ module _ {al A P : ℕ} {h h′ : Heap} {r r′ : Plain} (L : Aligned al) (S : S
         go (inl e) =
             let c′ : r .class (t .pool) ≡ c = ap (r .class) q ∙ e in
             let k : t .block ≡ H .block =
-            sym (number-is (sizeOf al (r .class (t .pool))) (t .block) (omega (arith, size-low L (r .class (t .pool)) (t .class))))
-            ∙ ap₂ (λ (x y : ℕ). blockNo (sizeOf al x) y) c′ (sym (start-at L S o t) ∙ omega (arith, H .place, ends, size-low L c lc))
+            sym (number-at L S o t)
+            ∙ ap₂ (λ (x y : ℕ). blockNo (sizeOf al x) y) c′ (omega (arith, H .place, ends, size-low L c lc))
             ∙ number-is (sizeOf al c) (H .block) (omega (arith, size-low L c lc)) in
             clash (sym (t .on) ∙ ap₂ (r .live) q k ∙ H .was-dead)
 
@@ -245,8 +256,8 @@ module _ {al A P : ℕ} {h h′ : Heap} {r r′ : Plain} (L : Aligned al) (S : S
             let q : t .pool ≡ p = sym (pool-is L S′ o t) ∙ omega (arith, ends, low) in
             let c′ : r′ .class (t .pool) ≡ r .class p = ap (r′ .class) q ∙ ap (λ (g : ℕ → ℕ). g p) class-same in
             let k : t .block ≡ j =
-            sym (number-is (sizeOf al (r′ .class (t .pool))) (t .block) (omega (arith, size-low L (r′ .class (t .pool)) (t .class))))
-            ∙ ap₂ (λ (x y : ℕ). blockNo (sizeOf al x) y) c′ (sym (start-at L S′ o t) ∙ omega (arith, ends, low))
+            sym (number-at L S′ o t)
+            ∙ ap₂ (λ (x y : ℕ). blockNo (sizeOf al x) y) c′ (omega (arith, ends, low))
             ∙ number-is (sizeOf al (r .class p)) j (omega (arith, low)) in
             clash (sym (t .on) ∙ off (t .pool) (t .block) ∙ rw (eq-eqb (t .pool) p q, eq-eqb (t .block) j k))
 
@@ -282,3 +293,9 @@ module _ {al A P : ℕ} {h h′ : Heap} {r r′ : Plain} (L : Aligned al) (S : S
             go (no q) u e = rw (ne-eqb (t .pool) p q) at e
             go (yes q) (no u) e = rw q (rw (eq-eqb (t .pool) p q, ne-eqb (t .block) j u) at e)
             go (yes q) (yes u) e = absurd (clash (sym e ∙ rw (eq-eqb (t .pool) p q, eq-eqb (t .block) j u)))
+
+-- ---- what a step leaves, the heap being h before it: a heap that holds the rows r, at each offset the bytes that g says, and the first 48 bytes of each pool
+pub record Leaves (al A P : ℕ) (h h′ : Heap) (r : Plain) (g : ℕ → List ℕ) : Type 0 where
+  pub sound : Sound al A P h′ r
+  pub holds : (o : ℕ) → holding al A P h′ o ≡ g o
+  pub first : (i : ℕ) → i % 4096 < 48 → at (h′ .memory) i ≡ at (h .memory) i

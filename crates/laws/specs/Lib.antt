@@ -17,12 +17,15 @@ pub mod GiveBack
 pub mod Emptied
 pub mod Taken
 pub mod Sources
+pub mod Bytes
 pub mod Holding
 pub mod Calls
 pub mod Written
+pub mod Resized
 pub mod Roll
 pub mod NoRoom
 pub mod History
+pub mod Tied
 pub mod Theorems
 pub mod Reached
 pub mod Code

@@ -1,18 +1,18 @@
 -- Rows in the words of the books: the writes of joining and leaving a doubly linked list and of a stack, and what they leave of every list.
 -- Assumes nothing.
-use mathlib.Core.Path.{_≡_, refl, sym, ap, ap₂, _∙_}
-use mathlib.Core.Logic.{_≢_, _⊎_, inl, inr}
+use mathlib.Core.Path.{_≡_, refl, sym, ap, _∙_}
+use mathlib.Core.Logic.{_≢_}
 use mathlib.Core.Bool.{not}
 use mathlib.Core.List.{List, [], _∷_, _++_}
-use Prim.Native.Nat.{ℕ, zero, suc, _+_, _*_, _-_, _<_, _≤_}
+use Prim.Native.Nat.{ℕ, zero, suc, _+_, _*_, _-_, _<_}
 use native.Mathlib.Omega.{arith}
 use lib.Dec.{eqb·suc-zero}
 use lib.ListN.{length, set, length-set}
 use lib.Seq.{getD-set-same, getD-set-other, lt-length-set}
 use Rattle.rules.specs.Say.{if_then_else_, only}
 use Rattle.rules.specs.Books.{at, none?}
-use Rattle.rules.specs.Lists.{nextAt, previousAt, leave, join, leaveBy, joinBy}
-use Rattle.laws.specs.Rows.{All, Not, Once, In, Seg, Row, Joined, Left, row-same, row-joins, row-leaves, head-in, next-in, prev-in, all-map, all-two, all-from, all-left, all-right, all-join, all-drop, flip}
+use Rattle.rules.specs.Lists.{leave, join, leaveBy, joinBy}
+use Rattle.laws.specs.Rows.{All, Not, Once, Row, Joined, Left, row-same, row-joins, row-leaves, head-in, next-in, prev-in, all-map, all-two, all-right}
 
 -- ---- the two kinds of lists, by their head word
 -- from the head word h exactly xs is met, linked both ways

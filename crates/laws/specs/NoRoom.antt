@@ -1,31 +1,31 @@
 -- When an ask finds no room: exactly if every pool holds a live block and every pool of the class is full of them.
 -- Assumes nothing.
-use mathlib.Core.Path.{_≡_, refl, sym, ap, ap₂, _∙_, subst}
+use mathlib.Core.Path.{_≡_, refl, sym, ap, _∙_, subst}
 use mathlib.Core.Logic.{_≢_, _⊎_, inl, inr}
-use mathlib.Core.Bool.{Bool, true, false, not, _&&_}
+use mathlib.Core.Bool.{Bool, true, false, not}
 use mathlib.Core.List.{List, [], _∷_}
-use Prim.Native.Nat.{ℕ, zero, suc, _+_, _*_, _-_, _/_, _%_, _≤_, _<_}
+use Prim.Native.Nat.{ℕ, _+_, _*_, _/_, _%_, _≤_, _<_}
 use native.Mathlib.Nat.{div-add-mod', mod-lt}
 use native.Mathlib.Decide.{ℕ-discrete, decLe}
 use native.Mathlib.Omega.{arith}
-use lib.Dec.{leb, ltb, eqb}
+use lib.Dec.{ltb, eqb}
 use lib.ListN.{length}
-use borrow.Author.Tests.{ltb-true, not-false, eq-eqb, ne-eqb}
+use borrow.Author.Tests.{ltb-true, not-false}
 use Rattle.rules.specs.declared.AskPlan.{AskPlan}
 use Rattle.rules.specs.declared.AskPlan.the-variants.{NoRoom}
 use Rattle.rules.specs.Say.{if_then_else_}
 use Rattle.rules.specs.Books.{Heap, isSet, class, pool, classHead}
-use Rattle.rules.specs.Blocks.{classOf, sizeOf, lastClass, capacity}
+use Rattle.rules.specs.Blocks.{classOf, sizeOf, capacity}
 use Rattle.rules.specs.Ask.{askAnswer}
 use Rattle.rules.specs.Outcome.{Outcome}
 use Rattle.rules.specs.Numbers.{ask}
 use Rattle.books.specs.Known.{in-range}
-use Rattle.laws.specs.Plain.{Plain, count, inUse, free, front, rest, planAsk as plainAsk, afterAsk as plainAfterAsk, fromClass, fromListed, fromUsable, fromArena, fromUnused}
-use Rattle.laws.specs.Counting.{Passes, many-has, many-some, none-many}
+use Rattle.laws.specs.Plain.{Plain, count, inUse, free, front, rest, planAsk as plainAsk, afterAsk as plainAfterAsk, fromListed}
+use Rattle.laws.specs.Counting.{Passes, many-has, none-many}
 use Rattle.laws.specs.Sizes.{Aligned, has-class, capacity-high, class-low}
-use Rattle.laws.specs.Chains.{Blocks, room, among}
-use Rattle.laws.specs.Sound.{home, base, Sound, InClass}
-use Rattle.laws.specs.Held.{Held, held, Says, in-class, home-listed, base-unused, base-usable, arena-low, clash}
+use Rattle.laws.specs.Chains.{room, among}
+use Rattle.laws.specs.Sound.{Sound, InClass}
+use Rattle.laws.specs.Held.{held, Says, in-class, home-listed, base-unused, base-usable, arena-low, clash}
 use Rattle.laws.specs.Paths.{Hand}
 use Rattle.laws.specs.Calls.{plain-number, ask-done, ask-is}
 

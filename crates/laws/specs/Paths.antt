@@ -4,12 +4,11 @@
 use mathlib.Core.Path.{_≡_, refl, sym, ap, _∙_}
 use mathlib.Core.Logic.{_≢_, _⊎_, inl, inr}
 use mathlib.Core.Bool.{Bool, true, false, not}
-use mathlib.Core.List.{List, [], _∷_}
-use Prim.Native.Nat.{ℕ, zero, suc, _+_, _*_, _-_, _/_, _%_, _≤_, _<_}
-use native.Mathlib.Nat.{mul-le-mul-right, suc-mul}
+use mathlib.Core.List.{List}
+use Prim.Native.Nat.{ℕ, suc, _+_, _*_, _/_, _%_, _≤_, _<_}
 use native.Mathlib.Decide.{ℕ-discrete, decLe}
 use native.Mathlib.Omega.{arith}
-use lib.Dec.{ltb, eqb}
+use lib.Dec.{ltb}
 use lib.ListN.{length}
 use borrow.Author.Tests.{lt-ltb}
 use Rattle.rules.specs.declared.AskPlan.{AskPlan}
@@ -26,8 +25,8 @@ use Rattle.laws.specs.Sizes.{Aligned, size-low}
 use Rattle.laws.specs.Chains.{Off, block-ends, blocks-apart, put-link-other, length-link, live-below}
 use Rattle.laws.specs.Books.{View}
 use Rattle.laws.specs.Sound.{home, base, Sound}
-use Rattle.laws.specs.Held.{Says, opened, freeWord, clash, arena-low, in-class}
-use Rattle.laws.specs.Step.{Aside, Still, PoolAfter, ArenaAfter, ListsAfter, HomesAfter, BytesAfter, count-same, base-same, homes-same, stepped}
+use Rattle.laws.specs.Held.{Says, opened, clash, arena-low, in-class}
+use Rattle.laws.specs.Step.{Aside, PoolAfter, ListsAfter, BytesAfter, count-same, base-same, homes-same, stepped}
 
 -- ---- memory: no byte of a live block of the rows r, and none of a pool's first 48, is touched
 pub record Quiet (al A P : ℕ) (m m′ : List ℕ) (r : Plain) : Type 0 where

@@ -4,6 +4,7 @@ use mathlib.Core.Bool.{Bool, true, false, not}
 use mathlib.Core.List.{List, [], _∷_}
 use Prim.Native.Nat.{ℕ, zero, suc, _+_, _*_, _/_, _%_}
 use lib.Dec.{ltb, eqb}
+use Rattle.rules.specs.declared.Answer.{Answer}
 use Rattle.rules.specs.declared.Source.{Source}
 use Rattle.rules.specs.declared.Source.the-variants.{Freed, Carved, Opened}
 use Rattle.rules.specs.declared.AskPlan.{AskPlan}
@@ -13,6 +14,7 @@ use Rattle.rules.specs.declared.BackPlan.the-variants.{Damaged as Broken, Joins
 use Rattle.rules.specs.Say.{if_then_else_, _▷_}
 use Rattle.rules.specs.Books.{noClass}
 use Rattle.rules.specs.Blocks.{classOf, sizeOf, startOf, capacity}
+use Rattle.rules.specs.Outcome.{answerOf}
 use Rattle.rules.specs.Ask.{askAnswer}
 use Rattle.rules.specs.Resize.{keeps}
 use Rattle.laws.specs.Update.{to}
@@ -199,3 +201,7 @@ abbrev pub resizePlain : ℕ → ℕ → Plain → ℕ → ℕ → ℕ → Plain
 resizePlain al P r p k n =
     if keeps (sizeOf al (r .class p)) n then r
     else movePlain P (askPlain al P r n) p k (askAnswer (planAsk al P r (classOf al n)) .number)
+
+-- what resize answers, the block being at offset o: a refused ask is its answer
+abbrev pub resizeAnswer : ℕ → ℕ → Plain → ℕ → ℕ → ℕ → Answer
+resizeAnswer al P r o p n = if keeps (sizeOf al (r .class p)) n then answerOf 0 o else askAnswer (planAsk al P r (classOf al n))

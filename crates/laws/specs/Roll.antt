@@ -1,25 +1,25 @@
 -- The roll, of any books and map: offset and size of what the live test finds at each offset, by rising offset.
 -- Assumes nothing.
 use mathlib.Core.Path.{_≡_, refl, sym, ap, ap₂, _∙_}
-use mathlib.Core.Bool.{Bool, true, false, _&&_}
+use mathlib.Core.Logic.{_≢_}
+use mathlib.Core.Bool.{Bool, true, false, not, _&&_}
 use mathlib.Core.List.{List, [], _∷_, _++_, append-assoc, append-nil}
 use Prim.Native.Nat.{ℕ, zero, suc, _+_, _*_, _-_, _/_, _%_, _≤_, _<_}
-use native.Mathlib.Nat.{mul-le-mul-right, div-mul-le-self, add-zero, suc-mul, mod-eq-of-lt, add-mul-mod-self-right, mul-comm, div-add-mod', mod-lt}
+use native.Mathlib.Nat.{mul-le-mul-right, div-mul-le-self, add-zero, suc-mul, mod-eq-of-lt, add-mul-mod-self-right, mul-comm}
 use native.Mathlib.Omega.{arith}
-use lib.Dec.{leb, ltb, eqb}
+use lib.Dec.{leb, eqb}
+use lib.ListN.{length, length-append}
+use lib.Seq.{getD-append-seam, getD-append-add}
 use borrow.Author.Tests.{lt-leb, leb-true, ne-eqb, lt-ltb}
 use Rattle.rules.specs.Say.{if_then_else_}
-use Rattle.rules.specs.Books.{memoryLength, isSet, class, pool, offsetOf}
+use Rattle.rules.specs.Books.{at, memoryLength, isSet, class, pool, offsetOf}
 use Rattle.rules.specs.Blocks.{sizeOf, lastClass, startOf, lastStart, isStart, blockNo, capacity, sizeAt, live}
 use Rattle.rules.specs.View.{rollBlocks, rollPool, rollPools, roll}
 use Rattle.books.specs.Starts.{start-is, number-is}
 use Rattle.laws.specs.Sizes.{Aligned, size-low}
 use Rattle.laws.specs.AskListed.{past-last}
-
--- offset and size of what is held at the n offsets from o on, rising, where g says the size held at each offset, 0 for none
-unfoldable pub listing : (ℕ → ℕ) → ℕ → ℕ → List ℕ
-listing g o zero = []
-listing g o (suc n) = (if eqb (g o) 0 then [] else (o ∷ g o ∷ [])) ++ listing g (suc o) n
+use Rattle.laws.specs.Plain.{howMany}
+use Rattle.laws.specs.History.{listing, heldBelow}
 
 pub listing-same : (f g : ℕ → ℕ) → ((o : ℕ) → f o ≡ g o) → (o n : ℕ) → listing f o n ≡ listing g o n
 unfolding listing
@@ -45,6 +45,38 @@ listing-add g o (suc m) n =
     ap (listing g o) q
     ∙ ap (λ (l : List ℕ). (if eqb (g o) 0 then [] else (o ∷ g o ∷ [])) ++ l) (listing-add g (suc o) m n ∙ ap (λ (x : ℕ). listing g (suc o) m ++ listing g x n) t)
     ∙ sym (append-assoc (if eqb (g o) 0 then [] else (o ∷ g o ∷ [])) (listing g (suc o) m) (listing g (o + suc m) n))
+
+-- the list is as long as what is held, and has it in its place: after what is held below it
+pub listing-count : (g : ℕ → ℕ) (n : ℕ) → length (listing g 0 n) ≡ 2 * heldBelow g n
+unfolding listing howMany
+listing-count g zero = refl
+listing-count g (suc n) =
+    let e : suc n ≡ n + 1 = omega arith in
+    let z : 0 + n ≡ n = omega arith in
+    ap (λ (k : ℕ). length (listing g 0 k)) e
+    ∙ ap length (listing-add g 0 n 1 ∙ ap (λ (x : ℕ). listing g 0 n ++ listing g x 1) z)
+    ∙ length-append (listing g 0 n) (listing g n 1)
+    ∙ ap (λ (k : ℕ). k + length (listing g n 1)) (listing-count g n)
+    ∙ go (eqb (g n) 0)
+  where
+    go : (b : Bool) → 2 * heldBelow g n + length ((if b then [] else (n ∷ g n ∷ [])) ++ []) ≡ 2 * ((if not b then 1 else 0) + heldBelow g n)
+    go true = omega arith
+    go false = omega arith
+
+pub listing-place : (g : ℕ → ℕ) (o n : ℕ) → o < n → g o ≢ 0 → (at (listing g 0 n) (2 * heldBelow g o) ≡ o) × (at (listing g 0 n) (2 * heldBelow g o + 1) ≡ g o)
+unfolding listing
+listing-place g o n l some =
+    let e : n ≡ o + suc (n - suc o) = omega arith in
+    let z : 0 + o ≡ o = omega arith in
+    let q : listing g 0 n ≡ listing g 0 o ++ (o ∷ g o ∷ listing g (suc o) (n - suc o)) =
+    ap (listing g 0) e
+    ∙ listing-add g 0 o (suc (n - suc o))
+    ∙ ap (λ (x : ℕ). listing g 0 o ++ listing g x (suc (n - suc o))) z
+    ∙ ap (λ (b : Bool). listing g 0 o ++ ((if b then [] else (o ∷ g o ∷ [])) ++ listing g (suc o) (n - suc o))) (ne-eqb (g o) 0 some) in
+    rw (q, ← listing-count g o) (
+      getD-append-seam (listing g 0 o) o (g o ∷ listing g (suc o) (n - suc o)) 0,
+      getD-append-add (listing g 0 o) (o ∷ g o ∷ listing g (suc o) (n - suc o)) 1 0,
+    )
 
 -- ---- what a pool of blocks of the size s holds
 record Holds (g : ℕ → ℕ) (p s : ℕ) (set : ℕ → Bool) : Type 0 where

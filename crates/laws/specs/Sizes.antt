@@ -1,8 +1,7 @@
 -- What the laws know of the alignment, and of block sizes and capacities at it: 01 has 8, W-211 brings 16.
 -- Assumes nothing.
-use mathlib.Core.Path.{_≡_}
-use Prim.Native.Nat.{ℕ, _+_, _*_, _-_, _/_, _≤_, _<_}
-use native.Mathlib.Nat.{mul-add, mul-one, mul-le-mul-left, mul-div-le, div-le-of-le-mul, div-lt-iff-lt-mul, le-div-iff-mul-le, div-mul-le-self}
+use Prim.Native.Nat.{ℕ, _-_, _≤_, _<_}
+use native.Mathlib.Nat.{div-add-mod, mod-lt, mul-add, mul-one, mul-le-mul-left, mul-div-le, div-le-of-le-mul, div-lt-iff-lt-mul, le-div-iff-mul-le, div-mul-le-self}
 use native.Mathlib.Omega.{arith}
 use Rattle.rules.specs.Blocks.{classOf, sizeOf, lastClass, capacity}
 
@@ -34,3 +33,7 @@ module _ {al : ℕ} (L : Aligned al) (c : ℕ) (l : c ≤ lastClass al) where
 -- a size from 1 to 512 has a class
 pub has-class : {al : ℕ} → Aligned al → (n : ℕ) → n ≤ 512 → classOf al n ≤ lastClass al
 has-class {al} L n l = le-div-iff-mul-le {k = al} {x = classOf al n} {y = 511} (omega (arith, L .low)) .1 (omega (arith, div-mul-le-self (n - 1) al))
+
+-- a size is at most the block size of its class
+pub class-fits : {al : ℕ} → Aligned al → (n : ℕ) → n ≤ sizeOf al (classOf al n)
+class-fits {al} L n = omega (arith, div-add-mod (n - 1) al, mod-lt (n - 1) {m = al} (omega (arith, L .low)), mul-add al (classOf al n) 1, mul-one al)

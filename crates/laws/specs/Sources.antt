@@ -1,44 +1,42 @@
 -- The sources of a pool, one by one: a freed pool, the pool at the mark, the first pool of an unused arena; so every ask is the plain heap's.
 -- Assumes nothing.
 use mathlib.Core.Path.{_≡_, refl, sym, ap, ap₂, _∙_, subst}
-use mathlib.Core.Logic.{_≢_, _⊎_, inl, inr}
+use mathlib.Core.Logic.{_≢_, inl, inr}
 use mathlib.Core.Bool.{Bool, true, false, not, _&&_, _||_}
-use mathlib.Core.List.{List, [], _∷_, _++_}
-use Prim.Native.Nat.{ℕ, zero, suc, _+_, _*_, _-_, _/_, _%_, _≤_, _<_}
-use native.Mathlib.Nat.{div-add-mod', mod-lt, mul-le-mul-right, suc-mul, mul-add-mod-self-right, mod-eq-of-lt}
+use mathlib.Core.List.{List, [], _∷_}
+use Prim.Native.Nat.{ℕ, suc, _+_, _*_, _-_, _/_, _%_, _≤_, _<_}
+use native.Mathlib.Nat.{div-add-mod', mul-le-mul-right, suc-mul, mul-add-mod-self-right, mod-eq-of-lt}
 use native.Mathlib.Decide.{ℕ-discrete, decLe}
 use native.Mathlib.Omega.{arith}
 use lib.Arith.{digits-div}
 use lib.Dec.{leb, ltb, eqb, eqb·suc-zero}
 use lib.ListN.{length}
-use lib.Seq.{set-getD}
-use borrow.Author.Tests.{eq-eqb, ne-eqb, le-leb, lt-leb, lt-ltb, le-ltb, ltb-true, ltb-false, not-true}
+use borrow.Author.Tests.{eq-eqb, ne-eqb, le-leb, lt-ltb, le-ltb}
 use Rattle.rules.specs.declared.Source.the-variants.{Freed, Carved, Opened}
 use Rattle.rules.specs.declared.AskPlan.{AskPlan}
 use Rattle.rules.specs.declared.AskPlan.the-variants.{NoRoom, Damaged, Again, Anew}
 use Rattle.rules.specs.Say.{if_then_else_, _▷_, only}
-use Rattle.rules.specs.Books.{Heap, at, put, isSet, usableHead, unusedHead, classHead, carveMark, freePools, freedHead, arenaWord, arena, noClass, poolWord, pool, none?, offsetOf}
-use Rattle.rules.specs.Blocks.{sizeOf, lastClass, startOf, isStart, blockNo, capacity, linkAt}
-use Rattle.rules.specs.Lists.{nextAt, previousAt, leave, join, arenaLinks, poolLinks}
-use Rattle.rules.specs.Outcome.{heapOf}
-use Rattle.rules.specs.Ask.{planAsk, spare, fromUsable, fromFreed, fromMark, fromUnused, setAnew, takeAgain, sameClass, takeFrom, spend, afterAsk, askAnswer}
+use Rattle.rules.specs.Books.{Heap, at, put, usableHead, unusedHead, classHead, carveMark, freePools, freedHead, arenaWord, arena, noClass, poolWord, pool, none?, offsetOf}
+use Rattle.rules.specs.Blocks.{sizeOf, lastClass, startOf, linkAt}
+use Rattle.rules.specs.Lists.{nextAt, previousAt, leave, join, arenaLinks}
+use Rattle.rules.specs.Ask.{planAsk, spare, fromUsable, fromFreed, fromMark, fromUnused, setAnew, takeAgain, sameClass, takeFrom, afterAsk, askAnswer}
 use Rattle.books.specs.Starts.{start-is, number-is, first-block, second-block}
 use Rattle.books.specs.Known.{in-range}
 use Rattle.laws.specs.Update.{to, to-same, to-other}
-use Rattle.laws.specs.Rows.{All, In, erase, erase-front}
+use Rattle.laws.specs.Rows.{All, erase, erase-front}
 use Rattle.laws.specs.Linked.{Stack}
 use Rattle.laws.specs.Families.{At, inside}
-use Rattle.laws.specs.Books.{View, Books, put-pool, put-arena, freed-goes, arena-leaves, arena-joins, words-other, arenas-other, poolTo, arenaTo, homeTo, baseTo, listedTo, freedTo, arenasTo}
-use Rattle.laws.specs.Plain.{Plain, count, inUse, carved, free, front, rest, setChain, setLive, setListed, setClass, setVirgin, setFreed, setUsable, setUnused, setMark, planAsk as plainAsk, afterAsk as plainAfterAsk}
-use Rattle.laws.specs.Counting.{many-none, many-all, none-many, many-le}
+use Rattle.laws.specs.Books.{View, Books, put-pool, put-arena, freed-goes, arena-leaves, arena-joins, words-other, arenas-other, poolTo, arenaTo, homeTo, baseTo, freedTo, arenasTo}
+use Rattle.laws.specs.Plain.{Plain, count, inUse, carved, free, setChain, setLive, setListed, setFreed, setUsable, setUnused, setMark, planAsk as plainAsk}
+use Rattle.laws.specs.Counting.{many-none, many-all, many-le}
 use Rattle.laws.specs.Sizes.{Aligned, size-low, size-high, capacity-high, capacity-low, class-low}
-use Rattle.laws.specs.Chains.{Blocks, among}
+use Rattle.laws.specs.Chains.{Blocks}
 use Rattle.laws.specs.Sound.{home, base, Sound, InClass, PoolRule}
-use Rattle.laws.specs.Held.{Says, Held, held, sound, in-class, use-class, freed-is, usable-is, unused-is, clash, opened, arena-low, home-freed, home-away, base-usable}
-use Rattle.laws.specs.Paths.{Quiet, quiet-same, Hand, Asked, asked}
-use Rattle.laws.specs.Emptied.{member-links, head-link, stack-link, put-zero}
+use Rattle.laws.specs.Held.{Says, Held, held, use-class, freed-is, usable-is, unused-is, clash, home-freed, home-away}
+use Rattle.laws.specs.Paths.{quiet-same, Hand, Asked, asked}
+use Rattle.laws.specs.Emptied.{member-links, put-zero}
 use Rattle.laws.specs.AskListed.{ask-listed}
-use Rattle.laws.specs.Taken.{no-live, spentBooks, spend-is, From, newRows, setTo, set-anew, takeFor, taken-again}
+use Rattle.laws.specs.Taken.{no-live, spentBooks, spend-is, From, newRows, set-anew, taken-again}
 
 -- ---- the arena that gives a pool
 module _ {al A P p a c : ℕ} {b : List ℕ} {U U₁ : View} {r r₁ : Plain} (O : From al A P p a c b U U₁ r r₁ (free P r a) 2) (la : a < A) where

@@ -1,30 +1,29 @@
 -- A step that changes pool p of arena a: what it has to show, and that the view after it says the rows after it.
 -- Assumes nothing.
 use mathlib.Core.Path.{_≡_, refl, sym, ap, ap₂, _∙_}
-use mathlib.Core.Logic.{_≢_, _⊎_, inl, inr}
-use mathlib.Core.Bool.{Bool, true, false, not}
-use mathlib.Core.List.{List, [], _∷_}
-use Prim.Native.Nat.{ℕ, zero, suc, _+_, _*_, _-_, _/_, _%_, _≤_, _<_}
-use native.Mathlib.Nat.{mul-le-mul-right, suc-mul}
+use mathlib.Core.Logic.{_≢_, inl, inr}
+use mathlib.Core.Bool.{Bool, true, not}
+use mathlib.Core.List.{List}
+use Prim.Native.Nat.{ℕ, _+_, _*_, _/_, _≤_, _<_}
 use native.Mathlib.Decide.{ℕ-discrete, decLe}
 use native.Mathlib.Omega.{arith}
 use lib.Arith.{digits-div}
 use lib.Dec.{ltb, eqb}
 use lib.ListN.{length}
-use borrow.Author.Tests.{eq-eqb, ne-eqb, ltb-true}
+use borrow.Author.Tests.{eq-eqb, ne-eqb}
 use Rattle.rules.specs.Say.{if_then_else_}
-use Rattle.rules.specs.Books.{at, memoryLength, mapLength, isSet, offsetOf, putMapBit, mapWord}
-use Rattle.rules.specs.Blocks.{sizeOf, lastClass, startOf, capacity, linkAt, putLink}
+use Rattle.rules.specs.Books.{at, isSet, offsetOf, putMapBit}
+use Rattle.rules.specs.Blocks.{sizeOf, lastClass, startOf, linkAt, putLink}
 use Rattle.bits.specs.Map.{put-block}
-use Rattle.laws.specs.Update.{to, to-same, to-other}
-use Rattle.laws.specs.Rows.{All, all-map}
+use Rattle.laws.specs.Update.{to}
+use Rattle.laws.specs.Rows.{all-map}
 use Rattle.laws.specs.Books.{View}
 use Rattle.laws.specs.Plain.{Plain, count, inUse, carved, free, howMany}
 use Rattle.laws.specs.Counting.{many-same}
 use Rattle.laws.specs.Sizes.{Aligned, size-low}
-use Rattle.laws.specs.Chains.{Blocks, Off, block-ends, blocks-apart, link-bytes, put-link-other, length-link, framed}
-use Rattle.laws.specs.Sound.{home, base, Unset, InClass, PoolRule}
-use Rattle.laws.specs.Held.{Says, opened, freeWord, clash}
+use Rattle.laws.specs.Chains.{Blocks, Off, block-ends, link-bytes, put-link-other, length-link, framed}
+use Rattle.laws.specs.Sound.{home, base, PoolRule}
+use Rattle.laws.specs.Held.{Says, opened, freeWord}
 
 -- ---- the rows but for pool p's and arena a's
 pub record Aside (p a : ℕ) (r r′ : Plain) : Type 0 where

@@ -1,44 +1,36 @@
 -- Ask, where the class list is empty: a pool is taken from its source, freed, carved or opened, and set to the class, or taken again for its own.
 -- Assumes nothing.
-use mathlib.Core.Path.{_≡_, refl, sym, ap, ap₂, _∙_, subst}
-use mathlib.Core.Logic.{_≢_, _⊎_, inl, inr}
-use mathlib.Core.Bool.{Bool, true, false, not, _&&_, _||_}
-use mathlib.Core.List.{List, [], _∷_, _++_}
-use Prim.Native.Nat.{ℕ, zero, suc, _+_, _*_, _-_, _/_, _%_, _≤_, _<_}
-use native.Mathlib.Nat.{div-add-mod', mod-lt, mul-le-mul-right, suc-mul, mul-add-mod-self-right, mod-eq-of-lt}
-use native.Mathlib.Decide.{ℕ-discrete, decLe}
+use mathlib.Core.Path.{_≡_, refl, sym, ap, _∙_, subst}
+use mathlib.Core.Logic.{_≢_, inl, inr}
+use mathlib.Core.Bool.{Bool, true, false, not}
+use mathlib.Core.List.{List, [], _∷_}
+use Prim.Native.Nat.{ℕ, suc, _+_, _*_, _-_, _/_, _%_, _≤_, _<_}
+use native.Mathlib.Nat.{div-add-mod', mod-lt}
+use native.Mathlib.Decide.{ℕ-discrete}
 use native.Mathlib.Omega.{arith}
-use lib.Arith.{digits-div}
-use lib.Dec.{leb, ltb, eqb, eqb·suc-zero}
+use lib.Dec.{ltb}
 use lib.ListN.{length}
-use lib.Seq.{set-getD}
-use borrow.Author.Tests.{eq-eqb, ne-eqb, le-leb, lt-leb, lt-ltb, le-ltb, ltb-true, ltb-false, not-true}
-use Rattle.rules.specs.declared.Source.the-variants.{Freed, Carved, Opened}
-use Rattle.rules.specs.declared.AskPlan.{AskPlan}
-use Rattle.rules.specs.declared.AskPlan.the-variants.{NoRoom, Damaged, Again, Anew}
-use Rattle.rules.specs.Say.{if_then_else_, _▷_, only}
-use Rattle.rules.specs.Books.{Heap, at, put, putWord, onMemory, onMap, isSet, putMapBit, usableHead, unusedHead, classHead, freePools, freedHead, arenaWord, arena, count as countWord, freeblock, class as classWord, nextoffset, maxnextoffset, noClass, poolWord, pool, none?, linkTo, offsetOf}
-use Rattle.rules.specs.Blocks.{sizeOf, lastClass, startOf, lastStart, isStart, blockNo, capacity, linkAt, putLink}
-use Rattle.rules.specs.Lists.{nextAt, previousAt, leave, join, arenaLinks, poolLinks, arenaLeaves}
+use borrow.Author.Tests.{eq-eqb, ne-eqb, lt-ltb, le-ltb}
+use Rattle.rules.specs.Say.{_▷_, only}
+use Rattle.rules.specs.Books.{Heap, at, put, putWord, isSet, usableHead, classHead, freePools, arenaWord, arena, freeblock, class as classWord, nextoffset, maxnextoffset, poolWord, pool, none?, linkTo, offsetOf}
+use Rattle.rules.specs.Blocks.{sizeOf, lastClass, startOf, lastStart, putLink}
+use Rattle.rules.specs.Lists.{leave, arenaLinks, arenaLeaves}
 use Rattle.rules.specs.Outcome.{heapOf}
-use Rattle.rules.specs.Ask.{planAsk, spare, fromUsable, fromFreed, fromMark, fromUnused, setAnew, takeAgain, sameClass, takeFrom, spend, alone, noLinkAt, handOut, arenaOf, afterAsk}
+use Rattle.rules.specs.Ask.{spare, spend, alone, noLinkAt, handOut}
 use Rattle.bits.specs.Map.{length-put}
-use Rattle.books.specs.Starts.{start-is, number-is, first-block, second-block}
+use Rattle.books.specs.Starts.{number-is, first-block}
 use Rattle.books.specs.Known.{in-range}
 use Rattle.laws.specs.Update.{to, to-same, to-other}
-use Rattle.laws.specs.Rows.{All, In, Once, erase}
-use Rattle.laws.specs.Linked.{Stack}
-use Rattle.laws.specs.Families.{At, Family, inside}
-use Rattle.laws.specs.Books.{View, Books, put-pool, put-arena, pool-alone, freed-goes, arena-leaves, arena-joins, words-other, arenas-other, poolTo, arenaTo, homeTo, baseTo, listedTo, freedTo, arenasTo}
-use Rattle.laws.specs.Plain.{Plain, count, inUse, carved, free, howMany, front, rest, setChain, setLive, setListed, setClass, setVirgin, setFreed, setUsable, setUnused, setMark, planAsk as plainAsk, afterAsk as plainAfterAsk, takeFrom as plainTake}
-use Rattle.laws.specs.Counting.{many-more, many-none, many-all, none-many, many-same, many-le}
+use Rattle.laws.specs.Families.{inside}
+use Rattle.laws.specs.Books.{View, Books, put-pool, pool-alone, words-other, poolTo, homeTo, listedTo}
+use Rattle.laws.specs.Plain.{Plain, count, inUse, carved, free, setChain, setLive, setListed, setClass, setVirgin}
+use Rattle.laws.specs.Counting.{many-more, none-many}
 use Rattle.laws.specs.Sizes.{Aligned, size-low, size-high, capacity-high, capacity-low, class-low}
-use Rattle.laws.specs.Chains.{Blocks, taken, anew, among, live-below}
-use Rattle.laws.specs.Sound.{home, base, Sound, Unset, InClass, PoolRule}
-use Rattle.laws.specs.Held.{Says, Held, held, sound, in-class, use-class, freed-is, usable-is, unused-is, clash, freeWord, opened, arena-low, home-listed, home-freed, base-usable, base-spent}
-use Rattle.laws.specs.Step.{Aside, Still, PoolAfter, ArenaAfter, ListsAfter, HomesAfter, BytesAfter, count-same, home-same, homes-same, stepped, bits-after, link-after, no-bytes}
-use Rattle.laws.specs.Paths.{Quiet, quiet-same, quiet-link, Asked, asked, count-on}
-use Rattle.laws.specs.Emptied.{member-links, head-link, stack-link}
+use Rattle.laws.specs.Chains.{Blocks, taken, anew, live-below}
+use Rattle.laws.specs.Sound.{home, base, Sound, InClass, PoolRule}
+use Rattle.laws.specs.Held.{Says, sound, in-class, opened, home-listed, base-usable, base-spent}
+use Rattle.laws.specs.Step.{Aside, BytesAfter, count-same, homes-same, stepped, bits-after, link-after, no-bytes}
+use Rattle.laws.specs.Paths.{Quiet, quiet-link, count-on}
 
 -- ---- no block of a pool with no live blocks is live, however high its number
 pub no-live : {al A P : ℕ} {U : View} {m k : List ℕ} {r : Plain} → Aligned al → Says al A P U m k r → (p : ℕ) → p < A * P → count r p ≡ 0 → (j : ℕ) → r .live p j ≡ false

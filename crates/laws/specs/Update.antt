@@ -1,6 +1,6 @@
 -- A function with one value changed: how the plain heap writes.
 -- Assumes nothing.
-use mathlib.Core.Path.{_≡_}
+use mathlib.Core.Path.{_≡_, ap}
 use mathlib.Core.Logic.{_≢_}
 use Prim.Native.Nat.{ℕ}
 use lib.Dec.{eqb}
@@ -17,3 +17,7 @@ module _ {A : Type 0} where
 
   pub to-other : (n : ℕ) (v : A) (f : ℕ → A) (y : ℕ) → y ≢ n → to n v f y ≡ f y
   to-other n v f y e = rw (ne-eqb y n e)
+
+  -- functions that agree do so after the same change
+  pub to-cong : (n : ℕ) (v : A) (f g : ℕ → A) → ((y : ℕ) → f y ≡ g y) → (y : ℕ) → to n v f y ≡ to n v g y
+  to-cong n v f g e y = ap (λ (z : A). if eqb y n then v else z) (e y)

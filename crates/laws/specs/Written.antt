@@ -1,29 +1,27 @@
 -- Bytes inside a live block: writing them keeps the heap sound, with the same rows, and what is held at every other offset.
 -- Assumes nothing.
-use mathlib.Core.Path.{_≡_, refl, sym, ap, ap₂, _∙_, subst}
+use mathlib.Core.Path.{_≡_, refl, sym, ap, ap₂, _∙_}
 use mathlib.Core.Logic.{_≢_, _⊎_, inl, inr}
 use mathlib.Core.Bool.{Bool, true, false}
-use mathlib.Core.List.{List, [], _∷_}
-use Prim.Native.Nat.{ℕ, zero, suc, _+_, _*_, _-_, _/_, _%_, _≤_, _<_}
+use mathlib.Core.List.{List}
+use Prim.Native.Nat.{ℕ, suc, _+_, _*_, _%_, _≤_, _<_}
 use native.Mathlib.Decide.{ℕ-discrete, decLe}
 use native.Mathlib.Omega.{arith}
 use lib.ListN.{length}
+use borrow.Author.Tests.{eq-eqb, ne-eqb}
 use Rattle.rules.specs.Books.{Heap, at, offsetOf}
-use Rattle.rules.specs.Blocks.{sizeOf, startOf, capacity, linkAt, live}
+use Rattle.rules.specs.Blocks.{sizeOf, startOf, linkAt, live}
 use Rattle.rules.specs.Outcome.{heapOf}
 use Rattle.rules.specs.View.{part}
-use Rattle.laws.specs.Rows.{All, all-map, all-two}
-use Rattle.laws.specs.Books.{View, Books}
-use Rattle.laws.specs.Plain.{Plain, count, carved}
+use Rattle.laws.specs.Update.{to}
+use Rattle.laws.specs.Rows.{all-map}
+use Rattle.laws.specs.Plain.{Plain, count}
 use Rattle.laws.specs.Sizes.{Aligned, size-low}
 use Rattle.laws.specs.Chains.{Blocks, block-ends, blocks-apart, link-bytes, framed, live-off}
-use Rattle.laws.specs.Sound.{Sound, Unset, InClass, PoolRule}
-use Rattle.laws.specs.Held.{Says, Held, held, sound, in-class}
-use Rattle.laws.specs.Holding.{LiveAt, holding, live-rows, pool-is, part-same, holding-live, dead-holding}
-
--- byte i lies outside the s bytes from o on
-abbrev pub Outside : ℕ → ℕ → ℕ → Type 0
-Outside o s i = (i < o) ⊎ (o + s ≤ i)
+use Rattle.laws.specs.Sound.{Sound, PoolRule}
+use Rattle.laws.specs.Held.{Says, Held, held, sound}
+use Rattle.laws.specs.Bytes.{Outside, part-same}
+use Rattle.laws.specs.Holding.{LiveAt, holding, live-rows, holding-live, dead-holding, Leaves}
 
 -- two live blocks do not meet
 pub apart : {al A P : ℕ} {r : Plain} → Aligned al → (o x : ℕ) (t : LiveAt al A P r o) (u : LiveAt al A P r x) → x ≢ o
@@ -135,10 +133,10 @@ module _ {al A P : ℕ} {h : Heap} {r : Plain} (L : Aligned al) (S : Sound al A 
           }
 
   -- what is held at the block, and elsewhere
-  pub written-here : holding al A P (heapOf m′ (h .books) (h .map)) o ≡ part o (sizeOf al (r .class (t .pool))) m′
+  written-here : holding al A P (heapOf m′ (h .books) (h .map)) o ≡ part o (sizeOf al (r .class (t .pool))) m′
   written-here = holding-live L written-sound o t
 
-  pub written-others : (x : ℕ) → x ≢ o → holding al A P (heapOf m′ (h .books) (h .map)) x ≡ holding al A P h x
+  written-others : (x : ℕ) → x ≢ o → holding al A P (heapOf m′ (h .books) (h .map)) x ≡ holding al A P h x
   written-others x d = go (live al A P (h .books) (h .map) x) refl
     where
       go : (b : Bool) → live al A P (h .books) (h .map) x ≡ b → holding al A P (heapOf m′ (h .books) (h .map)) x ≡ holding al A P h x
@@ -154,3 +152,22 @@ module _ {al A P : ℕ} {h : Heap} {r : Plain} (L : Aligned al) (S : Sound al A 
           off : (u : LiveAt al A P r x) (i : ℕ) → i < sizeOf al (r .class (u .pool)) → (o + sizeOf al (r .class (t .pool)) ≤ x) ⊎ (x + sizeOf al (r .class (u .pool)) ≤ o) → Outside o (sizeOf al (r .class (t .pool))) (x + i)
           off u i w (inl z) = inr (omega arith)
           off u i w (inr z) = inl (omega arith)
+
+  -- the block then holds the bytes that stand there
+  pub written-leaves : Leaves al A P h (heapOf m′ (h .books) (h .map)) r (to o (part o (sizeOf al (r .class (t .pool))) m′) (holding al A P h))
+  written-leaves = record { sound = written-sound; holds = λ x. go x (ℕ-discrete x o); first = λ i u. same i (low i u (decLe o i)) }
+    where
+      go : (x : ℕ) → Dec (x ≡ o) → holding al A P (heapOf m′ (h .books) (h .map)) x ≡ to o (part o (sizeOf al (r .class (t .pool))) m′) (holding al A P h) x
+      go x (yes q) = rw (eq-eqb x o q, q) written-here
+      go x (no q) = rw (ne-eqb x o q) (written-others x q)
+
+      ends : startOf (sizeOf al (r .class (t .pool))) (t .block) + sizeOf al (r .class (t .pool)) ≤ 4096
+      ends = block-ends (sizeOf al (r .class (t .pool))) (t .block) (suc (t .block)) (omega arith) (t .fits)
+
+      low : (i : ℕ) → i % 4096 < 48 → Dec (o ≤ i) → Outside o (sizeOf al (r .class (t .pool))) i
+      low i u (no q) = inl (omega arith)
+      low i u (yes q) = far (decLe (o + sizeOf al (r .class (t .pool))) i)
+        where
+          far : Dec (o + sizeOf al (r .class (t .pool)) ≤ i) → Outside o (sizeOf al (r .class (t .pool))) i
+          far (yes z) = inr z
+          far (no z) = absurd (omega (arith, t .place, ends))

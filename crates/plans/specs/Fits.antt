@@ -4,8 +4,8 @@
 use mathlib.Core.Path.{_≡_, refl}
 use mathlib.Core.Bool.{Bool, true, false, not, _&&_, _||_}
 use mathlib.Core.List.{List}
-use Prim.Native.Nat.{ℕ, _+_, _*_, _-_, _/_, _≤_, _<_}
-use native.Mathlib.Nat.{mul-le-mul-right, div-lt-iff-lt-mul}
+use Prim.Native.Nat.{ℕ, _+_, _*_, _-_, _≤_, _<_}
+use native.Mathlib.Nat.{mul-le-mul-right}
 use native.Mathlib.Omega.{arith}
 use lib.Dec.{leb, ltb, eqb}
 use borrow.Author.Tests.{leb-true, ltb-true, eqb-true, eqb-false, eq-eqb, not-true}
@@ -17,7 +17,7 @@ use Rattle.rules.specs.Say.{if_then_else_}
 use Rattle.rules.specs.Books.{Heap, at, usableHead, unusedHead, classHead, carveMark, freePools, freedHead, arena, count, freeblock, poolNext, class, nextoffset, maxnextoffset, pool, none?, linked, isSet}
 use Rattle.rules.specs.Blocks.{sizeOf, isStart, blockNo}
 use Rattle.rules.specs.Lists.{nextAt, previousAt, mayLeave, arenaLinks, poolLinks}
-use Rattle.rules.specs.Ask.{_⇛_, frontOf, spare, linkIn, poolHas, arenaHas, counted, noLink, fromFreeblock, fromListed, setAnew, sameClass, takeAgain, fromMark, fromFreed, fromUsable, fromUnused, planAsk}
+use Rattle.rules.specs.Ask.{_⇛_, frontOf, spare, linkIn, counted, noLink, fromFreeblock, fromListed, setAnew, sameClass, takeAgain, fromMark, fromFreed, fromUsable, fromUnused, planAsk}
 use Rattle.books.specs.Starts.{Start, start}
 use Rattle.books.specs.Tests.{both}
 

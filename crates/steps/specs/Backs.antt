@@ -1,6 +1,6 @@
 -- The books after each part of a give-back, and the words that a part leaves as they were for the next.
 -- Assumes nothing.
-use mathlib.Core.Path.{_≡_, refl, ap, _∙_}
+use mathlib.Core.Path.{_≡_, ap, _∙_}
 use mathlib.Core.Logic.{_≢_, inl}
 use mathlib.Core.List.{List, []}
 use Prim.Native.Nat.{ℕ, _+_, _*_, _-_, _/_, _≤_, _<_}
@@ -8,7 +8,7 @@ use native.Mathlib.Omega.{arith}
 use lib.ListN.{length, length-set, replicate}
 use lib.Seq.{getD-set-other, sets, length-sets}
 use Rattle.rules.specs.Say.{_▷_}
-use Rattle.rules.specs.Books.{Heap, at, put, usableHead, unusedHead, classHead, freePools, freedHead, arenaWord, arena, count, freeblock, poolNext, poolPrevious, poolWord, pool}
+use Rattle.rules.specs.Books.{Heap, at, put, usableHead, unusedHead, classHead, freePools, freedHead, arenaWord, arena, count, freeblock, poolNext, poolPrevious, poolWord}
 use Rattle.rules.specs.Lists.{nextAt, previousAt, arenaLinks, poolLinks, leave}
 use Rattle.rules.specs.GiveBack.{takeBack, empty, release, afterBack}
 use Rattle.rules.specs.declared.BackPlan.the-variants.{Empties}

@@ -1,0 +1,241 @@
+-- Resize over a sound heap: it answers as the plain heap does, and what it leaves holds the plain heap's rows. It is an ask, a copy into the block handed out, which
+-- keeps the rows, and a give-back of the old block, which is still the block that it was.
+-- Assumes nothing.
+use mathlib.Core.Path.{_≡_, refl, sym, ap, ap₂, _∙_, subst}
+use mathlib.Core.Logic.{_≢_, _⊎_, inl, inr}
+use mathlib.Core.Bool.{Bool, true, false}
+use mathlib.Core.List.{List, [], _++_}
+use Prim.Native.Nat.{ℕ, _+_, _%_, _≤_, min}
+use native.Mathlib.Nat.{min-le-left, min-le-right}
+use native.Mathlib.Decide.{ℕ-discrete}
+use native.Mathlib.Omega.{arith}
+use lib.ListN.{length, take, drop, length-drop}
+use lib.Seq.{sets, length-sets, length-take-le, take-take, drop-at}
+use borrow.Author.Tests.{eq-eqb, ne-eqb, le-leb}
+use Rattle.rules.specs.declared.AskPlan.the-variants.{NoRoom}
+use Rattle.rules.specs.Books.{Heap}
+use Rattle.rules.specs.Blocks.{classOf, sizeOf, blockNo, live, liveNumber, sizeAt}
+use Rattle.rules.specs.Outcome.{Outcome, heapOf, refused, done, answerOf}
+use Rattle.rules.specs.Ask.{askAnswer, afterAsk, askStep}
+use Rattle.rules.specs.Resize.{keeps, giveOld, moved, resizeStep}
+use Rattle.rules.specs.View.{part}
+use Rattle.rules.specs.Numbers.{giveBack, resize, sizeNumber}
+use Rattle.laws.specs.Update.{to, to-same, to-other, to-cong}
+use Rattle.laws.specs.Plain.{Plain, planAsk as plainAsk, askPlain, backPlain, resizePlain, resizeAnswer}
+use Rattle.laws.specs.Sizes.{Aligned, size-low, has-class, class-fits}
+use Rattle.laws.specs.Sound.{Sound}
+use Rattle.laws.specs.Paths.{Hand, Asked}
+use Rattle.laws.specs.Bytes.{Outside, part-long, sets-off, text-part}
+use Rattle.laws.specs.Holding.{LiveAt, holding, live-rows, pool-is, number-at, class-is, rows-live, in-memory, at-block, at-class, holding-live, holding-long, holding-more, holding-some, holding-none, holding-others, Leaves}
+use Rattle.laws.specs.Calls.{shape-zero, plain-number, ask-done, block-of, back-done, back-is, back-leaves}
+use Rattle.laws.specs.Written.{written-sound, written-leaves}
+use Rattle.laws.specs.History.{carried}
+
+module _ {al A P : ℕ} {h : Heap} {r : Plain} (L : Aligned al) (S : Sound al A P h r) (o n : ℕ) where
+  pub resize-size : sizeNumber n ≡ 3 → resize al h o n ≡ refused 3 h
+  unfolding resize
+  resize-size e = rw (shape-zero S, e)
+
+  module _ (lo : 1 ≤ n) (hi : n ≤ 512) where
+    pub resize-dead : live al A P (h .books) (h .map) o ≡ false → resize al h o n ≡ refused 5 h
+    unfolding resize sizeNumber liveNumber
+    resize-dead e = rw (shape-zero S, le-leb 1 n lo, le-leb n 512 hi, S .rule1 .arenas-are, S .rule1 .pools-are, e)
+
+    module _ (e : live al A P (h .books) (h .map) o ≡ true) where
+      abbrev pub t : LiveAt al A P r o
+      t = block-of L S o e
+
+      D : Asked al A P h r (classOf al n)
+      D = ask-done L S n lo hi
+
+      size-is : sizeAt al A (h .books) o ≡ sizeOf al (r .class (t .pool))
+      size-is = ap (sizeOf al) (class-is L S o t)
+
+      pub resize-keeps : keeps (sizeOf al (r .class (t .pool))) n ≡ true → resize al h o n ≡ done o h
+      unfolding resize resizeStep sizeNumber liveNumber
+      resize-keeps q = rw (shape-zero S, le-leb 1 n lo, le-leb n 512 hi, S .rule1 .arenas-are, S .rule1 .pools-are, e, size-is, q)
+
+      pub resize-none : keeps (sizeOf al (r .class (t .pool))) n ≡ false → plainAsk al P r (classOf al n) ≡ NoRoom → resize al h o n ≡ refused 4 h
+      unfolding resize resizeStep moved askStep askAnswer afterAsk sizeNumber liveNumber
+      resize-none q z = rw (shape-zero S, le-leb 1 n lo, le-leb n 512 hi, S .rule1 .arenas-are, S .rule1 .pools-are, e, size-is, q, D .plan-is, z)
+
+      -- ---- the ask is done
+      module _ (z : askAnswer (plainAsk al P r (classOf al n)) .number ≡ 0) where
+        abbrev pub new : ℕ
+        new = askAnswer (plainAsk al P r (classOf al n)) .offset
+
+        abbrev pub asked : Heap
+        asked = afterAsk al A P (classOf al n) (plainAsk al P r (classOf al n)) h
+
+        H : Hand al A P r (askPlain al P r n) (classOf al n) new
+        H = D .hand z
+
+        -- the block handed out is another one, and the old block is what it was
+        pub differ : o ≢ new
+        differ q = absurd (omega (arith, holding-more L S o t, ap length (ap (holding al A P h) q ∙ holding-none L S (D .sound) (D .quiet) (has-class L n hi) H)))
+
+        old-stays : holding al A P asked o ≡ holding al A P h o
+        old-stays = holding-others L S (D .sound) (D .quiet) (has-class L n hi) H o differ
+
+        u : LiveAt al A P (askPlain al P r n) o
+        u = live-rows L (D .sound) o (holding-some al A P asked o (λ q. absurd (omega (arith, holding-more L S o t, ap length (sym old-stays ∙ q)))))
+
+        same-pool : u .pool ≡ t .pool
+        same-pool = sym (pool-is L (D .sound) o u) ∙ pool-is L S o t
+
+        same-size : sizeOf al (askPlain al P r n .class (u .pool)) ≡ sizeOf al (r .class (t .pool))
+        same-size = sym (holding-long L (D .sound) o u) ∙ ap length old-stays ∙ holding-long L S o t
+
+        -- ---- the copy goes into the new block
+        new-at : LiveAt al A P (askPlain al P r n) new
+        new-at = at-block L S (D .sound) (D .quiet) (has-class L n hi) H
+
+        new-size : sizeOf al (askPlain al P r n .class (new-at .pool)) ≡ sizeOf al (classOf al n)
+        unfolding new-at
+        new-size = ap (sizeOf al) (at-class L S (D .sound) (D .quiet) (has-class L n hi) H)
+
+        abbrev pub text : List ℕ
+        text = take (min n (sizeAt al A (h .books) o)) (drop o (asked .memory))
+
+        text-long : length text ≡ min n (sizeAt al A (h .books) o)
+        text-long =
+            length-take-le (min n (sizeAt al A (h .books) o)) (drop o (asked .memory))
+            (omega (arith, length-drop o (asked .memory), in-memory L (D .sound) o u, same-size, size-is, min-le-right n (sizeAt al A (h .books) o)))
+
+        abbrev pub copied : Heap
+        copied = heapOf (sets (asked .memory) new text) (asked .books) (asked .map)
+
+        outside : (i : ℕ) → Outside new (sizeOf al (askPlain al P r n .class (new-at .pool))) i → Outside new (length text) i
+        outside i (inl a) = inl a
+        outside i (inr a) = inr (omega (arith, text-long, new-size, min-le-left n (sizeAt al A (h .books) o), class-fits L n))
+
+        copied-sound : Sound al A P copied (askPlain al P r n)
+        copied-sound = written-sound L (D .sound) new new-at (copied .memory) (length-sets (asked .memory) new text) (λ i f. sets-off (asked .memory) new text i (outside i f))
+
+        -- ---- the old block is given back
+        still-live : live al A P (copied .books) (copied .map) o ≡ true
+        still-live = rows-live L copied-sound o u
+
+        given : giveBack al copied o .answer .number ≡ 0
+        given = ap (λ (y : Outcome). y .answer .number) (back-is L copied-sound o still-live)
+
+        give-old-is : giveOld al A P copied o ≡ giveBack al copied o
+        unfolding giveOld giveBack liveNumber
+        give-old-is = rw (shape-zero copied-sound, D .sound .rule1 .arenas-are, D .sound .rule1 .pools-are, still-live)
+
+        pub resize-moves : keeps (sizeOf al (r .class (t .pool))) n ≡ false → resize al h o n ≡ done new (giveBack al copied o .heap)
+        unfolding resize resizeStep moved askStep sizeNumber liveNumber
+        resize-moves q =
+            rw (shape-zero S, le-leb 1 n lo, le-leb n 512 hi, S .rule1 .arenas-are, S .rule1 .pools-are, e, size-is, q, D .plan-is, z, ← size-is, give-old-is, given)
+
+        moved-sound : Sound al A P (giveBack al copied o .heap) (backPlain P (askPlain al P r n) (t .pool) (t .block))
+        moved-sound =
+            subst (λ (x : Plain). Sound al A P (giveBack al copied o .heap) x) (ap₂ (backPlain P (askPlain al P r n)) same-pool same-block)
+            (subst (λ (y : Outcome). Sound al A P (y .heap) (backPlain P (askPlain al P r n) (v .pool) (v .block))) (sym (back-is L copied-sound o still-live)) (back-done L copied-sound o still-live .sound))
+          where
+            v : LiveAt al A P (askPlain al P r n) o
+            v = block-of L copied-sound o still-live
+
+            same-pool : v .pool ≡ t .pool
+            same-pool = sym (pool-is L copied-sound o v) ∙ pool-is L S o t
+
+            same-block : v .block ≡ t .block
+            same-block =
+                sym (number-at L copied-sound o v)
+                ∙ ap (λ (s : ℕ). blockNo s (o % 4096)) (ap (λ (p : ℕ). sizeOf al (askPlain al P r n .class p)) (same-pool ∙ sym (pool-is L S o t) ∙ pool-is L (D .sound) o u) ∙ same-size)
+                ∙ number-at L S o t
+
+        -- ---- what is held then: the copied bytes are the old block's, and the block at o is gone
+        abbrev size : ℕ
+        size = sizeOf al (classOf al n)
+
+        abbrev k : ℕ
+        k = min n (sizeAt al A (h .books) o)
+
+        copied-holds : (y : ℕ) → holding al A P copied y ≡ to new (part new size (copied .memory)) (holding al A P h) y
+        copied-holds y =
+            written-leaves L (D .sound) new new-at (copied .memory) (length-sets (asked .memory) new text) (λ i f. sets-off (asked .memory) new text i (outside i f)) .holds y
+            ∙ ap (λ (s : ℕ). to new (part new s (copied .memory)) (holding al A P asked) y) new-size
+            ∙ go (ℕ-discrete y new)
+          where
+            go : Dec (y ≡ new) → to new (part new size (copied .memory)) (holding al A P asked) y ≡ to new (part new size (copied .memory)) (holding al A P h) y
+            go (yes q) = rw (eq-eqb y new q)
+            go (no q) = rw (ne-eqb y new q) (holding-others L S (D .sound) (D .quiet) (has-class L n hi) H y q)
+
+        moved-holds : (y : ℕ) → holding al A P (giveBack al copied o .heap) y ≡ to o [] (to new (part new size (copied .memory)) (holding al A P h)) y
+        moved-holds y = back-leaves L copied-sound o still-live .holds y ∙ to-cong o [] (holding al A P copied) (to new (part new size (copied .memory)) (holding al A P h)) copied-holds y
+
+        new-fits : new + size ≤ length (asked .memory)
+        new-fits = rw (← new-size) (in-memory L (D .sound) new new-at)
+
+        new-long : length (part new size (copied .memory)) ≡ size
+        new-long = part-long (copied .memory) new size (rw (length-sets (asked .memory) new text) new-fits)
+
+        -- the give-back leaves the new block's bytes
+        new-stays : part new size (giveBack al copied o .heap .memory) ≡ part new size (copied .memory)
+        new-stays = sym (holding-live L moved-sound new w ∙ ap (λ (s : ℕ). part new s (giveBack al copied o .heap .memory)) long) ∙ here
+          where
+            here : holding al A P (giveBack al copied o .heap) new ≡ part new size (copied .memory)
+            here =
+                moved-holds new
+                ∙ to-other o [] (to new (part new size (copied .memory)) (holding al A P h)) new (λ q. differ (sym q))
+                ∙ to-same new (part new size (copied .memory)) (holding al A P h) new refl
+
+            w : LiveAt al A P (backPlain P (askPlain al P r n) (t .pool) (t .block)) new
+            w = live-rows L moved-sound new (holding-some al A P (giveBack al copied o .heap) new (λ q. absurd (omega (arith, ap length (sym here ∙ q), new-long, size-low L (classOf al n) (has-class L n hi)))))
+
+            long : sizeOf al (backPlain P (askPlain al P r n) (t .pool) (t .block) .class (w .pool)) ≡ size
+            long = sym (holding-long L moved-sound new w) ∙ ap length here ∙ new-long
+
+        text-is : text ≡ take k (holding al A P h o)
+        text-is =
+            sym (take-take k (sizeOf al (askPlain al P r n .class (u .pool))) (drop o (asked .memory)) (omega (arith, same-size, size-is, min-le-right n (sizeAt al A (h .books) o))))
+            ∙ ap (take k) (sym (holding-live L (D .sound) o u) ∙ old-stays)
+
+        new-bytes : take k (holding al A P h o) ++ drop k (part new size (copied .memory)) ≡ part new size (copied .memory)
+        new-bytes =
+            let e : part new size (copied .memory) ≡ text ++ drop (length text) (part new size (asked .memory)) = text-part (asked .memory) text new size (omega (arith, text-long, min-le-left n (sizeAt al A (h .books) o), class-fits L n)) new-fits in
+            ap (λ (b : List ℕ). take k (holding al A P h o) ++ drop k b) e
+            ∙ ap (λ (b : List ℕ). take k (holding al A P h o) ++ b) (drop-at text (drop (length text) (part new size (asked .memory))) k text-long)
+            ∙ ap (λ (b : List ℕ). b ++ drop (length text) (part new size (asked .memory))) (sym text-is)
+            ∙ sym e
+
+        -- a moving resize carries the first bytes of the old block over to the new one
+        pub moved-leaves : Leaves al A P h (giveBack al copied o .heap) (backPlain P (askPlain al P r n) (t .pool) (t .block))
+            (carried al n o new (giveBack al copied o .heap .memory) (holding al A P h))
+        moved-leaves =
+            record {
+              sound = moved-sound;
+              holds = λ y. moved-holds y ∙ go y (ℕ-discrete y new) (ℕ-discrete y o);
+              first = λ i l.
+                  back-leaves L copied-sound o still-live .first i l
+                  ∙ written-leaves L (D .sound) new new-at (copied .memory) (length-sets (asked .memory) new text) (λ j f. sets-off (asked .memory) new text j (outside j f)) .first i l
+                  ∙ D .quiet .first-bytes i l;
+            }
+          where
+            length-is : k ≡ min n (length (holding al A P h o))
+            length-is = ap (min n) (size-is ∙ sym (holding-long L S o t))
+
+            go : (y : ℕ) → Dec (y ≡ new) → Dec (y ≡ o) → to o [] (to new (part new size (copied .memory)) (holding al A P h)) y ≡ carried al n o new (giveBack al copied o .heap .memory) (holding al A P h) y
+            go y (yes q) d =
+                rw (ne-eqb y o (λ v. differ (sym v ∙ q)), eq-eqb y new q, ← length-is)
+                (sym (ap (λ (b : List ℕ). take k (holding al A P h o) ++ drop k b) new-stays ∙ new-bytes))
+            go y (no q) (yes d) = rw (ne-eqb y new q, eq-eqb y o d)
+            go y (no q) (no d) = rw (ne-eqb y new q, ne-eqb y o d)
+
+    -- ---- the whole call: number and offset are the plain heap's, and the heap after it holds the plain heap's rows
+    pub resize-done : (e : live al A P (h .books) (h .map) o ≡ true)
+        → (resize al h o n .answer ≡ resizeAnswer al P r o (t e .pool) n) × Sound al A P (resize al h o n .heap) (resizePlain al P r (t e .pool) (t e .block) n)
+    unfolding askAnswer
+    resize-done e = by-keep (keeps (sizeOf al (r .class (t e .pool))) n) refl
+      where
+        Q : Outcome → Type 0
+        Q y = (y .answer ≡ resizeAnswer al P r o (t e .pool) n) × Sound al A P (y .heap) (resizePlain al P r (t e .pool) (t e .block) n)
+
+        by-room : keeps (sizeOf al (r .class (t e .pool))) n ≡ false → (askAnswer (plainAsk al P r (classOf al n)) .number ≡ 0) ⊎ (plainAsk al P r (classOf al n) ≡ NoRoom) → Q (resize al h o n)
+        by-room q (inl z) = rw (resize-moves e z q, q, z) (ap (λ (k : ℕ). answerOf k (new e z)) (sym z), moved-sound e z)
+        by-room q (inr z) = rw (resize-none e q z, q, z) (refl, S)
+
+        by-keep : (b : Bool) → keeps (sizeOf al (r .class (t e .pool))) n ≡ b → Q (resize al h o n)
+        by-keep true q = rw (resize-keeps e q, q) (refl, S)
+        by-keep false q = by-room q (plain-number al P r (classOf al n))

@@ -1,0 +1,298 @@
+-- What holds after every history, shown event by event: the heap is sound, the ledger has what the heap holds, and the first 48 bytes of each pool stand.
+-- Assumes nothing.
+use mathlib.Core.Path.{_≡_, refl, sym, ap, _∙_, subst}
+use mathlib.Core.Logic.{_≢_, _⊎_, inl, inr}
+use mathlib.Core.Bool.{Bool, true, false, not}
+use mathlib.Core.List.{List, [], _∷_, _++_}
+use Prim.Native.Nat.{ℕ, _+_, _/_, _%_, _≤_, _<_, min}
+use native.Mathlib.Omega.{arith}
+use lib.Dec.{ltb, eqb}
+use lib.ListN.{length, set, take, drop, length-set, replicate}
+use lib.Seq.{sets, length-sets, getD-set-other}
+use borrow.Author.Tests.{eq-eqb, ne-eqb, ltb-true, ltb-false}
+use Rattle.rules.specs.declared.AskPlan.the-variants.{NoRoom}
+use Rattle.rules.specs.Say.{if_then_else_}
+use Rattle.rules.specs.Books.{Heap, at, inRange, exact, memoryLength, mapLength, arenas, pools}
+use Rattle.rules.specs.Blocks.{classOf, sizeOf, live, liveNumber, sizeAt}
+use Rattle.rules.specs.Outcome.{Outcome, heapOf, refused, passing, done}
+use Rattle.rules.specs.Format.{freshBooks}
+use Rattle.rules.specs.View.{part}
+use Rattle.rules.specs.Ask.{askAnswer, afterAsk}
+use Rattle.rules.specs.Resize.{keeps}
+use Rattle.rules.specs.Numbers.{fitNumber, format, ask, giveBack, resize, viewSize, write, rollCall, roomNumber, sizeNumber, sizedOf, blockSize, rollOf, rollOutcome}
+use Rattle.books.specs.Known.{shaped}
+use Rattle.laws.specs.Update.{to, to-cong}
+use Rattle.laws.specs.Plain.{Plain, fresh, planAsk as plainAsk}
+use Rattle.laws.specs.Sizes.{Aligned}
+use Rattle.laws.specs.Sound.{Sound}
+use Rattle.laws.specs.Held.{clash}
+use Rattle.laws.specs.Fresh.{fresh-sound}
+use Rattle.laws.specs.Bytes.{Outside, text-part, byte-part, sets-off}
+use Rattle.laws.specs.Holding.{LiveAt, holding, live-rows, class-is, in-memory, holding-live, holding-long, holding-some, dead-holding, Leaves}
+use Rattle.laws.specs.Written.{written-leaves}
+use Rattle.laws.specs.Calls.{shape-zero, plain-number, ask-size, ask-is, ask-leaves, size-number, back-dead, block-of, back-is, back-leaves}
+use Rattle.laws.specs.Resized.{resize-size, resize-dead, resize-keeps, resize-none, resize-moves, differ, moved-leaves}
+use Rattle.laws.specs.History.{Event, formats, asks, gives, resizes, views, writes, rolls, pokes, Ledger, State, noted, numberOf, carried, after, run, NoSix}
+
+-- ---- what holds after a history, m₀ being memory before it: the heap is sound, the ledger has what the heap holds, the first 48 bytes of each pool stand
+pub record Tied (al : ℕ) (m₀ : List ℕ) (x : State) : Type 0 where
+  pub A : ℕ
+  pub P : ℕ
+  pub rows : Plain
+  pub sound : Sound al A P (x .heap) rows
+  pub tie : (o : ℕ) → x .ledger o ≡ holding al A P (x .heap) o
+  pub first : (i : ℕ) → i % 4096 < 48 → at (x .heap .memory) i ≡ at m₀ i
+
+-- ---- one event
+-- its number is not 6, and the state after it is tied
+abbrev Good : ℕ → List ℕ → ℕ → State → Type 0
+Good al m₀ number x = (number ≢ 6) × Tied al m₀ x
+
+module _ {al : ℕ} (L : Aligned al) (m₀ : List ℕ) where
+  -- a refusal that changes nothing
+  same : {x : State} → Tied al m₀ x → (k : ℕ) → eqb k 0 ≡ false → k ≢ 6 → (new : Ledger) → Good al m₀ k (noted k (x .heap) (x .ledger) new)
+  same {x} T k e d new = (d, rw e (record { A = T .A; P = T .P; rows = T .rows; sound = T .sound; tie = T .tie; first = T .first }))
+
+  -- a step that leaves what the ledger then says
+  leaves : {x : State} {h : Heap} {r : Plain} {g : ℕ → List ℕ} (T : Tied al m₀ x) → Leaves al (T .A) (T .P) (x .heap) h r g → (l : Ledger) → ((o : ℕ) → l o ≡ g o)
+      → Tied al m₀ (record { heap = h; ledger = l })
+  leaves {r = r} T W l e = record { A = T .A; P = T .P; rows = r; sound = W .sound; tie = λ o. e o ∙ sym (W .holds o); first = λ i u. W .first i u ∙ T .first i u }
+
+  step-ask : {x : State} → Tied al m₀ x → (n : ℕ) → Good al m₀ (numberOf al x (asks n)) (after al x (asks n))
+  unfolding numberOf after askAnswer afterAsk
+  step-ask {x} T n = go (size-number n)
+    where
+      h : Heap
+      h = x .heap
+
+      bytes : Outcome → List ℕ
+      bytes y = part (y .answer .offset) (sizeOf al (classOf al n)) (y .heap .memory)
+
+      Q : Outcome → Type 0
+      Q y = Good al m₀ (y .answer .number) (noted (y .answer .number) (y .heap) (x .ledger) (to (y .answer .offset) (bytes y) (x .ledger)))
+
+      served : (lo : 1 ≤ n) → (hi : n ≤ 512) → (askAnswer (plainAsk al (T .P) (T .rows) (classOf al n)) .number ≡ 0) ⊎ (plainAsk al (T .P) (T .rows) (classOf al n) ≡ NoRoom) → Q (ask al h n)
+      served lo hi (inr z) = rw (ask-is L (T .sound) n lo hi, z) (same T 4 refl (omega arith) (x .ledger))
+      served lo hi (inl z) =
+          rw (ap (λ (y : Outcome). y .answer .number) (ask-is L (T .sound) n lo hi) ∙ z) (
+            (omega arith),
+            leaves T (ask-leaves L (T .sound) n lo hi z) (to (ask al h n .answer .offset) (bytes (ask al h n)) (x .ledger))
+                (to-cong (ask al h n .answer .offset) (bytes (ask al h n)) (x .ledger) (holding al (T .A) (T .P) h) (T .tie)),
+          )
+
+      go : ((1 ≤ n) × (n ≤ 512)) ⊎ (sizeNumber n ≡ 3) → Q (ask al h n)
+      go (inr e) = rw (ask-size L (T .sound) n e) (same T 3 refl (omega arith) (x .ledger))
+      go (inl t) = served (t .0) (t .1) (plain-number al (T .P) (T .rows) (classOf al n))
+
+  step-give : {x : State} → Tied al m₀ x → (o : ℕ) → Good al m₀ (numberOf al x (gives o)) (after al x (gives o))
+  unfolding numberOf after
+  step-give {x} T o = go (live al (T .A) (T .P) (x .heap .books) (x .heap .map) o) refl
+    where
+      Q : Outcome → Type 0
+      Q y = Good al m₀ (y .answer .number) (noted (y .answer .number) (y .heap) (x .ledger) (to o [] (x .ledger)))
+
+      go : (t : Bool) → live al (T .A) (T .P) (x .heap .books) (x .heap .map) o ≡ t → Q (giveBack al (x .heap) o)
+      go false e = rw (back-dead L (T .sound) o e) (same T 5 refl (omega arith) (x .ledger))
+      go true e =
+          rw (ap (λ (y : Outcome). y .answer .number) (back-is L (T .sound) o e)) (
+            (omega arith),
+            leaves T (back-leaves L (T .sound) o e) (to o [] (x .ledger)) (to-cong o [] (x .ledger) (holding al (T .A) (T .P) (x .heap)) (T .tie)),
+          )
+
+  -- a live block's bytes change, inside the block
+  module _ {x : State} (T : Tied al m₀ x) (o : ℕ) (t : LiveAt al (T .A) (T .P) (T .rows) o) where
+    abbrev size : ℕ
+    size = sizeOf al (T .rows .class (t .pool))
+
+    bytes-are : x .ledger o ≡ part o size (x .heap .memory)
+    bytes-are = T .tie o ∙ holding-live L (T .sound) o t
+
+    held-bytes : (m bytes : List ℕ) → length m ≡ length (x .heap .memory) → ((i : ℕ) → Outside o size i → at m i ≡ at (x .heap .memory) i) → bytes ≡ part o size m
+        → Tied al m₀ (record { heap = heapOf m (x .heap .books) (x .heap .map); ledger = to o bytes (x .ledger) })
+    held-bytes m bytes len off new =
+        leaves T (written-leaves L (T .sound) o t m len off) (to o bytes (x .ledger))
+        (λ y. ap (λ (b : List ℕ). to o b (x .ledger) y) new ∙ to-cong o (part o size m) (x .ledger) (holding al (T .A) (T .P) (x .heap)) (T .tie) y)
+
+  write-is : {x : State} (T : Tied al m₀ x) (o : ℕ) (text : List ℕ)
+      → write al (x .heap) o text
+      ≡ passing (passing (if live al (T .A) (T .P) (x .heap .books) (x .heap .map) o then 0 else 5) (λ k. k) (if ltb (sizeAt al (T .A) (x .heap .books) o) (length text) then 7 else 0))
+      (λ k. refused k (x .heap)) (done o (heapOf (sets (x .heap .memory) o text) (x .heap .books) (x .heap .map)))
+  unfolding write liveNumber roomNumber
+  write-is T o text = rw (shape-zero (T .sound), T .sound .rule1 .arenas-are, T .sound .rule1 .pools-are)
+
+  step-write : {x : State} → Tied al m₀ x → (o : ℕ) (text : List ℕ) → Good al m₀ (numberOf al x (writes o text)) (after al x (writes o text))
+  unfolding numberOf after
+  step-write {x} T o text = subst Q (sym (write-is T o text)) (go (live al (T .A) (T .P) (x .heap .books) (x .heap .map) o) refl)
+    where
+      Q : Outcome → Type 0
+      Q y = Good al m₀ (y .answer .number) (noted (y .answer .number) (y .heap) (x .ledger) (to o (text ++ drop (length text) (x .ledger o)) (x .ledger)))
+
+      m′ : List ℕ
+      m′ = sets (x .heap .memory) o text
+
+      fits : (t : LiveAt al (T .A) (T .P) (T .rows) o) (b : Bool) → ltb (sizeAt al (T .A) (x .heap .books) o) (length text) ≡ b
+          → Q (passing (if b then 7 else 0) (λ k. refused k (x .heap)) (done o (heapOf m′ (x .heap .books) (x .heap .map))))
+      fits t true e = same T 7 refl (omega arith) (x .ledger)
+      fits t false e =
+          let l : length text ≤ size T o t = rw (ap (sizeOf al) (class-is L (T .sound) o t)) at (ltb-false (sizeAt al (T .A) (x .heap .books) o) (length text) e) in (
+            (omega arith),
+            held-bytes T o t m′ (text ++ drop (length text) (x .ledger o)) (length-sets (x .heap .memory) o text)
+                (λ i f. sets-off (x .heap .memory) o text i (wide l f))
+                (ap (λ (b : List ℕ). text ++ drop (length text) b) (bytes-are T o t) ∙ sym (text-part (x .heap .memory) text o (size T o t) l (in-memory L (T .sound) o t))),
+          )
+        where
+          wide : {i s : ℕ} → length text ≤ s → Outside o s i → Outside o (length text) i
+          wide l (inl a) = inl a
+          wide l (inr a) = inr (omega arith)
+
+      go : (b : Bool) → live al (T .A) (T .P) (x .heap .books) (x .heap .map) o ≡ b
+          → Q (passing (passing (if b then 0 else 5) (λ k. k) (if ltb (sizeAt al (T .A) (x .heap .books) o) (length text) then 7 else 0)) (λ k. refused k (x .heap)) (done o (heapOf m′ (x .heap .books) (x .heap .map))))
+      go false e = same T 5 refl (omega arith) (x .ledger)
+      go true e = fits (live-rows L (T .sound) o e) (ltb (sizeAt al (T .A) (x .heap .books) o) (length text)) refl
+
+  step-poke : {x : State} → Tied al m₀ x → (o d v : ℕ) → Good al m₀ 0 (after al x (pokes o d v))
+  unfolding after
+  step-poke {x} T o d v = go (ltb d (length (x .ledger o))) refl
+    where
+      m′ : List ℕ
+      m′ = set (x .heap .memory) (o + d) v
+
+      go : (b : Bool) → ltb d (length (x .ledger o)) ≡ b
+          → Good al m₀ 0 (if b then record { heap = heapOf m′ (x .heap .books) (x .heap .map); ledger = to o (set (x .ledger o) d v) (x .ledger) } else x)
+      go false e = ((omega arith), T)
+      go true e = ((omega arith), held-bytes T o t m′ (set (x .ledger o) d v) (length-set (x .heap .memory) (o + d) v) away (ap (λ (b : List ℕ). set b d v) (bytes-are T o t) ∙ sym (byte-part (x .heap .memory) o (size T o t) d v inside)))
+        where
+          some : d < length (x .ledger o)
+          some = ltb-true d (length (x .ledger o)) e
+
+          t : LiveAt al (T .A) (T .P) (T .rows) o
+          t = live-rows L (T .sound) o (holding-some al (T .A) (T .P) (x .heap) o (λ q. absurd (omega (arith, some, ap length (T .tie o ∙ q)))))
+
+          inside : d < size T o t
+          inside = omega (arith, some, ap length (T .tie o), holding-long L (T .sound) o t)
+
+          away : (i : ℕ) → Outside o (size T o t) i → at m′ i ≡ at (x .heap .memory) i
+          away i (inl a) = getD-set-other (x .heap .memory) (o + d) i v 0 (λ q. absurd (omega arith))
+          away i (inr a) = getD-set-other (x .heap .memory) (o + d) i v 0 (λ q. absurd (omega (arith, inside)))
+
+  step-resize : {x : State} → Tied al m₀ x → (o n : ℕ) → Good al m₀ (numberOf al x (resizes o n)) (after al x (resizes o n))
+  unfolding numberOf after
+  step-resize {x} T o n = by-size (size-number n)
+    where
+      h : Heap
+      h = x .heap
+
+      S : Sound al (T .A) (T .P) h (T .rows)
+      S = T .sound
+
+      Q : Outcome → Type 0
+      Q y = Good al m₀ (y .answer .number) (noted (y .answer .number) (y .heap) (x .ledger) (if eqb (y .answer .offset) o then x .ledger else carried al n o (y .answer .offset) (y .heap .memory) (x .ledger)))
+
+      -- the ledger carries what the heap does
+      same-carried : (o₁ : ℕ) (m : List ℕ) (y : ℕ) → carried al n o o₁ m (x .ledger) y ≡ carried al n o o₁ m (holding al (T .A) (T .P) h) y
+      same-carried o₁ m y =
+          ap (λ (b : List ℕ). to o₁ (take (min n (length b)) b ++ drop (min n (length b)) (part o₁ (sizeOf al (classOf al n)) m)) (to o [] (x .ledger)) y) (T .tie o)
+          ∙ to-cong o₁ _ (to o [] (x .ledger)) (to o [] (holding al (T .A) (T .P) h)) (to-cong o [] (x .ledger) (holding al (T .A) (T .P) h) (T .tie)) y
+
+      by-room : (lo : 1 ≤ n) (hi : n ≤ 512) (e : live al (T .A) (T .P) (h .books) (h .map) o ≡ true) → keeps (sizeOf al (T .rows .class (block-of L S o e .pool))) n ≡ false
+          → (askAnswer (plainAsk al (T .P) (T .rows) (classOf al n)) .number ≡ 0) ⊎ (plainAsk al (T .P) (T .rows) (classOf al n) ≡ NoRoom) → Q (resize al h o n)
+      by-room lo hi e q (inl z) =
+          rw (resize-moves L S o n lo hi e z q, ne-eqb (askAnswer (plainAsk al (T .P) (T .rows) (classOf al n)) .offset) o (λ u. differ L S o n lo hi e z (sym u))) (
+            (omega arith),
+            leaves T (moved-leaves L S o n lo hi e z) _ (same-carried (askAnswer (plainAsk al (T .P) (T .rows) (classOf al n)) .offset) _),
+          )
+      by-room lo hi e q (inr z) = rw (resize-none L S o n lo hi e q z) (same T 4 refl (omega arith) (x .ledger))
+
+      by-keep : (lo : 1 ≤ n) (hi : n ≤ 512) (e : live al (T .A) (T .P) (h .books) (h .map) o ≡ true) (b : Bool) → keeps (sizeOf al (T .rows .class (block-of L S o e .pool))) n ≡ b → Q (resize al h o n)
+      by-keep lo hi e true q = rw (resize-keeps L S o n lo hi e q, eq-eqb o o refl) ((omega arith), T)
+      by-keep lo hi e false q = by-room lo hi e q (plain-number al (T .P) (T .rows) (classOf al n))
+
+      by-live : (lo : 1 ≤ n) (hi : n ≤ 512) (b : Bool) → live al (T .A) (T .P) (h .books) (h .map) o ≡ b → Q (resize al h o n)
+      by-live lo hi false e = rw (resize-dead L S o n lo hi e) (same T 5 refl (omega arith) (x .ledger))
+      by-live lo hi true e = by-keep lo hi e (keeps (sizeOf al (T .rows .class (block-of L S o e .pool))) n) refl
+
+      by-size : ((1 ≤ n) × (n ≤ 512)) ⊎ (sizeNumber n ≡ 3) → Q (resize al h o n)
+      by-size (inr e) = rw (resize-size L S o n e) (same T 3 refl (omega arith) (x .ledger))
+      by-size (inl t) = by-live (t .0) (t .1) (live al (T .A) (T .P) (h .books) (h .map) o) refl
+
+  -- a fresh heap is tied to the empty ledger
+  fresh-tied : (m : List ℕ) (m₁ : List ℕ) (A P : ℕ) → inRange A P ≡ true → length m ≡ memoryLength A P → ((i : ℕ) → i % 4096 < 48 → at m i ≡ at m₁ i)
+      → Tied al m₁ (record { heap = heapOf m (freshBooks A P) (replicate (mapLength A P) 0); ledger = λ o. [] })
+  fresh-tied m m₁ A P e l f =
+      record { A = A; P = P; rows = fresh A; sound = S; tie = λ o. sym (dead-holding al A P (heapOf m (freshBooks A P) (replicate (mapLength A P) 0)) o (dark o)); first = f }
+    where
+      S : Sound al A P (heapOf m (freshBooks A P) (replicate (mapLength A P) 0)) (fresh A)
+      S = fresh-sound al A P L m e l
+
+      dark : (o : ℕ) → live al A P (freshBooks A P) (replicate (mapLength A P) 0) o ≡ false
+      dark o = pick (live al A P (freshBooks A P) (replicate (mapLength A P) 0) o) refl
+        where
+          pick : (b : Bool) → live al A P (freshBooks A P) (replicate (mapLength A P) 0) o ≡ b → live al A P (freshBooks A P) (replicate (mapLength A P) 0) o ≡ false
+          pick false z = z
+          pick true z = absurd (clash (sym (live-rows L S o z .on)))
+
+  -- a format that is done leaves a fresh heap, and an empty ledger
+  step-format : {x : State} → Tied al m₀ x → (A P : ℕ) → Good al m₀ (numberOf al x (formats A P)) (after al x (formats A P))
+  unfolding numberOf after format fitNumber
+  step-format {x} T A P = go (inRange A P) (exact A P (x .heap)) refl refl
+    where
+      Q : Outcome → Type 0
+      Q y = Good al m₀ (y .answer .number) (noted (y .answer .number) (y .heap) (x .ledger) (λ o. []))
+
+      go : (t u : Bool) → inRange A P ≡ t → exact A P (x .heap) ≡ u
+          → Q (passing (if not t then 1 else if not u then 2 else 0) (λ k. refused k (x .heap)) (done 0 (heapOf (x .heap .memory) (freshBooks A P) (replicate (mapLength A P) 0))))
+      go false u e f = same T 1 refl (omega arith) (x .ledger)
+      go true false e f = same T 2 refl (omega arith) (x .ledger)
+      go true true e f = ((omega arith), fresh-tied (x .heap .memory) m₀ A P e (shaped (x .heap) A P e f .memory) (T .first))
+
+  -- view and roll call never give 6
+  view-number : {x : State} → Tied al m₀ x → (o : ℕ) → viewSize al (x .heap) o .number ≢ 6
+  unfolding viewSize liveNumber
+  view-number {x} T o = rw (shape-zero (T .sound)) (go (live al (arenas (x .heap)) (pools (x .heap)) (x .heap .books) (x .heap .map) o))
+    where
+      go : (b : Bool) → passing (passing (if b then 0 else 5) (λ k. k) 0) (λ k. sizedOf k 0) (sizedOf 0 (blockSize al (x .heap) o)) .number ≢ 6
+      go true = omega arith
+      go false = omega arith
+
+  roll-number : {x : State} → Tied al m₀ x → (words : List ℕ) → rollCall al (x .heap) words .answer .number ≢ 6
+  unfolding rollCall roomNumber
+  roll-number {x} T words = rw (shape-zero (T .sound)) (go (ltb (length words) (length (rollOf al (x .heap)))))
+    where
+      go : (b : Bool) → passing (if b then 7 else 0) (λ k. rollOutcome k 0 words) (rollOutcome 0 (length (rollOf al (x .heap)) / 2) (rollOf al (x .heap) ++ drop (length (rollOf al (x .heap))) words)) .answer .number ≢ 6
+      go true = omega arith
+      go false = omega arith
+
+  -- ---- any event
+  step : {x : State} → Tied al m₀ x → (e : Event) → Good al m₀ (numberOf al x e) (after al x e)
+  unfolding numberOf after
+  step T (formats A P) = step-format T A P
+  step T (asks n) = step-ask T n
+  step T (gives o) = step-give T o
+  step T (resizes o n) = step-resize T o n
+  step {x} T (views o) = (view-number T o, T)
+  step T (writes o text) = step-write T o text
+  step T (rolls words) = (roll-number T words, T)
+  step T (pokes o d v) = step-poke T o d v
+
+  -- every history
+  pub tied : {x : State} → Tied al m₀ x → (es : List Event) → NoSix al x es × Tied al m₀ (run al x es)
+  unfolding run
+  tied T [] = (tt, T)
+  tied T (e ∷ es) = let s = step T e in let t = tied (s .1) es in ((s .0, t .0), t .1)
+
+  -- a first format that is done, over any buffers
+  pub begins-tied : (h : Heap) (A P : ℕ) → format h A P .answer .number ≡ 0 → Tied al (h .memory) (record { heap = format h A P .heap; ledger = λ o. [] })
+  unfolding format fitNumber
+  begins-tied h A P ok = go (inRange A P) (exact A P h) refl refl ok
+    where
+      Q : Outcome → Type 0
+      Q y = y .answer .number ≡ 0 → Tied al (h .memory) (record { heap = y .heap; ledger = λ o. [] })
+
+      go : (t u : Bool) → inRange A P ≡ t → exact A P h ≡ u
+          → Q (passing (if not t then 1 else if not u then 2 else 0) (λ k. refused k h) (done 0 (heapOf (h .memory) (freshBooks A P) (replicate (mapLength A P) 0))))
+      go false u e f z = absurd (omega arith)
+      go true false e f z = absurd (omega arith)
+      go true true e f z = fresh-tied (h .memory) (h .memory) A P e (shaped h A P e f .memory) (λ i u. refl)
+
+pub first-format : {al : ℕ} → Aligned al → (h : Heap) (A P : ℕ) → format h A P .answer .number ≡ 0 → Tied al (h .memory) (record { heap = format h A P .heap; ledger = λ o. [] })
+first-format L h A P ok = begins-tied L (h .memory) h A P ok
