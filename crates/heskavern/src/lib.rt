@@ -1,0 +1,143 @@
+// The calls of 01 for C and Rust: crate heap's calls under names that the archive exports, each with the promise of the call that it passes on.
+// include/heskavern.h declares them. A slice is a pointer and its length in elements there. View is made there from `heskavern_view_size`,
+// since an exported function cannot return a slice.
+ghost use mathlib.Core.Path.{_≡_};
+ghost use Rattle.rules.specs.Outcome.{answerOf, heapOf, outcome};
+ghost use Rattle.rules.specs.Numbers as N;
+ghost use Rattle.rules.specs.Numbers.{rollOutcome, sizedOf};
+
+// What each call answers: 01's number, and the offset, block size or count that stands beside it. The answers of crate heap, in the layout of C.
+#[repr(C)]
+pub struct HeskavernAnswer {
+    pub number: u32,
+    pub value: u32,
+}
+
+// Format.
+#[no_mangle]
+pub extern "C" fn heskavern_format(
+    memory: &[u8],
+    books: &mut [u32],
+    map: &mut [u64],
+    arenas: usize,
+    pools: usize,
+) -> HeskavernAnswer
+    ensures { λ r. ⌜ outcome (answerOf (r .number) (r .value)) (heapOf (now (memory .exit)) (now (books .exit)) (now (map .exit)))
+        ≡ N.format (heapOf (now (memory .entry)) (now (books .entry)) (now (map .entry))) arenas pools ⌝ }
+{
+    let answer = heap::format(memory, books, map, arenas, pools);
+    HeskavernAnswer {
+        number: answer.number,
+        value: answer.offset,
+    }
+}
+
+// Ask.
+#[no_mangle]
+pub extern "C" fn heskavern_ask(
+    memory: &mut [u8],
+    books: &mut [u32],
+    map: &mut [u64],
+    size: usize,
+) -> HeskavernAnswer
+    ensures { λ r. ⌜ outcome (answerOf (r .number) (r .value)) (heapOf (now (memory .exit)) (now (books .exit)) (now (map .exit)))
+        ≡ N.ask 8 (heapOf (now (memory .entry)) (now (books .entry)) (now (map .entry))) size ⌝ }
+{
+    let answer = heap::ask(memory, books, map, size);
+    HeskavernAnswer {
+        number: answer.number,
+        value: answer.offset,
+    }
+}
+
+// Give back.
+#[no_mangle]
+pub extern "C" fn heskavern_give_back(
+    memory: &mut [u8],
+    books: &mut [u32],
+    map: &mut [u64],
+    offset: usize,
+) -> HeskavernAnswer
+    ensures { λ r. ⌜ outcome (answerOf (r .number) (r .value)) (heapOf (now (memory .exit)) (now (books .exit)) (now (map .exit)))
+        ≡ N.giveBack 8 (heapOf (now (memory .entry)) (now (books .entry)) (now (map .entry))) offset ⌝ }
+{
+    let answer = heap::give_back(memory, books, map, offset);
+    HeskavernAnswer {
+        number: answer.number,
+        value: answer.offset,
+    }
+}
+
+// Resize.
+#[no_mangle]
+pub extern "C" fn heskavern_resize(
+    memory: &mut [u8],
+    books: &mut [u32],
+    map: &mut [u64],
+    offset: usize,
+    size: usize,
+) -> HeskavernAnswer
+    ensures { λ r. ⌜ outcome (answerOf (r .number) (r .value)) (heapOf (now (memory .exit)) (now (books .exit)) (now (map .exit)))
+        ≡ N.resize 8 (heapOf (now (memory .entry)) (now (books .entry)) (now (map .entry))) offset size ⌝ }
+{
+    let answer = heap::resize(memory, books, map, offset, size);
+    HeskavernAnswer {
+        number: answer.number,
+        value: answer.offset,
+    }
+}
+
+// View's companion: its number and, when done, the block size.
+#[no_mangle]
+pub extern "C" fn heskavern_view_size(
+    memory: &[u8],
+    books: &[u32],
+    map: &[u64],
+    offset: usize,
+) -> HeskavernAnswer
+    ensures { λ r. ⌜ sizedOf (r .number) (r .value)
+        ≡ N.viewSize 8 (heapOf (now (memory .entry)) (now (books .entry)) (now (map .entry))) offset ⌝ }
+{
+    let sized = heap::view_size(memory, books, map, offset);
+    HeskavernAnswer {
+        number: sized.number,
+        value: sized.size,
+    }
+}
+
+// Write.
+#[no_mangle]
+pub extern "C" fn heskavern_write(
+    memory: &mut [u8],
+    books: &[u32],
+    map: &[u64],
+    offset: usize,
+    text: &[u8],
+) -> HeskavernAnswer
+    ensures { λ r. ⌜ outcome (answerOf (r .number) (r .value)) (heapOf (now (memory .exit)) (now (books .exit)) (now (map .exit)))
+        ≡ N.write 8 (heapOf (now (memory .entry)) (now (books .entry)) (now (map .entry))) offset (now (text .entry)) ⌝ }
+{
+    let answer = heap::write(memory, books, map, offset, text);
+    HeskavernAnswer {
+        number: answer.number,
+        value: answer.offset,
+    }
+}
+
+// Roll call: its number and, when done, how many blocks are live.
+#[no_mangle]
+pub extern "C" fn heskavern_roll_call(
+    memory: &[u8],
+    books: &[u32],
+    map: &[u64],
+    roll: &mut [u32],
+) -> HeskavernAnswer
+    ensures { λ r. ⌜ rollOutcome (r .number) (r .value) (now (roll .exit))
+        ≡ N.rollCall 8 (heapOf (now (memory .entry)) (now (books .entry)) (now (map .entry))) (now (roll .entry)) ⌝ }
+{
+    let rolled = heap::roll_call(memory, books, map, roll);
+    HeskavernAnswer {
+        number: rolled.number,
+        value: rolled.count,
+    }
+}

@@ -1,0 +1,374 @@
+/* The cases of 01, run through heskavern.h: K1 to K10, the fills, the moves, and each number from 0 to 7. C99, and C++ too. */
+#include <stdio.h>
+#include <stdlib.h>
+#include <string.h>
+#include "heskavern.h"
+
+/* The buffers are as large as the largest heap needs, and GUARD elements more, which no call may touch. */
+enum { A = 16, P = 64, GUARD = 8, FILL = 0xA5 };
+
+static uint8_t memory[HESKAVERN_MEMORY_BYTES(A, P) + GUARD];
+static uint32_t books[HESKAVERN_BOOKS_WORDS(A, P) + GUARD];
+static uint64_t map[HESKAVERN_MAP_WORDS(A, P) + GUARD];
+static uint32_t roll[HESKAVERN_ROLL_WORDS(A, P) + GUARD];
+static uint8_t memory_before[sizeof memory];
+static uint32_t books_before[sizeof books / sizeof *books];
+static uint64_t map_before[sizeof map / sizeof *map];
+
+/* the lengths that are lent, and the calls over them */
+static size_t memory_bytes, books_words, map_words;
+#define HEAP memory, memory_bytes, books, books_words, map, map_words
+#define FORMAT(a, p) heskavern_format(HEAP, a, p)
+#define ASK(n) heskavern_ask(HEAP, n)
+#define GIVE_BACK(o) heskavern_give_back(HEAP, o)
+#define RESIZE(o, n) heskavern_resize(HEAP, o, n)
+#define VIEW_SIZE(o) heskavern_view_size(HEAP, o)
+#define WRITE(o, text, n) heskavern_write(HEAP, o, text, n)
+#define ROLL_CALL(n) heskavern_roll_call(HEAP, roll, n)
+
+static unsigned long facts;
+
+#define EXPECT(fact) expect(fact, #fact, __LINE__)
+static void expect(int fact, const char *words, int line)
+{
+    facts++;
+    if (!fact) {
+        printf("cases.c:%d: not so: %s\n", line, words);
+        exit(1);
+    }
+}
+
+static int is(heskavern_answer answer, uint32_t number, uint32_t value)
+{
+    return answer.number == number && answer.value == value;
+}
+
+static int done(heskavern_answer answer, uint32_t value) { return is(answer, HESKAVERN_DONE, value); }
+
+static void lend(size_t arenas, size_t pools)
+{
+    memory_bytes = HESKAVERN_MEMORY_BYTES(arenas, pools);
+    books_words = HESKAVERN_BOOKS_WORDS(arenas, pools);
+    map_words = HESKAVERN_MAP_WORDS(arenas, pools);
+}
+
+/* A fresh heap over buffers that held something else. */
+static void fresh(size_t arenas, size_t pools)
+{
+    memset(memory, FILL, sizeof memory);
+    memset(books, FILL, sizeof books);
+    memset(map, FILL, sizeof map);
+    memset(roll, FILL, sizeof roll);
+    lend(arenas, pools);
+    EXPECT(done(FORMAT(arenas, pools), 0));
+}
+
+/* A word of a pool record, by its place there. */
+enum { COUNT = 0, FREEBLOCK = 1, CLASS = 4, NEXTOFFSET = 5, MAXNEXTOFFSET = 6 };
+static uint32_t *pool_word(size_t pool, size_t place) { return &books[72 + 8 * books[0] + 8 * pool + place]; }
+
+static void remember(void)
+{
+    memcpy(memory_before, memory, sizeof memory);
+    memcpy(books_before, books, sizeof books);
+    memcpy(map_before, map, sizeof map);
+}
+
+static int unchanged(void)
+{
+    return memcmp(memory_before, memory, sizeof memory) == 0 && memcmp(books_before, books, sizeof books) == 0
+        && memcmp(map_before, map, sizeof map) == 0;
+}
+
+static int filled(const void *from, size_t bytes)
+{
+    const uint8_t *at = (const uint8_t *)from;
+    while (bytes > 0 && *at == FILL) {
+        at++;
+        bytes--;
+    }
+    return bytes == 0;
+}
+
+/* Nothing past the lent lengths is touched, nor the first 48 bytes of a pool. */
+static void expect_untouched(void)
+{
+    size_t pool = 0;
+    EXPECT(filled(memory + memory_bytes, GUARD));
+    EXPECT(filled(books + books_words, GUARD * sizeof *books));
+    EXPECT(filled(map + map_words, GUARD * sizeof *map));
+    while (pool < memory_bytes / 4096 && filled(memory + 4096 * pool, 48))
+        pool++;
+    EXPECT(pool == memory_bytes / 4096);
+}
+
+static void k1_to_k3(void)
+{
+    fresh(1, 16);
+    EXPECT(done(ASK(1), 48));
+    EXPECT(*pool_word(0, FREEBLOCK) == 56 && *pool_word(0, NEXTOFFSET) == 64 && *pool_word(0, MAXNEXTOFFSET) == 4088);
+    fresh(1, 16);
+    EXPECT(done(ASK(1), 48));
+    EXPECT(done(ASK(8), 56));
+    EXPECT(*pool_word(0, FREEBLOCK) == 64 && *pool_word(0, NEXTOFFSET) == 72);
+    fresh(1, 16);
+    EXPECT(done(ASK(1), 48));
+    EXPECT(done(ASK(1), 56));
+    EXPECT(done(GIVE_BACK(48), 48));
+    EXPECT(done(ASK(8), 48));
+    expect_untouched();
+}
+
+static void k4_to_k6(void)
+{
+    fresh(1, 16);
+    EXPECT(done(ASK(8), 48));
+    EXPECT(done(ASK(9), 4144));
+    fresh(1, 16);
+    EXPECT(done(ASK(1), 48));
+    EXPECT(done(ASK(1), 56));
+    EXPECT(done(ASK(9), 4144));
+    EXPECT(done(GIVE_BACK(48), 48));
+    EXPECT(done(GIVE_BACK(56), 56));
+    EXPECT(done(ASK(8), 56));
+    fresh(1, 16);
+    EXPECT(done(ASK(1), 48));
+    EXPECT(done(ASK(9), 4144));
+    EXPECT(done(GIVE_BACK(48), 48));
+    EXPECT(done(ASK(17), 48));
+    expect_untouched();
+}
+
+static void k7_to_k10(void)
+{
+    fresh(1, 16);
+    EXPECT(is(ASK(0), HESKAVERN_BAD_SIZE, 0));
+    EXPECT(is(ASK(513), HESKAVERN_BAD_SIZE, 0));
+    EXPECT(done(ASK(512), 48));
+    EXPECT(*pool_word(0, MAXNEXTOFFSET) == 3584);
+    fresh(1, 16);
+    EXPECT(done(ASK(100), 48));
+    EXPECT(done(VIEW_SIZE(48), 104));
+    EXPECT(done(RESIZE(48, 79), 48));
+    EXPECT(done(RESIZE(48, 78), 4144));
+    fresh(1, 16);
+    EXPECT(done(ASK(8), 48));
+    EXPECT(done(RESIZE(48, 6), 56));
+    EXPECT(done(RESIZE(56, 7), 56));
+    fresh(1, 16);
+    EXPECT(done(ASK(1), 48));
+    EXPECT(is(GIVE_BACK(52), HESKAVERN_NOT_LIVE, 0));
+    EXPECT(is(GIVE_BACK(0), HESKAVERN_NOT_LIVE, 0));
+    EXPECT(is(GIVE_BACK(65536), HESKAVERN_NOT_LIVE, 0));
+    EXPECT(is(GIVE_BACK((size_t)-1), HESKAVERN_NOT_LIVE, 0));
+    EXPECT(done(GIVE_BACK(48), 48));
+    EXPECT(is(GIVE_BACK(48), HESKAVERN_NOT_LIVE, 0));
+    expect_untouched();
+}
+
+/* The answer to the n-th ask of 8 bytes, from 1, on a heap that is filled with them: a pool holds 506. */
+static uint32_t nth_of_8(uint32_t n) { return (n - 1) / 506 * 4096 + 48 + 8 * ((n - 1) % 506); }
+
+/* Asks for 8 bytes, n times on a fresh heap, and says whether each is served as it should be. */
+static int serves_of_8(uint32_t n)
+{
+    uint32_t i = 1;
+    while (i <= n && done(ASK(8), nth_of_8(i)))
+        i++;
+    return i == n + 1;
+}
+
+static void fill_with_8(void)
+{
+    uint32_t n = 1;
+    EXPECT(nth_of_8(506) == 4088 && nth_of_8(507) == 4144 && nth_of_8(1012) == 8184);
+    fresh(1, 2);
+    EXPECT(serves_of_8(1012));
+    while (n <= 1012 && is(ASK(8), HESKAVERN_NO_ROOM, 0) && done(GIVE_BACK(nth_of_8(n)), nth_of_8(n)) && done(ASK(8), nth_of_8(n)))
+        n++;
+    EXPECT(n == 1013);
+    expect_untouched();
+}
+
+static void fill_with_512(void)
+{
+    uint32_t n;
+    fresh(1, 2);
+    for (n = 1; n <= 14; n++)
+        EXPECT(done(ASK(512), (n - 1) / 7 * 4096 + 48 + 512 * ((n - 1) % 7)));
+    EXPECT(done(VIEW_SIZE(3120), 512));
+    EXPECT(is(ASK(512), HESKAVERN_NO_ROOM, 0));
+    EXPECT(is(VIEW_SIZE(3632), HESKAVERN_NOT_LIVE, 0));
+    expect_untouched();
+}
+
+static void moves(void)
+{
+    uint8_t text[104];
+    heskavern_answer moved;
+    size_t i;
+    for (i = 0; i < sizeof text; i++)
+        text[i] = (uint8_t)i;
+    fresh(1, 16);
+    EXPECT(done(ASK(104), 48));
+    EXPECT(done(WRITE(48, text, sizeof text), 48));
+    remember();
+    EXPECT(done(RESIZE(48, 104), 48));
+    EXPECT(unchanged());
+    moved = RESIZE(48, 105);
+    EXPECT(done(moved, 4144));
+    EXPECT(done(VIEW_SIZE(moved.value), 112));
+    EXPECT(memcmp(memory + moved.value, text, sizeof text) == 0);
+    EXPECT(is(VIEW_SIZE(48), HESKAVERN_NOT_LIVE, 0));
+    EXPECT(is(RESIZE(48, 0), HESKAVERN_BAD_SIZE, 0));
+    EXPECT(is(RESIZE(48, 1), HESKAVERN_NOT_LIVE, 0));
+    expect_untouched();
+}
+
+static void view_and_write(void)
+{
+    heskavern_part part;
+    fresh(1, 2);
+    EXPECT(done(ASK(12), 48));
+    EXPECT(done(WRITE(48, "payee", 5), 48));
+    part = heskavern_view(HEAP, 48);
+    EXPECT(part.bytes == memory + 48 && part.size == 16);
+    EXPECT(memcmp(part.bytes, "payee", 5) == 0 && filled(part.bytes + 5, 11));
+    EXPECT(done(WRITE(48, "", 0), 48));
+    EXPECT(done(WRITE(48, "sixteen letters.", 16), 48));
+    remember();
+    EXPECT(is(WRITE(48, "seventeen letters", 17), HESKAVERN_DOES_NOT_FIT, 0));
+    EXPECT(is(WRITE(64, "no", 2), HESKAVERN_NOT_LIVE, 0));
+    EXPECT(is(VIEW_SIZE(64), HESKAVERN_NOT_LIVE, 0));
+    part = heskavern_view(HEAP, 64);
+    EXPECT(part.bytes == memory && part.size == 0);
+    EXPECT(unchanged());
+    expect_untouched();
+}
+
+static void roll_calls(void)
+{
+    fresh(2, 2);
+    EXPECT(done(ROLL_CALL(0), 0));
+    EXPECT(done(ASK(300), 48));
+    EXPECT(done(ASK(8), 4144));
+    EXPECT(done(ASK(8), 4152));
+    EXPECT(done(ASK(16), 8240));
+    EXPECT(done(GIVE_BACK(4144), 4144));
+    remember();
+    EXPECT(is(ROLL_CALL(5), HESKAVERN_DOES_NOT_FIT, 0));
+    EXPECT(filled(roll, sizeof roll));
+    EXPECT(done(ROLL_CALL(6), 3));
+    EXPECT(roll[0] == 48 && roll[1] == 304 && roll[2] == 4152 && roll[3] == 8 && roll[4] == 8240 && roll[5] == 16);
+    EXPECT(filled(roll + 6, sizeof roll - 6 * sizeof *roll));
+    EXPECT(unchanged());
+    expect_untouched();
+}
+
+/* The largest heap, filled: the roll's macro gives the words that are needed, and not one more. */
+static void largest(void)
+{
+    const uint32_t blocks = 506 * A * P;
+    uint32_t n = 1;
+    fresh(A, P);
+    EXPECT(serves_of_8(blocks));
+    EXPECT(is(ASK(8), HESKAVERN_NO_ROOM, 0));
+    EXPECT(is(ROLL_CALL(HESKAVERN_ROLL_WORDS(A, P) - 1), HESKAVERN_DOES_NOT_FIT, 0));
+    EXPECT(done(ROLL_CALL(HESKAVERN_ROLL_WORDS(A, P)), blocks));
+    while (n <= blocks && roll[2 * n - 2] == nth_of_8(n) && roll[2 * n - 1] == 8)
+        n++;
+    EXPECT(n == blocks + 1);
+    EXPECT(filled(roll + HESKAVERN_ROLL_WORDS(A, P), GUARD * sizeof *roll));
+    expect_untouched();
+}
+
+/* Every call answers this number over the buffers as they are lent, and nothing changes. The sizes and offsets are good ones. */
+static void expect_refused(uint32_t number)
+{
+    remember();
+    EXPECT(is(ASK(8), number, 0));
+    EXPECT(is(GIVE_BACK(48), number, 0));
+    EXPECT(is(RESIZE(48, 100), number, 0));
+    EXPECT(is(VIEW_SIZE(48), number, 0));
+    EXPECT(heskavern_view(HEAP, 48).size == 0);
+    EXPECT(is(WRITE(48, "owed", 4), number, 0));
+    EXPECT(is(ROLL_CALL(100), number, 0));
+    EXPECT(unchanged());
+    EXPECT(filled(roll, sizeof roll));
+}
+
+static void wrong_shapes(void)
+{
+    static const size_t shapes[][2] = {{0, 2}, {17, 2}, {1, 1}, {1, 65}, {(size_t)-1, (size_t)-1}};
+    size_t i;
+    for (i = 0; i < sizeof shapes / sizeof *shapes; i++) {
+        fresh(1, 2);
+        EXPECT(done(ASK(8), 48));
+        remember();
+        EXPECT(is(FORMAT(shapes[i][0], shapes[i][1]), HESKAVERN_OUT_OF_RANGE, 0));
+        EXPECT(unchanged());
+        books[0] = (uint32_t)shapes[i][0];
+        books[1] = (uint32_t)shapes[i][1];
+        expect_refused(HESKAVERN_OUT_OF_RANGE);
+    }
+}
+
+static void wrong_lengths(void)
+{
+    size_t *const lengths[] = {&memory_bytes, &books_words, &map_words};
+    size_t i;
+    fresh(1, 2);
+    EXPECT(done(ASK(8), 48));
+    for (i = 0; i < 6; i++) {
+        lend(1, 2);
+        *lengths[i / 2] += i % 2 ? 1 : (size_t)-1;
+        EXPECT(is(FORMAT(1, 2), HESKAVERN_NOT_EXACT, 0));
+        expect_refused(HESKAVERN_NOT_EXACT);
+    }
+    lend(1, 2);
+    books_words = 1;
+    books[0] = 0;
+    EXPECT(is(FORMAT(1, 2), HESKAVERN_NOT_EXACT, 0));
+    expect_refused(HESKAVERN_NOT_EXACT);
+}
+
+static void damaged(void)
+{
+    fresh(1, 16);
+    EXPECT(done(ASK(8), 48));
+    books[4] = 17; /* the class head, above the pools that there are */
+    remember();
+    EXPECT(is(ASK(8), HESKAVERN_DAMAGED, 0));
+    EXPECT(unchanged());
+    books[4] = 1;
+    EXPECT(done(WRITE(48, "owed", 4), 48));
+    *pool_word(0, COUNT) = 0; /* so that no block can be given back there */
+    remember();
+    EXPECT(is(GIVE_BACK(48), HESKAVERN_DAMAGED, 0));
+    EXPECT(unchanged());
+    EXPECT(is(RESIZE(48, 100), HESKAVERN_DAMAGED, 4144)); /* half done */
+    EXPECT(memcmp(memory + 4144, "owed", 4) == 0);
+    EXPECT(done(ROLL_CALL(4), 2));
+    EXPECT(roll[0] == 48 && roll[1] == 8 && roll[2] == 4144 && roll[3] == 104);
+    *pool_word(0, CLASS) = 64;
+    EXPECT(is(VIEW_SIZE(48), HESKAVERN_NOT_LIVE, 0));
+    expect_untouched();
+}
+
+int main(void)
+{
+    k1_to_k3();
+    k4_to_k6();
+    k7_to_k10();
+    fill_with_8();
+    fill_with_512();
+    moves();
+    view_and_write();
+    roll_calls();
+    largest();
+    wrong_shapes();
+    wrong_lengths();
+    damaged();
+    printf("%lu facts\n", facts);
+    return 0;
+}
