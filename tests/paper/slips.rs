@@ -256,6 +256,10 @@ pub const TIRED: &[Slip] = &[
         "let block = heap.live(offset)?;
             asked(size)?;",
     ),
+    slip("17 arenas will do", Some("order"), "(1..=16).contains(&arenas)", "(1..=17).contains(&arenas)"),
+    slip("an arena of one pool will do", Some("order"), "(2..=64).contains(&pools)", "(1..=64).contains(&pools)"),
+    slip("an arena of 65 pools will do", Some("order"), "(2..=64).contains(&pools)", "(2..=65).contains(&pools)"),
+    slip("513 bytes will do", Some("K7"), "(1..=512).contains(&size)", "(1..=513).contains(&size)"),
     slip("a link to the last member is 6", None, "link <= most", "link < most"),
     slip("an ask takes a count of 506", None, "count <= 505", "count <= 506"),
     slip("a give-back refuses a count of 506", None, "count <= 506", "count <= 505"),

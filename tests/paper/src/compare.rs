@@ -1,6 +1,7 @@
 //! Two programs, the same steps: number, value, view's part and every byte and word of every buffer after every call.
 
 use std::fmt;
+use std::time::{Duration, Instant};
 
 use crate::damage::Source;
 use crate::steps::{in_words, word_name, Buffers, Call, Outcome, Step};
@@ -140,8 +141,8 @@ pub fn compare(
     Ok(())
 }
 
-/// A shortest sequence is looked for with at most this many replays.
-const REPLAYS: usize = 4000;
+/// A shorter sequence is looked for during this time.
+const PATIENCE: Duration = Duration::from_secs(20);
 
 impl Difference {
     /// The place of the first step after which the sides differ, if they do.
@@ -152,13 +153,12 @@ impl Difference {
 
     /// Drops steps, many at a time and then one by one, while a difference remains.
     pub fn shorten(&mut self, left: &mut dyn Calls, right: &mut dyn Calls) {
-        let mut replays = 0;
+        let begun = Instant::now();
         let mut many = self.steps.len() / 2;
         while many > 0 {
             let before = self.steps.len();
             let mut from = 0;
-            while from < self.steps.len() && replays < REPLAYS {
-                replays += 1;
+            while from < self.steps.len() && begun.elapsed() < PATIENCE {
                 let mut fewer = self.steps.clone();
                 fewer.drain(from..(from + many).min(fewer.len()));
                 match self.replay(left, right, &fewer) {
@@ -169,8 +169,9 @@ impl Difference {
                     None => from += many,
                 }
             }
-            let dropped = self.steps.len() < before && replays < REPLAYS;
-            many = if many == 1 { usize::from(dropped) } else { many / 2 };
+            // the last round, one by one, is over once it drops nothing
+            let again = many == 1 && self.steps.len() < before && begun.elapsed() < PATIENCE;
+            many = if again { 1 } else { many / 2 };
         }
     }
 

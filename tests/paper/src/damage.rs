@@ -377,7 +377,9 @@ impl Source {
             _ => self.rng.below(lengths(self.arenas, self.pools)[1]),
         };
         let old = heap.books[at];
-        (Step::Word(at, self.edge(old)), Step::Word(at, old))
+        let limits = [0, 1, 2, 16, 17, 64, 65, u32::MAX];
+        let new = if at < 2 { self.rng.pick(&limits) } else { self.edge(old) };
+        (Step::Word(at, new), Step::Word(at, old))
     }
 
     /// The link of a freed block: the one at freeblock, or the one after it.

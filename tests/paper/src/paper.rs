@@ -239,6 +239,7 @@ impl Heap<'_> {
         outcome
     }
 
+    /// Notes a path for those who count them; no step depends on it.
     fn walk(&mut self, path: Path) {
         self.trail.paths.push(path);
     }

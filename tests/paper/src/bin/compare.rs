@@ -7,7 +7,7 @@ use heskavern_paper::compare::{compare, Tally};
 use heskavern_paper::{Calls, Paper};
 
 const USAGE: &str = "usage: compare [--seed N] [--calls N] [--coverage [--least N]]
-  --seed N      the seed of the first heap (1)
+  --seed N      the seed of the first heap (1); a difference names the seed of its heap
   --calls N     at least this many calls (3000000)
   --coverage    make the calls of the paper alone and print how often each number, path and rule was met
   --least N     with --coverage: fail where a path or rule was met fewer times (0)";
