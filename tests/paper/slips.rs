@@ -1,0 +1,341 @@
+// Small changes to src/paper.rs, one at a time: the slips that 01 names, the other reading of each place that leaves
+// room, and the slips of a tired hand. The build makes a program of each, and tests/broken.rs shows that it is found.
+
+// the build reads the texts, the tests the rest
+#[allow(dead_code)]
+pub struct Slip {
+    pub name: &'static str,
+    /// How the name of a case begins that fails on it as well.
+    pub case: Option<&'static str>,
+    /// Stands in src/paper.rs exactly once.
+    pub old: &'static str,
+    pub new: &'static str,
+}
+
+const fn slip(name: &'static str, case: Option<&'static str>, old: &'static str, new: &'static str) -> Slip {
+    Slip { name, case, old, new }
+}
+
+/// The slips that 01 names.
+pub const NAMED: &[Slip] = &[
+    slip(
+        "all blocks of a new pool are linked at once",
+        Some("K2"),
+        "self.write_link(pool, HEADER + size, 0);",
+        "let blocks = (POOL - HEADER) / size;
+         for k in 1..blocks {
+             self.write_link(pool, HEADER + k * size, if k + 1 < blocks { HEADER + (k + 1) * size } else { 0 });
+         }
+         self.put(self.pool(pool, NEXTOFFSET), HEADER + blocks * size);",
+    ),
+    slip("a freed pool that keeps its class is reset", Some("K5"), "if had == class {", "if had == 1 << 20 {"),
+    slip(
+        "a move is skipped because the class is the same",
+        Some("K9"),
+        "if n <= s && 4 * n > 3 * s {",
+        "if class_of(n) == block.class || n <= s && 4 * n > 3 * s {",
+    ),
+    slip(
+        "a start counts although its block runs past the pool",
+        Some("R17:"),
+        "start <= POOL - size",
+        "start <= POOL - 8",
+    ),
+    slip(
+        "the old block is given back before the new one is asked for",
+        Some("refused resize"),
+        "let new = self.step(|heap| heap.ask(n))?;",
+        "self.step(|heap| heap.give_back(offset, block))?;
+         let new = self.step(|heap| heap.ask(n))?;",
+    ),
+];
+
+/// The other reading of each place that leaves room.
+pub const READINGS: &[Slip] = &[
+    slip(
+        "format on books of under two words is 2",
+        Some("R1:"),
+        "    fits(&lent, arenas, pools)?;
+    lent.map.fill(0);",
+        "    if lent.books.len() < 2 { return refuse(2); }
+    fits(&lent, arenas, pools)?;
+    lent.map.fill(0);",
+    ),
+    slip(
+        "leaving a list reads the head",
+        Some("R2:"),
+        "None => self.put(list.head, link_to(next)),",
+        "None => {
+            self.follow(list.head, list.most, rules[0])?;
+            self.put(list.head, link_to(next))
+        }",
+    ),
+    slip(
+        "joining a list takes a bad head for none",
+        Some("R3:"),
+        "let old = self.follow(list.head, list.most, rule)?;",
+        "let old = self.read(list.head).checked_sub(1).filter(|old| *old < list.most);",
+    ),
+    slip(
+        "the front member's previous is not used",
+        Some("R4:"),
+        "match previous {",
+        "match previous.filter(|_| self.read(list.head) != member + 1) {",
+    ),
+    slip(
+        "opening an arena zeroes words 6 and 7",
+        Some("R5:"),
+        "self.put(self.arena(arena, OPEN), 1);",
+        "self.put(self.arena(arena, OPEN), 1);
+         self.put(self.arena(arena, 6), 0);
+         self.put(self.arena(arena, 7), 0);",
+    ),
+    slip("a release leaves words 6 and 7", Some("R5:"), "for word in 0..RECORD {", "for word in 0..6 {"),
+    slip(
+        "a freeblock whose link is itself is 6",
+        Some("R6:"),
+        "if link != 0 {",
+        "self.rule(link != start, rules[4])?;
+         if link != 0 {",
+    ),
+    slip(
+        "a nextoffset equal to the block handed out is 6",
+        Some("R6:"),
+        "self.walk(Path::MakeReady);",
+        "self.rule(nextoffset != start, Rule::ReadyLive)?;",
+    ),
+    slip("a full pool whose count falls to 0 is freed", Some("R7:"), "if old == 0 {", "if old == 0 && count != 1 {"),
+    slip(
+        "a give-back tests freeblock's bit",
+        Some("R8:"),
+        "old == 0 || block_at(class, old).is_some()",
+        "old == 0 || block_at(class, old).is_some_and(|k| !self.bit(pool, k))",
+    ),
+    slip(
+        "the copied bytes are those before the ask",
+        Some("R9:"),
+        "let new = self.step(|heap| heap.ask(n))?;
+        self.lent.memory.copy_within(offset..offset + n.min(s), new);",
+        "let text = self.lent.memory[offset..offset + n.min(s)].to_vec();
+        let new = self.step(|heap| heap.ask(n))?;
+        self.lent.memory[new..new + text.len()].copy_from_slice(&text);",
+    ),
+    slip(
+        "a resize gives back by the class before its ask",
+        Some("R10:"),
+        "self.live(offset).and_then(|block| self.step(|heap| heap.give_back(offset, block)));",
+        "self.step(|heap| heap.give_back(offset, block));",
+    ),
+    slip(
+        "an ask holds count against the blocks of its class",
+        Some("R11:"),
+        "count <= 505",
+        "count < (POOL - HEADER) / size",
+    ),
+    slip(
+        "a give-back holds count against the blocks of its class",
+        Some("R11:"),
+        "count <= 506",
+        "count <= (POOL - HEADER) / block_size(class)",
+    ),
+    slip(
+        "a freed pool must lie in its arena",
+        Some("R12:"),
+        "self.walk(Path::FreedPool);",
+        "self.rule(freed / self.pools == arena, Rule::FreedHead)?;",
+    ),
+    slip(
+        "a usable arena must be open",
+        Some("R12:"),
+        "let freed_head = self.arena(arena, FREED_HEAD);
+        let pool",
+        "let freed_head = self.arena(arena, FREED_HEAD);
+        self.rule(self.read(self.arena(arena, OPEN)) == 1, Rule::UsableHead)?;
+        let pool",
+    ),
+    slip(
+        "a freed pool that keeps its class leaves the list when its link is 0",
+        Some("R13:"),
+        "self.walk(if last { Path::SameClassLast } else { Path::SameClass });",
+        "if last { self.put(CLASSES + class, 0); }",
+    ),
+    slip(
+        "a freed pool that keeps its class has its maxnextoffset tested",
+        Some("R13:"),
+        "if had == class {",
+        "if had == class {
+             self.rule(self.read(self.pool(pool, MAXNEXTOFFSET)) == POOL - block_size(class), Rule::FrontMaximum)?;",
+    ),
+    slip(
+        "nextoffset is tested where there is a link as well",
+        Some("R14:"),
+        "self.walk(Path::FollowLink);",
+        "let nextoffset = self.read(self.pool(pool, NEXTOFFSET));
+         self.rule(nextoffset > POOL - size || block_at(class, nextoffset).is_some(), Rule::ReadyNoStart)?;",
+    ),
+    slip(
+        "a nextoffset above maxnextoffset must be where blocks end",
+        Some("R14:"),
+        "self.walk(Path::LastBlock);",
+        "self.rule(nextoffset == HEADER + (POOL - HEADER) / size * size, Rule::ReadyNoStart)?;",
+    ),
+    slip(
+        "a pool set to a class has every bit tested",
+        Some("R15:"),
+        "self.rule(!self.bit(pool, 1), Rule::SecondLive)?;",
+        "self.rule((1..(POOL - HEADER) / size).all(|k| !self.bit(pool, k)), Rule::SecondLive)?;",
+    ),
+    slip(
+        "a resize that keeps its offset tests the count",
+        Some("R16:"),
+        "self.walk(Path::Kept);",
+        "self.rule(self.read(self.pool(block.pool, COUNT)) != 0, Rule::BackCountNone)?;",
+    ),
+    slip(
+        "a class above 63 is 6",
+        Some("R17:"),
+        "if class > 63 {
+            return refuse(5);",
+        "if class > 63 {
+            return refuse(6);",
+    ),
+    slip(
+        "the roll lists bits past the last block",
+        Some("R17:"),
+        "for k in (0..(POOL - HEADER) / size)",
+        "for k in (0..POOL / size)",
+    ),
+    slip(
+        "an empty text is 7",
+        Some("R22:"),
+        "text.len() > block.size()",
+        "text.is_empty() || text.len() > block.size()",
+    ),
+    slip(
+        "an empty roll is 7",
+        Some("R22:"),
+        "roll.len() < 2 * blocks.len()",
+        "roll.is_empty() || roll.len() < 2 * blocks.len()",
+    ),
+    slip("P is cut to 32 bits", Some("R23:"), "contains(&pools)", "contains(&(pools as u32 as usize))"),
+    slip(
+        "an offset is cut to 32 bits",
+        Some("R23:"),
+        "Ok(heap.live(offset)?.size())",
+        "Ok(heap.live(offset as u32 as usize)?.size())",
+    ),
+    slip(
+        "a returning pool doesn't test the freed-pool head",
+        Some("a returning pool"),
+        "self.follow(freed_head, self.all_pools(), Rule::BackFreedHead)?;",
+        "self.read(freed_head).checked_sub(1);",
+    ),
+];
+
+/// The slips of a tired hand.
+pub const TIRED: &[Slip] = &[
+    slip(
+        "a refused step is not undone",
+        None,
+        "if outcome.is_err() {",
+        "if outcome.is_err() && self.notes.is_empty() {",
+    ),
+    slip(
+        "a refused step is undone first to last",
+        None,
+        "while let Some(was) = self.notes.pop() {",
+        "for was in std::mem::take(self.notes) {",
+    ),
+    slip("books of under two words are 1", Some("order"), "return refuse(2);", "return refuse(1);"),
+    slip("a map that is too long is taken", None, "lent.map.len() == 8 * all", "lent.map.len() >= 8 * all"),
+    slip(
+        "resize tests its offset before its size",
+        Some("dead offset"),
+        "asked(size)?;
+            let block = heap.live(offset)?;",
+        "let block = heap.live(offset)?;
+            asked(size)?;",
+    ),
+    slip("17 arenas will do", Some("order"), "(1..=16).contains(&arenas)", "(1..=17).contains(&arenas)"),
+    slip("an arena of one pool will do", Some("order"), "(2..=64).contains(&pools)", "(1..=64).contains(&pools)"),
+    slip("an arena of 65 pools will do", Some("order"), "(2..=64).contains(&pools)", "(2..=65).contains(&pools)"),
+    slip("513 bytes will do", Some("K7"), "(1..=512).contains(&size)", "(1..=513).contains(&size)"),
+    slip("a link to the last member is 6", None, "link <= most", "link < most"),
+    slip("an ask takes a count of 506", None, "count <= 505", "count <= 506"),
+    slip("a give-back refuses a count of 506", None, "count <= 506", "count <= 505"),
+    slip("any class will do for the front pool", None, "== class, Rule::FrontClass", "<= 63, Rule::FrontClass"),
+    slip(
+        "maxnextoffset may be lower",
+        None,
+        "== POOL - size, Rule::FrontMaximum",
+        "<= POOL - size, Rule::FrontMaximum",
+    ),
+    slip("the last pool is not carved", None, "mark < self.pools", "mark + 1 < self.pools"),
+    slip(
+        "P + 1 free pools will do when taking",
+        None,
+        "free <= self.pools, Rule::M",
+        "free <= self.pools + 1, Rule::M",
+    ),
+    slip(
+        "P free pools will do when one returns",
+        None,
+        "free <= self.pools, Rule::B",
+        "free <= self.pools + 1, Rule::B",
+    ),
+    slip("the block made ready keeps its bytes", None, "self.write_link(pool, nextoffset, 0);", ""),
+    slip("a pool alone on its list keeps its next", None, "self.put(self.pool(pool, POOL_NEXT), 0);", ""),
+    slip(
+        "the old freed pool's record is touched",
+        Some("a returning pool"),
+        "self.put(freed_head, link_to(Some(pool)));",
+        "self.put(freed_head, link_to(Some(pool)));
+         if let Some(old) = old { self.put(self.pool(old, POOL_PREVIOUS), link_to(Some(pool))); }",
+    ),
+    slip(
+        "who joins leaves the old head's previous",
+        Some("R3:"),
+        "self.put(list.previous(old), link_to(Some(member)));",
+        "let _ = old;",
+    ),
+    slip("three quarters is near enough", Some("K8"), "4 * n > 3 * s", "4 * n >= 3 * s"),
+    slip(
+        "a resize copies whole blocks",
+        None,
+        "offset + n.min(s), new",
+        "offset + block_size(class_of(n)).min(s), new",
+    ),
+    slip("a half-done resize answers offset 0", Some("R9:"), "value: new as u32", "value: 0"),
+    slip(
+        "a half-done resize answers 5",
+        Some("R9:"),
+        "Answer { number: 6, value: new",
+        "Answer { number: refusal.number, value: new",
+    ),
+    slip(
+        "write clears the rest of the block",
+        Some("write and view"),
+        "self.lent.memory[offset..offset + text.len()].copy_from_slice(text);",
+        "self.lent.memory[offset..offset + block.size()].fill(0);
+         self.lent.memory[offset..offset + text.len()].copy_from_slice(text);",
+    ),
+    slip(
+        "roll call clears the words after the roll",
+        Some("roll call"),
+        "for (i, (offset, block)) in",
+        "roll[2 * blocks.len()..].fill(0);
+         for (i, (offset, block)) in",
+    ),
+    slip(
+        "format leaves the spare words",
+        Some("format"),
+        "lent.books.fill(0);",
+        "lent.books[..68].fill(0); lent.books[72..].fill(0);",
+    ),
+    slip(
+        "format links the arenas one way",
+        Some("format"),
+        "lent.books[next + 1] = link_to(arena.checked_sub(1)) as u32;",
+        "",
+    ),
+];

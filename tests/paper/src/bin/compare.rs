@@ -1,0 +1,107 @@
+//! Compares the proved library with the paper, or says what the sequences reach.
+
+use std::process::ExitCode;
+use std::time::Instant;
+
+use heskavern_paper::compare::{compare, Tally};
+use heskavern_paper::{Calls, Paper};
+
+const USAGE: &str = "usage: compare [--seed N] [--calls N] [--coverage [--least N]]
+  --seed N      the seed of the first heap (1); a difference names the seed of its heap
+  --calls N     at least this many calls (3000000)
+  --coverage    make the calls of the paper alone and print how often each number, path and rule was met
+  --least N     with --coverage: fail where a path or rule was met fewer times (0)";
+
+struct Wanted {
+    seed: u64,
+    calls: u64,
+    coverage: bool,
+    least: u64,
+}
+
+fn wanted(mut arguments: impl Iterator<Item = String>) -> Result<Wanted, String> {
+    let mut wanted = Wanted { seed: 1, calls: 3_000_000, coverage: false, least: 0 };
+    while let Some(argument) = arguments.next() {
+        let place = match argument.as_str() {
+            "--coverage" => {
+                wanted.coverage = true;
+                continue;
+            }
+            "--seed" => &mut wanted.seed,
+            "--calls" => &mut wanted.calls,
+            "--least" => &mut wanted.least,
+            _ => return Err(format!("'{argument}' is not an option")),
+        };
+        let number = arguments.next().ok_or(format!("{argument} needs a number"))?;
+        *place = number.parse().map_err(|_| format!("{argument}: '{number}' is not a number"))?;
+    }
+    Ok(wanted)
+}
+
+#[cfg(feature = "library")]
+fn library() -> Option<Box<dyn Calls>> {
+    Some(Box::new(heskavern_paper::library::Library))
+}
+
+#[cfg(not(feature = "library"))]
+fn library() -> Option<Box<dyn Calls>> {
+    None
+}
+
+/// The calls of the paper alone, and how often each number, path and rule was met.
+fn coverage(wanted: &Wanted) -> ExitCode {
+    let mut tally = Tally::new();
+    let same = compare(&mut Paper::default(), &mut Paper::default(), wanted.seed, wanted.calls, &mut tally);
+    print!("{tally}");
+    let rare = tally.rarer_than(wanted.least);
+    for words in &rare {
+        println!("fewer than {} times: {words}", wanted.least);
+    }
+    if same.is_ok() && rare.is_empty() {
+        ExitCode::SUCCESS
+    } else {
+        ExitCode::FAILURE
+    }
+}
+
+fn against(other: &mut dyn Calls, wanted: &Wanted) -> ExitCode {
+    let mut paper = Paper::default();
+    let mut tally = Tally::new();
+    let begun = Instant::now();
+    match compare(&mut paper, other, wanted.seed, wanted.calls, &mut tally) {
+        Ok(()) => {
+            let seconds = begun.elapsed().as_secs_f32();
+            println!(
+                "the library and the paper agree on {} calls over {} heaps ({seconds:.0} s)",
+                tally.calls, tally.heaps
+            );
+            ExitCode::SUCCESS
+        }
+        Err(mut difference) => {
+            println!("the library and the paper differ at call {}, seed {}", difference.call, difference.seed);
+            difference.shorten(&mut paper, other);
+            println!("{}", difference.report(&mut paper, other));
+            ExitCode::FAILURE
+        }
+    }
+}
+
+fn main() -> ExitCode {
+    let wanted = match wanted(std::env::args().skip(1)) {
+        Ok(wanted) => wanted,
+        Err(message) => {
+            eprintln!("compare: {message}\n{USAGE}");
+            return ExitCode::from(2);
+        }
+    };
+    if wanted.coverage {
+        return coverage(&wanted);
+    }
+    match library() {
+        Some(mut library) => against(library.as_mut(), &wanted),
+        None => {
+            eprintln!("compare: built without the library; build with --features library, or ask for --coverage");
+            ExitCode::from(2)
+        }
+    }
+}

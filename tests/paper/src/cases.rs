@@ -1,0 +1,253 @@
+//! 01's cases, for any program behind the calls. Each number is 01's, or follows from the sentence that its case names.
+
+use crate::desk::*;
+use crate::readings;
+use crate::steps::Call::*;
+use crate::{Answer, Calls};
+
+/// A case by its name. It panics where the program answers otherwise.
+pub type Case = (&'static str, fn(&mut dyn Calls));
+
+/// Every case: 01's own and those of the readings.
+pub fn all() -> Vec<Case> {
+    [PAPER, readings::CASES].concat()
+}
+
+const PAPER: &[Case] = &[
+    ("K1", k1),
+    ("K2", k2),
+    ("K3", k3),
+    ("K4", k4),
+    ("K5", k5),
+    ("K6", k6),
+    ("K7", k7),
+    ("K8", k8),
+    ("K9", k9),
+    ("K10", k10),
+    ("fill with 8", fill_with_8),
+    ("fill with 512", fill_with_512),
+    ("resize of 104", resize_of_104),
+    ("dead offset resized to 0", dead_offset_to_0),
+    ("refused resize", refused_resize),
+    ("order of the numbers", order_of_the_numbers),
+    ("format", format),
+    ("write and view", write_and_view),
+    ("roll call", roll_call),
+    ("two usable arenas", two_usable_arenas),
+    ("released arena", released_arena),
+];
+
+fn k1(calls: &mut dyn Calls) {
+    let mut desk = Desk::fresh(calls, 1, 16);
+    desk.done(Ask { size: 1 }, 48);
+    assert_eq!([FREEBLOCK, NEXTOFFSET, MAXNEXTOFFSET].map(|word| *desk.pool(0, word)), [56, 64, 4088]);
+}
+
+fn k2(calls: &mut dyn Calls) {
+    let mut desk = Desk::fresh(calls, 1, 16);
+    desk.done(Ask { size: 1 }, 48);
+    desk.done(Ask { size: 8 }, 56);
+    assert_eq!([FREEBLOCK, NEXTOFFSET].map(|word| *desk.pool(0, word)), [64, 72]);
+}
+
+fn k3(calls: &mut dyn Calls) {
+    let mut desk = Desk::fresh(calls, 1, 16);
+    desk.done(Ask { size: 1 }, 48);
+    desk.done(Ask { size: 1 }, 56);
+    desk.done(GiveBack { offset: 48 }, 48);
+    desk.done(Ask { size: 8 }, 48);
+}
+
+fn k4(calls: &mut dyn Calls) {
+    let mut desk = Desk::fresh(calls, 1, 16);
+    desk.done(Ask { size: 8 }, 48);
+    desk.done(Ask { size: 9 }, 4144);
+}
+
+fn k5(calls: &mut dyn Calls) {
+    let mut desk = Desk::fresh(calls, 1, 16);
+    desk.done(Ask { size: 1 }, 48);
+    desk.done(Ask { size: 1 }, 56);
+    desk.done(Ask { size: 9 }, 4144);
+    desk.done(GiveBack { offset: 48 }, 48);
+    desk.done(GiveBack { offset: 56 }, 56);
+    desk.done(Ask { size: 8 }, 56);
+}
+
+fn k6(calls: &mut dyn Calls) {
+    let mut desk = Desk::fresh(calls, 1, 16);
+    desk.done(Ask { size: 1 }, 48);
+    desk.done(Ask { size: 9 }, 4144);
+    desk.done(GiveBack { offset: 48 }, 48);
+    desk.done(Ask { size: 17 }, 48);
+}
+
+fn k7(calls: &mut dyn Calls) {
+    let mut desk = Desk::fresh(calls, 1, 16);
+    desk.refused(Ask { size: 0 }, 3);
+    desk.refused(Ask { size: 513 }, 3);
+    desk.done(Ask { size: 512 }, 48);
+    assert_eq!(*desk.pool(0, MAXNEXTOFFSET), 3584);
+}
+
+fn k8(calls: &mut dyn Calls) {
+    let mut desk = Desk::fresh(calls, 1, 16);
+    desk.done(Ask { size: 100 }, 48);
+    desk.done(ViewSize { offset: 48 }, 104);
+    desk.done(Resize { offset: 48, size: 79 }, 48);
+    desk.done(Resize { offset: 48, size: 78 }, 4144);
+}
+
+fn k9(calls: &mut dyn Calls) {
+    let mut desk = Desk::fresh(calls, 1, 16);
+    desk.done(Ask { size: 8 }, 48);
+    desk.done(Resize { offset: 48, size: 6 }, 56);
+    desk.done(Resize { offset: 56, size: 7 }, 56);
+}
+
+fn k10(calls: &mut dyn Calls) {
+    let mut desk = Desk::fresh(calls, 1, 16);
+    desk.done(Ask { size: 1 }, 48);
+    for offset in [52, 0, 65_536] {
+        desk.refused(GiveBack { offset }, 5);
+    }
+    desk.done(GiveBack { offset: 48 }, 48);
+    desk.refused(GiveBack { offset: 48 }, 5);
+}
+
+/// P = 2, asks of 8. Give any back and the next ask is served.
+fn fill_with_8(calls: &mut dyn Calls) {
+    let mut desk = Desk::fresh(calls, 1, 2);
+    let offsets: Vec<u32> = (0..1012).map(|_| desk.answer(Ask { size: 8 }).value).collect();
+    assert_eq!([506, 507, 1012].map(|n: usize| offsets[n - 1]), [4088, 4144, 8184]);
+    desk.refused(Ask { size: 8 }, 4);
+    for offset in offsets {
+        desk.done(GiveBack { offset: offset as usize }, offset);
+        desk.done(Ask { size: 8 }, offset);
+    }
+}
+
+/// P = 2, asks of 512.
+fn fill_with_512(calls: &mut dyn Calls) {
+    let mut desk = Desk::fresh(calls, 1, 2);
+    let offsets: Vec<u32> = (0..14).map(|_| desk.answer(Ask { size: 512 }).value).collect();
+    assert_eq!(offsets[6], 3120);
+    desk.refused(Ask { size: 512 }, 4);
+}
+
+/// Resize a 104-byte block to 104 keeps it; to 105 moves it and carries 104 bytes.
+fn resize_of_104(calls: &mut dyn Calls) {
+    let mut desk = Desk::fresh(calls, 1, 16);
+    desk.done(Ask { size: 104 }, 48);
+    desk.done(Write { offset: 48, length: 104, first: 1 }, 48);
+    desk.heap.memory[4144..4256].fill(200);
+    desk.done(Resize { offset: 48, size: 104 }, 48);
+    desk.done(Resize { offset: 48, size: 105 }, 4144);
+    let text: Vec<u8> = (1..=104).collect();
+    assert_eq!(desk.bytes(4144, 104), text);
+    assert_eq!(desk.bytes(4248, 8), [200; 8]);
+}
+
+fn dead_offset_to_0(calls: &mut dyn Calls) {
+    let mut desk = Desk::fresh(calls, 1, 16);
+    desk.refused(Resize { offset: 48, size: 0 }, 3);
+    desk.refused(Resize { offset: 48, size: 1 }, 5);
+}
+
+/// A resize that finds no room leaves the old block as it was.
+fn refused_resize(calls: &mut dyn Calls) {
+    let mut desk = Desk::fresh(calls, 1, 2);
+    desk.done(Ask { size: 8 }, 48);
+    desk.done(Ask { size: 16 }, 4144);
+    desk.refused(Resize { offset: 48, size: 24 }, 4);
+    desk.done(GiveBack { offset: 48 }, 48);
+}
+
+/// Books under two words is 2; then 1, 2, 3, 5, 7.
+fn order_of_the_numbers(calls: &mut dyn Calls) {
+    let mut desk = Desk::fresh(calls, 1, 2);
+    desk.done(Ask { size: 8 }, 48);
+    desk.refused(Write { offset: 49, length: 600, first: 0 }, 5);
+    desk.refused(Write { offset: 48, length: 9, first: 0 }, 7);
+    for (memory, books, map) in [(8191, 96, 16), (8192, 95, 16), (8192, 96, 15), (8193, 96, 16), (0, 2, 0)] {
+        desk.lend(memory, books, map);
+        desk.refused(Ask { size: 0 }, 2);
+        desk.refused(ViewSize { offset: 49 }, 2);
+        desk.refused(RollCall { words: 0 }, 2);
+    }
+    for (arenas, pools) in [(0, 2), (17, 2), (1, 1), (1, 65), (u32::MAX, u32::MAX)] {
+        *desk.books(0) = arenas;
+        *desk.books(1) = pools;
+        desk.refused(GiveBack { offset: 48 }, 1);
+        desk.refused(Resize { offset: 48, size: 0 }, 1);
+    }
+    desk.lend(0, 1, 0);
+    desk.refused(Write { offset: 48, length: 9, first: 0 }, 2);
+}
+
+/// Format writes all books and map and no memory.
+fn format(calls: &mut dyn Calls) {
+    let mut desk = Desk::fresh(calls, 3, 2);
+    desk.heap.memory.fill(7);
+    desk.heap.books.fill(7);
+    desk.heap.map.fill(7);
+    desk.refused(Format { arenas: 3, pools: 3 }, 2);
+    desk.refused(Format { arenas: 17, pools: 3 }, 1);
+    desk.done(Format { arenas: 3, pools: 2 }, 0);
+    let mut books = [0; 144];
+    books[..4].copy_from_slice(&[3, 2, 0, 1]);
+    (books[76], books[84], books[85], books[93]) = (2, 3, 1, 2);
+    (0..6).for_each(|pool| books[96 + 8 * pool + CLASS] = 65_535);
+    assert_eq!(desk.heap.books[..144], books);
+    assert_eq!(desk.heap.map[..48], [0; 48]);
+    assert!(desk.heap.memory.iter().all(|byte| *byte == 7));
+}
+
+/// Write leaves the rest of the block; view is the whole block, and a refusal the empty part.
+fn write_and_view(calls: &mut dyn Calls) {
+    let mut desk = Desk::fresh(calls, 1, 16);
+    desk.done(Ask { size: 16 }, 48);
+    desk.done(Write { offset: 48, length: 16, first: 10 }, 48);
+    desk.done(Write { offset: 48, length: 3, first: 90 }, 48);
+    assert_eq!(desk.bytes(48, 6), [90, 91, 92, 13, 14, 15]);
+    assert_eq!(desk.view(48), (48, 16));
+    desk.done(ViewSize { offset: 48 }, 16);
+    assert_eq!(desk.view(64), (0, 0));
+    desk.refused(ViewSize { offset: 64 }, 5);
+}
+
+/// Offset and block size by rising offset; the words after them stay, and so does a roll that is too short.
+fn roll_call(calls: &mut dyn Calls) {
+    let mut desk = Desk::fresh(calls, 1, 16);
+    for (size, offset) in [(8, 48), (9, 4144), (8, 56)] {
+        desk.done(Ask { size }, offset);
+    }
+    let stays = 0xA5A5_A5A5;
+    let three = Answer { number: 0, value: 3 };
+    assert_eq!(desk.roll(7), (three, vec![48, 8, 56, 8, 4144, 16, stays]));
+    assert_eq!(desk.roll(5), (Answer { number: 7, value: 0 }, vec![stays; 5]));
+}
+
+/// The arena that is usable again comes first, whatever room the others have.
+fn two_usable_arenas(calls: &mut dyn Calls) {
+    let mut desk = Desk::fresh(calls, 2, 3);
+    for (n, size) in [8, 16, 24, 32, 40, 48].into_iter().enumerate() {
+        desk.done(Ask { size }, 4096 * n as u32 + 48);
+    }
+    for pool in [0, 3, 4] {
+        desk.done(GiveBack { offset: 4096 * pool + 48 }, 4096 * pool as u32 + 48);
+    }
+    desk.done(Ask { size: 56 }, 16_432);
+}
+
+/// The last arena is released as well, and is carved again from its first pool.
+fn released_arena(calls: &mut dyn Calls) {
+    let mut desk = Desk::fresh(calls, 1, 2);
+    desk.done(Ask { size: 8 }, 48);
+    desk.done(Ask { size: 16 }, 4144);
+    desk.done(GiveBack { offset: 48 }, 48);
+    desk.done(GiveBack { offset: 4144 }, 4144);
+    assert_eq!([*desk.books(USABLE), *desk.books(UNUSED)], [0, 1]);
+    assert_eq!(desk.arena_record(0), [0; 8]);
+    desk.done(Ask { size: 24 }, 48);
+}

@@ -1,0 +1,232 @@
+//! Two programs, the same steps: number, value, view's part and every byte and word of every buffer after every call.
+
+use std::fmt;
+use std::time::{Duration, Instant};
+
+use crate::damage::Source;
+use crate::steps::{in_words, word_name, Buffers, Call, Outcome, Step};
+use crate::{Calls, Path, Rule, Trail};
+
+/// How often each call gave each number, and each path and rule was met.
+pub struct Tally {
+    pub calls: u64,
+    pub heaps: u64,
+    numbers: [[u64; 8]; Call::NAMES.len()],
+    paths: Vec<u64>,
+    rules: Vec<u64>,
+}
+
+impl Tally {
+    pub fn new() -> Tally {
+        let (paths, rules) = (vec![0; Path::ALL.len()], vec![0; Rule::ALL.len()]);
+        Tally { calls: 0, heaps: 0, numbers: Default::default(), paths, rules }
+    }
+
+    fn note(&mut self, call: &Call, outcome: &Outcome, trail: Option<&Trail>) {
+        self.calls += 1;
+        if let Some(count) = self.numbers[call.kind()].get_mut(outcome.answer.number as usize) {
+            *count += 1;
+        }
+        if let Some(trail) = trail {
+            trail.paths.iter().for_each(|path| self.paths[*path as usize] += 1);
+            trail.broken.iter().for_each(|rule| self.rules[*rule as usize] += 1);
+        }
+    }
+
+    /// The paths and rules that were met fewer times than this, in words.
+    pub fn rarer_than(&self, least: u64) -> Vec<String> {
+        let paths = Path::ALL.iter().zip(&self.paths).map(|(path, n)| (path.words(), n));
+        let rules = Rule::ALL.iter().zip(&self.rules).map(|(rule, n)| (rule.words(), n));
+        let rare = paths.chain(rules).filter(|(_, n)| **n < least);
+        rare.map(|(words, n)| format!("{words}: {n} times")).collect()
+    }
+}
+
+impl Default for Tally {
+    fn default() -> Tally {
+        Tally::new()
+    }
+}
+
+impl fmt::Display for Tally {
+    fn fmt(&self, f: &mut fmt::Formatter) -> fmt::Result {
+        writeln!(f, "calls by number, over {} heaps:", self.heaps)?;
+        writeln!(f, "{:12}{}", "", (0..8).map(|n| format!("{n:>10}")).collect::<String>())?;
+        for (name, numbers) in Call::NAMES.iter().zip(&self.numbers) {
+            // view has no number of its own
+            if *name != "view" {
+                writeln!(f, "{name:12}{}", numbers.map(|n| format!("{n:>10}")).concat())?;
+            }
+        }
+        writeln!(f, "paths:")?;
+        for (path, n) in Path::ALL.iter().zip(&self.paths) {
+            writeln!(f, "{n:>10}  {}", path.words())?;
+        }
+        writeln!(f, "rules of 6:")?;
+        for (rule, n) in Rule::ALL.iter().zip(&self.rules) {
+            writeln!(f, "{n:>10}  {}", rule.words())?;
+        }
+        Ok(())
+    }
+}
+
+/// One program's place in the comparison: its calls and its buffers.
+struct Side<'a> {
+    calls: &'a mut dyn Calls,
+    buffers: Buffers,
+}
+
+/// The same heap on both sides.
+struct Pair<'a> {
+    left: Side<'a>,
+    right: Side<'a>,
+}
+
+impl<'a> Pair<'a> {
+    fn new(left: &'a mut dyn Calls, right: &'a mut dyn Calls, arenas: usize, pools: usize) -> Pair<'a> {
+        let side = |calls| Side { calls, buffers: Buffers::new(arenas, pools) };
+        Pair { left: side(left), right: side(right) }
+    }
+
+    /// The step on both sides: what the left one answers, and whether the right one agrees in everything.
+    fn take(&mut self, step: &Step) -> (Outcome, Outcome, bool) {
+        let left = self.left.buffers.take(self.left.calls, step);
+        let right = self.right.buffers.take(self.right.calls, step);
+        let is_call = matches!(step, Step::Call(_));
+        let same = !is_call || (left == right && self.left.buffers == self.right.buffers);
+        (left, right, same)
+    }
+}
+
+/// Where two programs part, with a sequence of steps from zeroed buffers that shows it.
+pub struct Difference {
+    pub seed: u64,
+    /// Which call of the whole run it was.
+    pub call: u64,
+    arenas: usize,
+    pools: usize,
+    pub steps: Vec<Step>,
+}
+
+/// Runs the same sequences, at least this many calls, through both programs, until they differ.
+pub fn compare(
+    left: &mut dyn Calls,
+    right: &mut dyn Calls,
+    seed: u64,
+    calls: u64,
+    tally: &mut Tally,
+) -> Result<(), Difference> {
+    let end = tally.calls + calls;
+    let mut seed = seed;
+    let mut steps = Vec::new();
+    while tally.calls < end {
+        let mut source = Source::new(seed);
+        let (arenas, pools) = (source.arenas, source.pools);
+        let mut pair = Pair::new(left, right, arenas, pools);
+        steps.clear();
+        while let Some(step) = source.next(&pair.left.buffers) {
+            steps.push(step);
+            let (outcome, _, same) = pair.take(&step);
+            if let Step::Call(call) = step {
+                tally.note(&call, &outcome, pair.left.calls.trail());
+                source.learn(&call, outcome.answer);
+            }
+            if !same {
+                return Err(Difference { seed, call: tally.calls, arenas, pools, steps });
+            }
+        }
+        tally.heaps += 1;
+        seed = seed.wrapping_add(1);
+    }
+    Ok(())
+}
+
+/// A shorter sequence is looked for during this time.
+const PATIENCE: Duration = Duration::from_secs(20);
+
+impl Difference {
+    /// The place of the first step after which the sides differ, if they do.
+    fn replay(&self, left: &mut dyn Calls, right: &mut dyn Calls, steps: &[Step]) -> Option<usize> {
+        let mut pair = Pair::new(left, right, self.arenas, self.pools);
+        steps.iter().position(|step| !pair.take(step).2)
+    }
+
+    /// Drops steps, many at a time and then one by one, while a difference remains.
+    pub fn shorten(&mut self, left: &mut dyn Calls, right: &mut dyn Calls) {
+        let begun = Instant::now();
+        let mut many = self.steps.len() / 2;
+        while many > 0 {
+            let before = self.steps.len();
+            let mut from = 0;
+            while from < self.steps.len() && begun.elapsed() < PATIENCE {
+                let mut fewer = self.steps.clone();
+                fewer.drain(from..(from + many).min(fewer.len()));
+                match self.replay(left, right, &fewer) {
+                    Some(last) => {
+                        fewer.truncate(last + 1);
+                        self.steps = fewer;
+                    }
+                    None => from += many,
+                }
+            }
+            // the last round, one by one, is over once it drops nothing
+            let again = many == 1 && self.steps.len() < before && begun.elapsed() < PATIENCE;
+            many = if again { 1 } else { many / 2 };
+        }
+    }
+
+    /// The sequence in words, and what differs after its last step.
+    pub fn report(&self, left: &mut dyn Calls, right: &mut dyn Calls) -> String {
+        let mut pair = Pair::new(left, right, self.arenas, self.pools);
+        let mut lines = vec![format!("A = {}, P = {}, from zeroed buffers:", self.arenas, self.pools)];
+        for (i, step) in self.steps.iter().enumerate() {
+            let (left, right, same) = pair.take(step);
+            let words = in_words(step, self.arenas);
+            match step {
+                Step::Call(_) if same => lines.push(format!("{:>4}. {words}: {}", i + 1, said(step, &left))),
+                Step::Call(_) => {
+                    lines.push(format!("{:>4}. {words}", i + 1));
+                    lines.push(format!("      the paper: {}", said(step, &left)));
+                    lines.push(format!("      the other: {}", said(step, &right)));
+                }
+                _ => lines.push(format!("{:>4}. {words}", i + 1)),
+            }
+        }
+        lines.extend(pair.differing(self.arenas));
+        lines.join("\n")
+    }
+}
+
+fn said(step: &Step, outcome: &Outcome) -> String {
+    match step {
+        Step::Call(Call::View { .. }) => format!("{} bytes from {}", outcome.part.1, outcome.part.0),
+        _ => format!("{}, {}", outcome.answer.number, outcome.answer.value),
+    }
+}
+
+impl Pair<'_> {
+    /// For each buffer that differs: the first element that does, and how many more.
+    fn differing(&self, arenas: usize) -> Vec<String> {
+        let (left, right) = (&self.left.buffers, &self.right.buffers);
+        let word = |at| format!("word {at} of the books ({})", word_name(at, arenas));
+        let lines = [
+            first(&left.memory, &right.memory, |at| format!("byte {at} of memory")),
+            first(&left.books, &right.books, word),
+            first(&left.map, &right.map, |at| format!("word {at} of the map (pool {})", at / 8)),
+            first(&left.roll, &right.roll, |at| format!("word {at} of the roll")),
+        ];
+        lines.into_iter().flatten().collect()
+    }
+}
+
+fn first<T: PartialEq + fmt::LowerHex + fmt::Display>(
+    left: &[T],
+    right: &[T],
+    name: impl Fn(usize) -> String,
+) -> Option<String> {
+    let mut differ = (0..left.len()).filter(|&at| left[at] != right[at]);
+    let at = differ.next()?;
+    let (paper, other) = (&left[at], &right[at]);
+    let more = differ.count();
+    Some(format!("      {}: the paper {paper} ({paper:#x}), the other {other} ({other:#x}); {more} more", name(at)))
+}

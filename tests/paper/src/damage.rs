@@ -1,0 +1,533 @@
+//! Seeded sequences of steps: heaps reached by calls, heaps that are spoilt on the way, and heaps made up at random.
+
+use std::collections::VecDeque;
+
+use crate::steps::{lengths, Buffers, Call, Step};
+use crate::Answer;
+
+/// A small generator of numbers (splitmix64): the same seed gives the same numbers.
+pub struct Rng(u64);
+
+impl Rng {
+    pub fn new(seed: u64) -> Rng {
+        Rng(seed)
+    }
+
+    pub fn draw(&mut self) -> u64 {
+        self.0 = self.0.wrapping_add(0x9E37_79B9_7F4A_7C15);
+        let z = (self.0 ^ (self.0 >> 30)).wrapping_mul(0xBF58_476D_1CE4_E5B9);
+        let z = (z ^ (z >> 27)).wrapping_mul(0x94D0_49BB_1331_11EB);
+        z ^ (z >> 31)
+    }
+
+    pub fn below(&mut self, n: usize) -> usize {
+        (self.draw() % n as u64) as usize
+    }
+
+    pub fn between(&mut self, least: usize, most: usize) -> usize {
+        least + self.below(most - least + 1)
+    }
+
+    pub fn one_in(&mut self, n: usize) -> bool {
+        self.below(n) == 0
+    }
+
+    pub fn pick<T: Copy>(&mut self, from: &[T]) -> T {
+        from[self.below(from.len())]
+    }
+
+    /// A link that a freed block could hold: often 0, or a block start of one of a few sizes.
+    pub fn link(&mut self) -> u32 {
+        let size = self.pick(&[8, 8, 16, 24, 256, 512]);
+        if self.one_in(3) {
+            0
+        } else {
+            block_start(size, self.below(4048 / size)) as u32
+        }
+    }
+}
+
+fn block_start(size: usize, k: usize) -> usize {
+    48 + k * size
+}
+
+/// How a heap comes to be.
+#[derive(Clone, Copy, PartialEq, Eq)]
+enum Kind {
+    /// By calls alone.
+    Sound,
+    /// By calls, with words, bits and links spoilt between them and often mended again.
+    Spoilt,
+    /// Made up at random, from values small enough that paths are really taken.
+    MadeUp,
+}
+
+/// The steps on one heap. They depend on its seed and on what the calls before them left.
+pub struct Source {
+    rng: Rng,
+    kind: Kind,
+    pub arenas: usize,
+    pub pools: usize,
+    /// The block sizes that are asked for; few of them, so that pools fill and empty.
+    sizes: Vec<usize>,
+    /// The offsets that were handed out and not given back, as far as the answers tell.
+    held: Vec<usize>,
+    /// How many of a hundred asks and give-backs are asks.
+    rise: usize,
+    calls_left: usize,
+    /// How many asks and give-backs in a row were refused with 6.
+    stuck: usize,
+    waiting: VecDeque<Step>,
+    /// What was spoilt as it was, each with the number of calls left at which it is mended.
+    mends: Vec<(usize, Step)>,
+}
+
+impl Source {
+    pub fn new(seed: u64) -> Source {
+        let mut rng = Rng::new(seed);
+        let large = rng.one_in(100);
+        let (arenas, pools) = if large {
+            (rng.between(1, 16), rng.between(2, 64))
+        } else {
+            rng.pick(&[(1, 2), (1, 2), (1, 3), (1, 4), (2, 2), (2, 2), (2, 3), (3, 2), (3, 3), (4, 2)])
+        };
+        let kind = match rng.below(16) {
+            0 => Kind::Sound,
+            1..=7 => Kind::Spoilt,
+            _ => Kind::MadeUp,
+        };
+        let calls_left = match kind {
+            _ if large => rng.between(8, 400),
+            Kind::Sound => rng.between(100, 1600),
+            Kind::Spoilt => rng.between(40, 400),
+            Kind::MadeUp => rng.between(8, 64),
+        };
+        let sizes = sizes(&mut rng, kind);
+        let (held, waiting, mends) = (Vec::new(), VecDeque::new(), Vec::new());
+        let (rise, stuck) = (80, 0);
+        let mut source = Source { rng, kind, arenas, pools, sizes, held, rise, calls_left, stuck, waiting, mends };
+        source.begin();
+        source
+    }
+
+    /// The next step, if there is one more.
+    pub fn next(&mut self, heap: &Buffers) -> Option<Step> {
+        if self.waiting.is_empty() {
+            self.calls_left = self.calls_left.checked_sub(1)?;
+            self.prepare(heap);
+        }
+        self.waiting.pop_front()
+    }
+
+    /// What the next steps can know from an answer.
+    pub fn learn(&mut self, call: &Call, answer: Answer) {
+        if let Call::Ask { .. } | Call::GiveBack { .. } = call {
+            self.stuck = if answer.number == 6 { self.stuck + 1 } else { 0 };
+        }
+        // no mend has helped: another heap tells more
+        if self.stuck == 16 {
+            self.calls_left = 0;
+        }
+        match (call, answer.number) {
+            (Call::Ask { .. }, 0) => self.held.push(answer.value as usize),
+            (Call::Ask { .. }, 4) => self.rise = self.rng.pick(&[10, 30, 50]),
+            (Call::GiveBack { offset }, 0 | 5) => self.held.retain(|held| held != offset),
+            (Call::Resize { offset, .. }, 0) => {
+                self.held.retain(|held| held != offset);
+                self.held.push(answer.value as usize);
+            }
+            (Call::Resize { .. }, 6) if answer.value != 0 => self.held.push(answer.value as usize),
+            (Call::Format { .. }, 0) => self.held.clear(),
+            _ => {}
+        }
+    }
+
+    fn begin(&mut self) {
+        let seed = self.rng.draw();
+        if self.kind == Kind::MadeUp {
+            self.waiting.push_back(Step::Links(seed));
+            self.make_up();
+            return;
+        }
+        // format must write every word, whatever stood there
+        self.waiting.push_back(if self.rng.one_in(2) { Step::Noise(seed) } else { Step::Links(seed) });
+        self.waiting.push_back(Step::Call(Call::Format { arenas: self.arenas, pools: self.pools }));
+    }
+
+    fn prepare(&mut self, heap: &Buffers) {
+        let left = self.calls_left;
+        let (due, later) = self.mends.drain(..).partition(|(at, _)| *at >= left);
+        self.mends = later;
+        for (_, mend) in due {
+            self.waiting.push_back(mend);
+        }
+        let often = if self.kind == Kind::Spoilt { 5 } else { 16 };
+        if self.kind != Kind::Sound && self.rng.one_in(often) {
+            for _ in 0..self.rng.pick(&[1, 1, 1, 2, 3]) {
+                self.spoil(heap);
+            }
+        }
+        if self.rng.one_in(40) {
+            self.rise = self.rng.pick(&[5, 20, 50, 80, 95]);
+        }
+        if self.rng.one_in(100) {
+            let (wrong, exact) = (self.wrong_lengths(), lengths(self.arenas, self.pools));
+            let call = if self.rng.one_in(4) { self.format() } else { self.call(heap) };
+            self.waiting.extend([Step::Lend(wrong), Step::Call(call), Step::Lend(exact)]);
+        } else if self.kind != Kind::Sound && self.rng.one_in(60) {
+            self.take_again(heap);
+        } else {
+            let call = self.call(heap);
+            self.waiting.push_back(Step::Call(call));
+        }
+    }
+
+    /// Lengths of which one or more are one short, one long or 0, or books that are cut at their first words.
+    fn wrong_lengths(&mut self) -> [usize; 3] {
+        let mut lent = lengths(self.arenas, self.pools);
+        for _ in 0..self.rng.pick(&[1, 1, 1, 2, 3]) {
+            let which = self.rng.below(3);
+            lent[which] = match self.rng.below(5) {
+                0 | 1 => lent[which] - lent[which].min(1),
+                2 | 3 => lengths(self.arenas, self.pools)[which] + 1,
+                _ => self.rng.below(4),
+            };
+        }
+        lent
+    }
+}
+
+/// One to four block sizes: of small blocks, of large ones, or of any.
+fn sizes(rng: &mut Rng, kind: Kind) -> Vec<usize> {
+    if kind == Kind::MadeUp {
+        return vec![8, 16, rng.pick(&[24, 256, 512])];
+    }
+    let (least, most) = rng.pick(&[(1, 4), (33, 64), (33, 64), (60, 64), (1, 64), (64, 64), (1, 1)]);
+    (0..rng.between(1, 4)).map(|_| 8 * rng.between(least, most)).collect()
+}
+
+// Calls
+
+impl Source {
+    fn call(&mut self, heap: &Buffers) -> Call {
+        let offset = self.offset(heap);
+        match self.rng.below(100) {
+            0..=1 => Call::View { offset },
+            2..=3 => Call::ViewSize { offset },
+            4..=6 => {
+                let length = self.length(heap, offset);
+                Call::Write { offset, length, first: self.rng.draw() as u8 }
+            }
+            7..=8 => Call::RollCall { words: self.roll_words(heap) },
+            9 if self.rng.one_in(3) => self.format(),
+            10..=24 => Call::Resize { offset, size: self.new_size(heap, offset) },
+            _ if self.rng.below(100) < self.rise || self.held.is_empty() => Call::Ask { size: self.size() },
+            _ => Call::GiveBack { offset },
+        }
+    }
+
+    /// A format with good or bad numbers; on the heap itself it is rare, for it ends what was reached.
+    fn format(&mut self) -> Call {
+        let odd = [0, 1, 2, 16, 17, 64, 65, usize::MAX, (1 << 32) + self.arenas, (1 << 32) + self.pools];
+        match self.rng.below(8) {
+            0 => Call::Format { arenas: self.arenas, pools: self.pools },
+            1 | 2 => Call::Format { arenas: self.rng.pick(&odd), pools: self.pools },
+            3 | 4 => Call::Format { arenas: self.arenas, pools: self.rng.pick(&odd) },
+            _ => Call::Format { arenas: self.rng.pick(&odd), pools: self.rng.pick(&odd) },
+        }
+    }
+
+    fn size(&mut self) -> usize {
+        let block = self.rng.pick(&self.sizes);
+        match self.rng.below(40) {
+            0 => self.rng.pick(&[0, 1, 512, 513, 514, 1 << 31, (1 << 32) + block, usize::MAX, usize::MAX - 7]),
+            1 => self.rng.between(1, 512),
+            2 => self.rng.draw() as usize >> self.rng.below(64),
+            _ => block - self.rng.below(8),
+        }
+    }
+
+    /// A size on one side or the other of where a resize keeps its offset, or any size.
+    fn new_size(&mut self, heap: &Buffers, offset: usize) -> usize {
+        let block = self.block_size(heap, offset);
+        match self.rng.below(8) {
+            0 => block,
+            1 => block + 1,
+            2 => block * 3 / 4,
+            3 => block * 3 / 4 + 1,
+            _ => self.size(),
+        }
+    }
+
+    /// A text's length: fitting, exact, one too long, empty, or far too long.
+    fn length(&mut self, heap: &Buffers, offset: usize) -> usize {
+        let block = self.block_size(heap, offset);
+        let any = self.rng.below(block + 1);
+        self.rng.pick(&[0, any, any, block, block + 1, 513, 600])
+    }
+
+    /// Two words for each live block, or a few more or fewer.
+    fn roll_words(&mut self, heap: &Buffers) -> usize {
+        let bits: u32 = heap.map.iter().map(|word| word.count_ones()).sum();
+        let live = self.rng.pick(&[bits as usize, self.held.len()]);
+        let words =
+            self.rng.pick(&[2 * live, 2 * live, 2 * live + 1, 2 * live + 5, (2 * live).saturating_sub(1), live]);
+        if self.rng.one_in(16) {
+            0
+        } else {
+            words
+        }
+    }
+
+    /// Mostly an offset that is held; otherwise one near it, a start that may be dead, or any number at all.
+    fn offset(&mut self, heap: &Buffers) -> usize {
+        let all = self.arenas * self.pools;
+        let held = if self.held.is_empty() { 48 } else { self.rng.pick(&self.held) };
+        let memory = all * 4096;
+        match self.rng.below(40) {
+            0 => self.rng.pick(&[0, 47, memory - 1, memory, memory + 48, usize::MAX, usize::MAX - 4047]),
+            1 => held.wrapping_add(self.rng.pick(&[1, 4, 8, 4096, usize::MAX, usize::MAX - 7])),
+            2 => held + self.rng.pick(&[1 << 32, 1 << 63, memory]),
+            3 => self.rng.draw() as usize >> self.rng.below(64),
+            4 | 5 => {
+                let pool = self.rng.below(all);
+                let size = self.block_size(heap, 4096 * pool);
+                // a start, or the place after the last one
+                4096 * pool + block_start(size, self.rng.below(4048 / size + 1))
+            }
+            // the newest, so that blocks come and go in turn
+            6..=15 => self.held.last().copied().unwrap_or(48),
+            _ => held,
+        }
+    }
+
+    /// The block size of the pool that an offset lies in, as far as the books tell.
+    fn block_size(&mut self, heap: &Buffers, offset: usize) -> usize {
+        let pool = offset / 4096;
+        let class = if pool < self.arenas * self.pools { heap.books[self.pool_word(pool, 4)] as usize } else { 64 };
+        if class < 64 {
+            8 * (class + 1)
+        } else {
+            self.rng.pick(&self.sizes)
+        }
+    }
+
+    fn arena_word(&self, arena: usize, word: usize) -> usize {
+        72 + 8 * arena + word
+    }
+
+    fn pool_word(&self, pool: usize, word: usize) -> usize {
+        72 + 8 * self.arenas + 8 * pool + word
+    }
+}
+
+// Damage
+
+impl Source {
+    /// One word, link or bit is spoilt, and will mostly be mended after a few calls.
+    fn spoil(&mut self, heap: &Buffers) {
+        let (spoilt, mend) = match self.rng.below(10) {
+            0 | 1 => self.spoil_link(heap),
+            2 | 3 => self.spoil_bit(heap),
+            _ => self.spoil_word(heap),
+        };
+        self.waiting.push_back(spoilt);
+        // a heap with a wrong A or P takes no step, so it isn't left so for long
+        let shape = matches!(spoilt, Step::Word(0 | 1, _));
+        if shape || !self.rng.one_in(4) {
+            let last = if shape { 2 } else { 12 };
+            let until = self.calls_left.saturating_sub(self.rng.between(1, last));
+            self.mends.push((until, mend));
+        }
+    }
+
+    /// The pool of a held block comes to be the next that an ask takes, and the block is resized: the ask and the
+    /// give-back of one resize then meet in one pool.
+    fn take_again(&mut self, heap: &Buffers) {
+        let all = self.arenas * self.pools;
+        let offset = self.offset(heap);
+        let pool = (offset / 4096).min(all - 1);
+        let size = self.rng.pick(&[8, 16, 24, 32, 256, 512]);
+        let arena = (heap.books[2] as usize).clamp(1, self.arenas) - 1;
+        let free = self.rng.between(1, self.pools) as u32;
+        let words = [
+            (2, arena as u32 + 1),
+            (3 + size / 8, 0),
+            (self.arena_word(arena, 2), free),
+            (self.arena_word(arena, 3), pool as u32 + 1),
+            (self.pool_word(pool, 2), 0),
+        ];
+        self.waiting.extend(words.map(|(at, word)| Step::Word(at, word)));
+        // a pool is set to a class only where its first two bits are clear
+        self.waiting.push_back(Step::Bits(8 * pool, heap.map[8 * pool] & !3));
+        self.waiting.push_back(Step::Call(Call::Resize { offset, size: size - self.rng.below(8) }));
+    }
+
+    fn spoil_word(&mut self, heap: &Buffers) -> (Step, Step) {
+        let arena = self.rng.below(self.arenas);
+        let pool = self.rng.below(self.arenas * self.pools);
+        let word = self.rng.below(8);
+        let at = match self.rng.below(32) {
+            0 => self.rng.below(2),
+            1 | 2 => 2,
+            3..=5 => 3,
+            6..=8 => 3 + self.rng.pick(&self.sizes) / 8,
+            9..=15 => self.arena_word(arena, word),
+            16..=29 => self.pool_word(pool, word),
+            _ => self.rng.below(lengths(self.arenas, self.pools)[1]),
+        };
+        let old = heap.books[at];
+        let limits = [0, 1, 2, 16, 17, 64, 65, u32::MAX];
+        let new = if at < 2 { self.rng.pick(&limits) } else { self.edge(old) };
+        (Step::Word(at, new), Step::Word(at, old))
+    }
+
+    /// The link of a freed block: the one at freeblock, or the one after it.
+    fn spoil_link(&mut self, heap: &Buffers) -> (Step, Step) {
+        let (pool, size, first) = self.freed(heap);
+        let link = link_at(heap, pool, first);
+        let start = if self.rng.one_in(3) && is_inside(link) { link as usize } else { first };
+        let old = link_at(heap, pool, start);
+        let new = match self.rng.below(4) {
+            0 => 0,
+            1 => block_start(size, self.rng.below(4048 / size)) as u32,
+            2 => first as u32,
+            _ => self.edge(old),
+        };
+        (Step::Link(4096 * pool + start, new), Step::Link(4096 * pool + start, old))
+    }
+
+    /// The bit of a block that an ask is likely to test, or of any.
+    fn spoil_bit(&mut self, heap: &Buffers) -> (Step, Step) {
+        let (pool, size, first) = self.freed(heap);
+        let start = match self.rng.below(6) {
+            0 | 1 => first,
+            2 => link_at(heap, pool, first) as usize,
+            3 => heap.books[self.pool_word(pool, 5)] as usize,
+            4 => block_start(size, self.rng.below(2)),
+            _ => block_start(size, self.rng.below(512)),
+        };
+        let k = start.wrapping_sub(48) / size % 512;
+        let at = 8 * pool + k / 64;
+        let bits = heap.map[at];
+        (Step::Bits(at, bits ^ 1 << (k % 64)), Step::Bits(at, bits))
+    }
+
+    /// A pool, its block size, and its freeblock if that is a place for one.
+    fn freed(&mut self, heap: &Buffers) -> (usize, usize, usize) {
+        let pool = self.rng.below(self.arenas * self.pools);
+        let size = self.block_size(heap, 4096 * pool);
+        let freeblock = heap.books[self.pool_word(pool, 1)];
+        (pool, size, if is_inside(freeblock) { freeblock as usize } else { 48 })
+    }
+
+    /// A value near the edge of some rule, or near what stood there.
+    fn edge(&mut self, old: u32) -> u32 {
+        let (arenas, pools) = (self.arenas as u32, self.pools as u32);
+        let all = arenas * pools;
+        let size = self.rng.pick(&self.sizes) as u32;
+        match self.rng.below(16) {
+            0 | 1 => 0,
+            2 => 1,
+            3 => self.rng.pick(&[arenas, arenas + 1, arenas + 1]),
+            4 => self.rng.pick(&[all, all + 1, all + 1]),
+            5 => self.rng.pick(&[pools - 1, pools, pools + 1]),
+            6 => self.rng.pick(&[505, 506, 507]),
+            7 => self.rng.pick(&[63, 64, 65_535, size / 8 - 1]),
+            8 => block_start(size as usize, self.rng.below(4)) as u32,
+            9 => self.rng.pick(&[4096 - size, 4097 - size, 4095 - size, 4096, 48 + 4048 / size * size]),
+            10 => old.wrapping_add(self.rng.pick(&[1, 8, size])),
+            11 => old.wrapping_sub(self.rng.pick(&[1, 8, size])),
+            12 => self.rng.below(8) as u32,
+            13 => self.rng.below(4096) as u32,
+            14 => self.rng.pick(&[u32::MAX, 1 << 31, 1 << 16]),
+            _ => self.rng.draw() as u32,
+        }
+    }
+}
+
+fn is_inside(start: u32) -> bool {
+    (48..=4088).contains(&start)
+}
+
+fn link_at(heap: &Buffers, pool: usize, start: usize) -> u32 {
+    let at = 4096 * pool + start;
+    let bytes = &heap.memory[at..at + 4];
+    u32::from_le_bytes([bytes[0], bytes[1], bytes[2], bytes[3]])
+}
+
+// Made-up heaps
+
+impl Source {
+    /// Books and map of the right lengths, each word of a kind that its place could hold.
+    fn make_up(&mut self) {
+        let words = [self.arenas as u32, self.pools as u32, self.arena_link(), self.arena_link()];
+        for (at, word) in words.into_iter().enumerate() {
+            self.waiting.push_back(Step::Word(at, word));
+        }
+        for class in 0..64 {
+            let asked = self.sizes.contains(&(8 * (class + 1)));
+            if asked || self.rng.one_in(16) {
+                let link = self.pool_link();
+                self.set(4 + class, link);
+            }
+        }
+        for arena in 0..self.arenas {
+            let pools = self.pools + 1;
+            let (mark, free) = (self.rng.below(pools) as u32, self.rng.below(pools) as u32);
+            let words = [1, mark, free, self.pool_link(), self.arena_link(), self.arena_link()];
+            for (word, value) in words.into_iter().enumerate() {
+                self.set(self.arena_word(arena, word), value);
+            }
+        }
+        for pool in 0..self.arenas * self.pools {
+            self.make_up_pool(pool);
+        }
+    }
+
+    fn make_up_pool(&mut self, pool: usize) {
+        let size = self.rng.pick(&self.sizes);
+        let blocks = 4048 / size;
+        let class = if self.rng.one_in(6) { 65_535 } else { size / 8 - 1 };
+        let count = if self.rng.one_in(6) { self.rng.between(504, 507) } else { self.rng.below(4) };
+        let near = self.rng.below(blocks.min(6));
+        let freeblock = if self.rng.one_in(4) { 0 } else { block_start(size, near) };
+        let nextoffset = block_start(size, self.rng.pick(&[near + 1, near + 2, blocks, blocks - 1]));
+        let (next, previous) = (self.pool_link(), self.pool_link());
+        let words = [count, freeblock, next as usize, previous as usize, class, nextoffset, 4096 - size];
+        for (word, value) in words.into_iter().enumerate() {
+            self.set(self.pool_word(pool, word), value as u32);
+        }
+        let bits = match self.rng.below(4) {
+            0 => 0,
+            1 => self.rng.draw() & self.rng.draw() & self.rng.draw(),
+            _ => self.rng.draw() & self.rng.draw() & 0x3F8,
+        };
+        self.waiting.push_back(Step::Bits(8 * pool, bits));
+        for k in (0..blocks.min(64)).filter(|k| bits >> k & 1 == 1) {
+            self.held.push(4096 * pool + block_start(size, k));
+        }
+    }
+
+    /// The word as given or, now and then, one near some rule's edge.
+    fn set(&mut self, at: usize, word: u32) {
+        let word = if self.rng.one_in(48) { self.edge(word) } else { word };
+        self.waiting.push_back(Step::Word(at, word));
+    }
+
+    fn pool_link(&mut self) -> u32 {
+        if self.rng.one_in(2) {
+            0
+        } else {
+            self.rng.between(1, self.arenas * self.pools) as u32
+        }
+    }
+
+    fn arena_link(&mut self) -> u32 {
+        if self.rng.one_in(2) {
+            0
+        } else {
+            self.rng.between(1, self.arenas) as u32
+        }
+    }
+}

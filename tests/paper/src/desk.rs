@@ -1,0 +1,109 @@
+//! A heap on the desk: a program, its buffers, and calls whose answers are laid down.
+
+use crate::steps::{Buffers, Call, Step};
+use crate::{Answer, Calls};
+
+pub const USABLE: usize = 2;
+pub const UNUSED: usize = 3;
+
+/// The word of the books that is the head of the list of this block size.
+pub fn head(size: usize) -> usize {
+    3 + size / 8
+}
+
+/// Words of an arena's record.
+pub const OPEN: usize = 0;
+pub const CARVE_MARK: usize = 1;
+pub const FREE_POOLS: usize = 2;
+pub const FREED_HEAD: usize = 3;
+
+/// Words of a pool's record.
+pub const COUNT: usize = 0;
+pub const FREEBLOCK: usize = 1;
+pub const NEXT: usize = 2;
+pub const PREVIOUS: usize = 3;
+pub const CLASS: usize = 4;
+pub const NEXTOFFSET: usize = 5;
+pub const MAXNEXTOFFSET: usize = 6;
+
+pub struct Desk<'a> {
+    calls: &'a mut dyn Calls,
+    pub heap: Buffers,
+    arenas: usize,
+}
+
+impl<'a> Desk<'a> {
+    /// A fresh heap of this many arenas and pools.
+    pub fn fresh(calls: &'a mut dyn Calls, arenas: usize, pools: usize) -> Desk<'a> {
+        let mut desk = Desk { calls, heap: Buffers::new(arenas, pools), arenas };
+        desk.done(Call::Format { arenas, pools }, 0);
+        desk
+    }
+
+    pub fn answer(&mut self, call: Call) -> Answer {
+        self.heap.take(self.calls, &Step::Call(call)).answer
+    }
+
+    /// The call is done and answers this value.
+    pub fn done(&mut self, call: Call, value: u32) {
+        assert_eq!(self.answer(call), Answer { number: 0, value }, "{call}");
+    }
+
+    /// The call gives this number and offset 0, and changes nothing.
+    pub fn refused(&mut self, call: Call, number: u32) {
+        let before = self.heap.clone();
+        assert_eq!(self.answer(call), Answer { number, value: 0 }, "{call}");
+        assert!(self.heap.memory == before.memory, "{call}: memory changed");
+        assert!(self.heap.books == before.books, "{call}: the books changed");
+        assert!(self.heap.map == before.map, "{call}: the map changed");
+    }
+
+    /// Start and length of the part that view hands back.
+    pub fn view(&mut self, offset: usize) -> (usize, usize) {
+        self.heap.take(self.calls, &Step::Call(Call::View { offset })).part
+    }
+
+    /// The roll that a roll call with this many words writes, and its answer.
+    pub fn roll(&mut self, words: usize) -> (Answer, Vec<u32>) {
+        let answer = self.answer(Call::RollCall { words });
+        (answer, self.heap.roll.clone())
+    }
+
+    pub fn lend(&mut self, memory: usize, books: usize, map: usize) {
+        self.heap.take(self.calls, &Step::Lend([memory, books, map]));
+    }
+
+    pub fn books(&mut self, word: usize) -> &mut u32 {
+        &mut self.heap.books[word]
+    }
+
+    pub fn arena(&mut self, arena: usize, word: usize) -> &mut u32 {
+        &mut self.heap.books[72 + 8 * arena + word]
+    }
+
+    pub fn pool(&mut self, pool: usize, word: usize) -> &mut u32 {
+        &mut self.heap.books[72 + 8 * self.arenas + 8 * pool + word]
+    }
+
+    pub fn arena_record(&self, arena: usize) -> &[u32] {
+        &self.heap.books[72 + 8 * arena..80 + 8 * arena]
+    }
+
+    /// The first map word of a pool.
+    pub fn bits(&mut self, pool: usize) -> &mut u64 {
+        &mut self.heap.map[8 * pool]
+    }
+
+    pub fn link(&self, offset: usize) -> u32 {
+        let bytes = self.bytes(offset, 4);
+        u32::from_le_bytes([bytes[0], bytes[1], bytes[2], bytes[3]])
+    }
+
+    pub fn set_link(&mut self, offset: usize, link: u32) {
+        self.heap.take(self.calls, &Step::Link(offset, link));
+    }
+
+    pub fn bytes(&self, offset: usize, length: usize) -> &[u8] {
+        &self.heap.memory[offset..offset + length]
+    }
+}

@@ -1,0 +1,278 @@
+//! A case for each reading of 01 where its words leave room, which tells it from the other reading.
+
+use crate::cases::Case;
+use crate::desk::*;
+use crate::steps::Call::*;
+use crate::{Answer, Calls};
+
+pub const CASES: &[Case] = &[
+    ("R1: format tests its own A and P before any length", r1),
+    ("R2: leaving a list writes the head without reading it", r2),
+    ("R3: joining a list reads the old head", r3),
+    ("R4: a front member with a previous", r4),
+    ("R5: what opening and releasing an arena write", r5),
+    ("R6: a bit is judged as it stands before the step", r6),
+    ("R7: a full pool joins its list even at count 0", r7),
+    ("R8: a give-back doesn't test freeblock's bit", r8),
+    ("R9: the copy sees what the ask wrote", r9),
+    ("R10: the give-back of a resize tests and steps anew", r10),
+    ("R11: 505 and 506 for every class", r11),
+    ("R12: a freed pool may lie anywhere", r12),
+    ("R13: a freed pool that keeps its class", r13),
+    ("R14: nextoffset is read where the link is 0", r14),
+    ("R15: a pool set to a class, bits 0 and 1", r15),
+    ("R16: a resize that keeps its offset runs no step", r16),
+    ("R17: a class above 63 and bits past the last block", r17),
+    ("R22: an empty text, an empty roll", r22),
+    ("R23: no number of a caller is cut to fit", r23),
+    ("a returning pool reads the freed-pool head", returning_pool),
+];
+
+fn r1(calls: &mut dyn Calls) {
+    let mut desk = Desk::fresh(calls, 1, 2);
+    for books in [0, 1] {
+        desk.lend(0, books, 0);
+        desk.refused(Format { arenas: 0, pools: 2 }, 1);
+        desk.refused(Format { arenas: 1, pools: 65 }, 1);
+        desk.refused(Format { arenas: 1, pools: 2 }, 2);
+    }
+}
+
+/// A bad class head is overwritten by a pool that empties, a bad usable head by an arena that is released.
+fn r2(calls: &mut dyn Calls) {
+    let mut desk = Desk::fresh(calls, 1, 16);
+    desk.done(Ask { size: 8 }, 48);
+    *desk.books(head(8)) = u32::MAX;
+    *desk.books(USABLE) = u32::MAX;
+    desk.done(GiveBack { offset: 48 }, 48);
+    assert_eq!([*desk.books(head(8)), *desk.books(USABLE)], [0, 0]);
+}
+
+fn r3(calls: &mut dyn Calls) {
+    // a full pool's give-back reads the class head
+    let mut desk = Desk::fresh(calls, 1, 2);
+    (0..7).for_each(|k| desk.done(Ask { size: 512 }, 48 + 512 * k));
+    *desk.books(head(512)) = 3;
+    desk.refused(GiveBack { offset: 48 }, 6);
+    *desk.books(head(512)) = 2;
+    desk.done(GiveBack { offset: 48 }, 48);
+    assert_eq!([*desk.pool(0, NEXT), *desk.pool(1, PREVIOUS)], [2, 1]);
+
+    // a newly usable arena reads the usable head
+    let mut desk = Desk::fresh(calls, 1, 2);
+    desk.done(Ask { size: 8 }, 48);
+    desk.done(Ask { size: 16 }, 4144);
+    *desk.books(USABLE) = 2;
+    desk.refused(GiveBack { offset: 48 }, 6);
+
+    // a release reads the unused head; where that is the arena itself, its previous is written last
+    let mut desk = Desk::fresh(calls, 1, 2);
+    desk.done(Ask { size: 8 }, 48);
+    *desk.books(UNUSED) = 2;
+    desk.refused(GiveBack { offset: 48 }, 6);
+    *desk.books(UNUSED) = 1;
+    desk.done(GiveBack { offset: 48 }, 48);
+    assert_eq!(desk.arena_record(0), [0, 0, 0, 0, 1, 1, 0, 0]);
+}
+
+/// The previous member's next is written, the head stays.
+fn r4(calls: &mut dyn Calls) {
+    let mut desk = Desk::fresh(calls, 1, 16);
+    (0..6).for_each(|k| desk.done(Ask { size: 512 }, 48 + 512 * k));
+    *desk.pool(0, PREVIOUS) = 3;
+    *desk.pool(2, NEXT) = 9;
+    desk.done(Ask { size: 512 }, 3120);
+    assert_eq!([*desk.pool(2, NEXT), *desk.books(head(512)), *desk.pool(0, PREVIOUS)], [0, 1, 0]);
+}
+
+/// Opening leaves words 6 and 7 and reads no old mark, free pools or freed-pool head. A release zeroes all eight words.
+fn r5(calls: &mut dyn Calls) {
+    let mut desk = Desk::fresh(calls, 1, 2);
+    for (word, value) in [(CARVE_MARK, 99), (FREE_POOLS, 77), (FREED_HEAD, 55), (6, 7), (7, 9)] {
+        *desk.arena(0, word) = value;
+    }
+    desk.done(Ask { size: 8 }, 48);
+    assert_eq!(desk.arena_record(0), [1, 1, 1, 0, 0, 0, 7, 9]);
+    desk.done(GiveBack { offset: 48 }, 48);
+    assert_eq!(desk.arena_record(0), [0; 8]);
+}
+
+/// A freeblock whose link is itself, and a nextoffset equal to the block handed out, are served.
+fn r6(calls: &mut dyn Calls) {
+    let mut desk = Desk::fresh(calls, 1, 16);
+    desk.done(Ask { size: 8 }, 48);
+    desk.set_link(56, 56);
+    desk.done(Ask { size: 8 }, 56);
+    assert_eq!(*desk.pool(0, FREEBLOCK), 56);
+    desk.refused(Ask { size: 8 }, 6);
+
+    let mut desk = Desk::fresh(calls, 1, 16);
+    desk.done(Ask { size: 8 }, 48);
+    *desk.pool(0, NEXTOFFSET) = 56;
+    desk.done(Ask { size: 8 }, 56);
+    assert_eq!([*desk.pool(0, FREEBLOCK), *desk.pool(0, NEXTOFFSET)], [56, 64]);
+}
+
+fn r7(calls: &mut dyn Calls) {
+    let mut desk = Desk::fresh(calls, 1, 16);
+    desk.done(Ask { size: 8 }, 48);
+    *desk.pool(0, FREEBLOCK) = 0;
+    *desk.books(head(8)) = 0;
+    desk.done(GiveBack { offset: 48 }, 48);
+    assert_eq!([*desk.pool(0, COUNT), *desk.books(head(8)), *desk.arena(0, FREE_POOLS)], [0, 1, 15]);
+}
+
+fn r8(calls: &mut dyn Calls) {
+    let mut desk = Desk::fresh(calls, 1, 16);
+    desk.done(Ask { size: 8 }, 48);
+    *desk.bits(0) |= 1 << 1;
+    desk.done(GiveBack { offset: 48 }, 48);
+    assert_eq!(desk.link(48), 56);
+}
+
+/// The pool of the old block is carved again, and the link that the ask writes lies in the old block.
+fn r9(calls: &mut dyn Calls) {
+    let mut desk = Desk::fresh(calls, 1, 16);
+    (0..3).for_each(|k| desk.done(Ask { size: 8 }, 48 + 8 * k));
+    desk.done(Write { offset: 64, length: 8, first: b'A' }, 64);
+    desk.done(GiveBack { offset: 48 }, 48);
+    desk.done(GiveBack { offset: 56 }, 56);
+    *desk.arena(0, CARVE_MARK) = 0;
+    // by its new class the old offset is not live, so the resize is half done
+    assert_eq!(desk.answer(Resize { offset: 64, size: 16 }), Answer { number: 6, value: 48 });
+    assert_eq!(desk.bytes(48, 8), [0, 0, 0, 0, b'E', b'F', b'G', b'H']);
+    assert_eq!(*desk.bits(0), 0b101);
+}
+
+/// As in R9, but the old offset is live by the class that the books then show, as another block of the pool.
+fn r10(calls: &mut dyn Calls) {
+    let mut desk = Desk::fresh(calls, 1, 16);
+    (0..5).for_each(|k| desk.done(Ask { size: 8 }, 48 + 8 * k));
+    for offset in [48, 56, 72] {
+        desk.done(GiveBack { offset }, offset as u32);
+    }
+    *desk.arena(0, CARVE_MARK) = 0;
+    desk.done(Resize { offset: 80, size: 16 }, 48);
+    assert_eq!(*desk.bits(0), 0b10001);
+    assert_eq!([*desk.pool(0, COUNT), *desk.books(head(16)), *desk.arena(0, FREED_HEAD)], [0, 0, 1]);
+}
+
+/// A pool of 7 blocks may have a count of 505 on an ask, and of 506 on a give-back.
+fn r11(calls: &mut dyn Calls) {
+    let mut desk = Desk::fresh(calls, 1, 16);
+    desk.done(Ask { size: 512 }, 48);
+    *desk.pool(0, COUNT) = 505;
+    desk.done(Ask { size: 512 }, 560);
+    desk.refused(Ask { size: 512 }, 6);
+    desk.done(GiveBack { offset: 560 }, 560);
+    *desk.pool(0, COUNT) = 507;
+    desk.refused(GiveBack { offset: 48 }, 6);
+}
+
+/// A freed pool of another arena, never carved, is taken; `open`, spare words and a pool's eighth word are not read.
+fn r12(calls: &mut dyn Calls) {
+    let mut desk = Desk::fresh(calls, 2, 2);
+    desk.done(Ask { size: 8 }, 48);
+    *desk.arena(0, FREED_HEAD) = 4;
+    *desk.arena(0, OPEN) = 0;
+    *desk.books(68) = 5;
+    *desk.pool(3, 7) = 6;
+    desk.done(Ask { size: 16 }, 12_336);
+    assert_eq!([*desk.arena(0, OPEN), *desk.books(68), *desk.pool(3, 7)], [0, 5, 6]);
+}
+
+/// Count, nextoffset and maxnextoffset are not tested; with link 0 freeblock becomes 0 and the pool stays listed.
+fn r13(calls: &mut dyn Calls) {
+    let mut desk = Desk::fresh(calls, 1, 16);
+    desk.done(Ask { size: 8 }, 48);
+    desk.done(Ask { size: 16 }, 4144);
+    desk.done(GiveBack { offset: 48 }, 48);
+    desk.set_link(48, 0);
+    for (word, value) in [(COUNT, 900), (NEXTOFFSET, 64), (MAXNEXTOFFSET, 2)] {
+        *desk.pool(0, word) = value;
+    }
+    desk.done(Ask { size: 8 }, 48);
+    assert_eq!([COUNT, FREEBLOCK, NEXTOFFSET, MAXNEXTOFFSET].map(|word| *desk.pool(0, word)), [1, 0, 64, 2]);
+    assert_eq!(*desk.books(head(8)), 1);
+}
+
+/// It is not read where there is a link, and above maxnextoffset any value means full.
+fn r14(calls: &mut dyn Calls) {
+    let mut desk = Desk::fresh(calls, 1, 16);
+    desk.done(Ask { size: 8 }, 48);
+    desk.done(Ask { size: 8 }, 56);
+    desk.done(GiveBack { offset: 48 }, 48);
+    *desk.pool(0, NEXTOFFSET) = 49;
+    desk.done(Ask { size: 8 }, 48);
+    desk.refused(Ask { size: 8 }, 6);
+    *desk.pool(0, NEXTOFFSET) = u32::MAX;
+    desk.done(Ask { size: 8 }, 64);
+    assert_eq!([*desk.pool(0, FREEBLOCK), *desk.books(head(8))], [0, 0]);
+}
+
+/// A set bit of block 2 is not tested, one of block 0 or 1 is 6.
+fn r15(calls: &mut dyn Calls) {
+    for (bits, number) in [(0b001, 6), (0b010, 6), (0b100, 0)] {
+        let mut desk = Desk::fresh(calls, 1, 16);
+        *desk.bits(0) = bits;
+        assert_eq!(desk.answer(Ask { size: 8 }).number, number, "bits {bits:#b}");
+    }
+}
+
+fn r16(calls: &mut dyn Calls) {
+    let mut desk = Desk::fresh(calls, 1, 16);
+    desk.done(Ask { size: 8 }, 48);
+    *desk.books(head(8)) = u32::MAX;
+    *desk.pool(0, COUNT) = 0;
+    *desk.pool(0, FREEBLOCK) = 49;
+    desk.done(Resize { offset: 48, size: 7 }, 48);
+    desk.refused(Resize { offset: 48, size: 6 }, 6);
+}
+
+fn r17(calls: &mut dyn Calls) {
+    let mut desk = Desk::fresh(calls, 1, 2);
+    desk.done(Ask { size: 512 }, 48);
+    *desk.bits(0) |= 1 << 7;
+    desk.refused(GiveBack { offset: 3632 }, 5);
+    assert_eq!(desk.roll(2), (Answer { number: 0, value: 1 }, vec![48, 512]));
+
+    *desk.pool(0, CLASS) = 64;
+    desk.refused(GiveBack { offset: 48 }, 5);
+    desk.refused(Resize { offset: 48, size: 8 }, 5);
+    desk.refused(ViewSize { offset: 48 }, 5);
+    desk.refused(Write { offset: 48, length: 0, first: 0 }, 5);
+    assert_eq!(desk.roll(0), (Answer { number: 0, value: 0 }, vec![]));
+}
+
+fn r22(calls: &mut dyn Calls) {
+    let mut desk = Desk::fresh(calls, 1, 16);
+    desk.done(RollCall { words: 0 }, 0);
+    desk.done(Ask { size: 8 }, 48);
+    desk.done(Write { offset: 48, length: 0, first: 0 }, 48);
+    desk.refused(RollCall { words: 1 }, 7);
+}
+
+fn r23(calls: &mut dyn Calls) {
+    let mut desk = Desk::fresh(calls, 1, 2);
+    let far = 1 << 32;
+    desk.refused(Format { arenas: far + 1, pools: 2 }, 1);
+    desk.refused(Format { arenas: 1, pools: far + 2 }, 1);
+    desk.refused(Ask { size: far + 8 }, 3);
+    desk.done(Ask { size: 8 }, 48);
+    desk.refused(GiveBack { offset: far + 48 }, 5);
+    desk.refused(Resize { offset: 48, size: far + 8 }, 3);
+    desk.refused(Resize { offset: far + 48, size: 8 }, 5);
+    desk.refused(ViewSize { offset: far + 48 }, 5);
+    desk.refused(Write { offset: far + 48, length: 1, first: 0 }, 5);
+}
+
+/// Its value becomes the pool's next, so it is used: above A x P it is 6.
+fn returning_pool(calls: &mut dyn Calls) {
+    let mut desk = Desk::fresh(calls, 1, 16);
+    desk.done(Ask { size: 8 }, 48);
+    *desk.arena(0, FREED_HEAD) = 17;
+    desk.refused(GiveBack { offset: 48 }, 6);
+    *desk.arena(0, FREED_HEAD) = 16;
+    desk.done(GiveBack { offset: 48 }, 48);
+    assert_eq!([*desk.pool(0, NEXT), *desk.pool(15, PREVIOUS)], [16, 0]);
+}
