@@ -1,0 +1,62 @@
+/* Replays 01's records through the C library, for a heap of any shape: library A P < records > replies.
+ * The records are whole and well made: bad ones are the replay program's own business. */
+#include "../../include/heskavern.h"
+
+#include <stdio.h>
+#include <stdlib.h>
+
+enum { RECORD = 16, ASK = 1, GIVE_BACK = 2 };
+enum { MOST = 16 * 64 };
+
+static uint8_t memory[HESKAVERN_MEMORY_BYTES(1, MOST)];
+static uint32_t books[HESKAVERN_BOOKS_WORDS(16, 64)];
+static uint64_t map[HESKAVERN_MAP_WORDS(1, MOST)];
+static size_t arenas, pools;
+
+#define HEAP memory, HESKAVERN_MEMORY_BYTES(arenas, pools), books, HESKAVERN_BOOKS_WORDS(arenas, pools), map, HESKAVERN_MAP_WORDS(arenas, pools)
+
+static uint32_t get32(const unsigned char *b)
+{
+    return b[0] | (uint32_t)b[1] << 8 | (uint32_t)b[2] << 16 | (uint32_t)b[3] << 24;
+}
+
+static void put32(unsigned char *b, uint32_t n)
+{
+    for (int i = 0; i < 4; i++)
+        b[i] = (unsigned char)(n >> 8 * i);
+}
+
+/* The reply to a record; live is the number of live blocks before it and after it. */
+static void answer(const unsigned char *record, unsigned char *reply, uint32_t *live)
+{
+    unsigned op = record[0];
+    uint32_t size = get32(record + 4), offset = get32(record + 8);
+    uint32_t given = op == GIVE_BACK ? heskavern_view_size(HEAP, offset).value : 0;
+    heskavern_answer a = op == ASK ? heskavern_ask(HEAP, size) : op == GIVE_BACK ? heskavern_give_back(HEAP, offset) : heskavern_resize(HEAP, offset, size);
+    int done = a.number == HESKAVERN_DONE;
+    if (done && op == ASK)
+        ++*live;
+    if (done && op == GIVE_BACK)
+        --*live;
+    put32(reply, op | a.number << 8);
+    put32(reply + 4, done ? a.value : op == ASK ? 0 : offset);
+    put32(reply + 8, !done ? 0 : op == GIVE_BACK ? given : heskavern_view_size(HEAP, a.value).value);
+    put32(reply + 12, *live);
+}
+
+int main(int argc, char **argv)
+{
+    unsigned char record[RECORD], reply[RECORD];
+    uint32_t live = 0;
+    arenas = argc == 3 ? strtoul(argv[1], NULL, 10) : 0;
+    pools = argc == 3 ? strtoul(argv[2], NULL, 10) : 0;
+    if (arenas > 16 || pools > 64 || heskavern_format(HEAP, arenas, pools).number != HESKAVERN_DONE) {
+        fputs("usage: library A P, with A from 1 to 16 and P from 2 to 64\n", stderr);
+        return 2;
+    }
+    while (fread(record, 1, RECORD, stdin) == RECORD) {
+        answer(record, reply, &live);
+        fwrite(reply, 1, RECORD, stdout);
+    }
+    return fflush(stdout) == 0 ? 0 : 1;
+}
