@@ -47,7 +47,7 @@ enum {
     HESKAVERN_BAD_SIZE = 3,     /* size 0 or above 512 */
     HESKAVERN_NO_ROOM = 4,      /* no room */
     HESKAVERN_NOT_LIVE = 5,     /* offset not live */
-    HESKAVERN_DAMAGED = 6,      /* books damaged */
+    HESKAVERN_DAMAGED = 6,      /* books damaged; see resize for its one answer with a value */
     HESKAVERN_DOES_NOT_FIT = 7  /* text longer than its block, or fewer than two roll words for each live block */
 };
 
