@@ -39,7 +39,8 @@ Example:
 extern "C" {
 #endif
 
-/* The numbers. Books of under two words are 2; then the tests come in the order 1, 2, 3, 5, 7, and then the step, which gives 4 or 6. */
+/* The numbers. Format tests its A and P and then the lengths. In every other call books of under two words are 2; then the tests come in the order
+   1, 2, 3, 5, 7, and then the step, which gives 4 or 6. */
 enum {
     HESKAVERN_DONE = 0,         /* done */
     HESKAVERN_OUT_OF_RANGE = 1, /* A or P out of range */
