@@ -39,7 +39,8 @@ Example:
 extern "C" {
 #endif
 
-/* The numbers. Books of under two words are 2; then the tests come in the order 1, 2, 3, 5, 7, and then the step, which gives 4 or 6. */
+/* The numbers. Format tests its A and P and then the lengths. In every other call books of under two words are 2; then the tests come in the order
+   1, 2, 3, 5, 7, and then the step, which gives 4 or 6. */
 enum {
     HESKAVERN_DONE = 0,         /* done */
     HESKAVERN_OUT_OF_RANGE = 1, /* A or P out of range */
@@ -47,7 +48,7 @@ enum {
     HESKAVERN_BAD_SIZE = 3,     /* size 0 or above 512 */
     HESKAVERN_NO_ROOM = 4,      /* no room */
     HESKAVERN_NOT_LIVE = 5,     /* offset not live */
-    HESKAVERN_DAMAGED = 6,      /* books damaged */
+    HESKAVERN_DAMAGED = 6,      /* books damaged; see resize for its one answer with a value */
     HESKAVERN_DOES_NOT_FIT = 7  /* text longer than its block, or fewer than two roll words for each live block */
 };
 

@@ -329,6 +329,7 @@ static void wrong_lengths(void)
     books_words = 1;
     books[0] = 0;
     EXPECT(is(FORMAT(1, 2), HESKAVERN_NOT_EXACT, 0));
+    EXPECT(is(FORMAT(0, 2), HESKAVERN_OUT_OF_RANGE, 0));
     expect_refused(HESKAVERN_NOT_EXACT);
 }
 

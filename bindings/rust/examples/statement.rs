@@ -1,0 +1,39 @@
+//! A talking statement keeps each text in a block. The block of the word "owed" is given back twice: the second time is refused, the payee's name gets a
+//! block of its own, and the roll call says what every block that is out holds.
+//!
+//! cargo run --manifest-path bindings/rust/Cargo.toml --example statement
+
+use heskavern::{books_words, map_words, memory_bytes, roll_words, Heap, Refusal};
+
+/// Keeps a text in a block that is asked for it, and answers where.
+fn keep(heap: &mut Heap, text: &str) -> Result<u32, Refusal> {
+    let offset = heap.ask(text.len())?;
+    heap.write(offset, text.as_bytes())?;
+    println!("keep \"{text}\" at {offset}");
+    Ok(offset)
+}
+
+fn give_back(heap: &mut Heap, offset: u32) {
+    let number = heap.give_back(offset).map_or_else(Refusal::number, |()| 0);
+    println!("give back {offset}: number {number}");
+}
+
+fn main() -> Result<(), Refusal> {
+    let mut memory = [0; memory_bytes(1, 2)];
+    let mut books = [0; books_words(1, 2)];
+    let mut map = [0; map_words(1, 2)];
+    let mut heap = Heap::format(&mut memory, &mut books, &mut map, 1, 2)?;
+
+    let owed = keep(&mut heap, "owed")?;
+    give_back(&mut heap, owed);
+    give_back(&mut heap, owed);
+    keep(&mut heap, "owed")?;
+    keep(&mut heap, "A. Moss")?;
+
+    let mut words = [0; roll_words(1, 2)];
+    for (offset, size) in heap.roll_call(&mut words)? {
+        let text = String::from_utf8_lossy(heap.view(offset)?);
+        println!("roll call: {offset}, {size} bytes, \"{}\"", text.trim_end_matches('\0'));
+    }
+    Ok(())
+}

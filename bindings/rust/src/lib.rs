@@ -1,0 +1,239 @@
+//! Heskavern: a small-block allocator over memory that its caller lends, with every promise proved.
+//!
+//! A heap has A arenas (1 to 16) of P pools (2 to 64); a pool is 4,096 bytes. Three buffers are lent to it: memory, which holds the blocks, books and
+//! map, each of an exact length ([`memory_bytes`], [`books_words`], [`map_words`]). A block is known by its offset in memory. A call that cannot be done is
+//! refused with a number, which a [`Refusal`] names, and changes nothing.
+//!
+//! ```
+//! use heskavern::{books_words, map_words, memory_bytes, Heap, Refusal};
+//!
+//! let mut memory = [0; memory_bytes(1, 16)];
+//! let mut books = [0; books_words(1, 16)];
+//! let mut map = [0; map_words(1, 16)];
+//! let mut heap = Heap::format(&mut memory, &mut books, &mut map, 1, 16)?;
+//!
+//! let word = heap.ask(4)?;
+//! heap.write(word, b"owed")?;
+//! assert!(heap.view(word)?.starts_with(b"owed"));
+//! heap.give_back(word)?;
+//! assert_eq!(heap.give_back(word), Err(Refusal::NotLive));
+//! # Ok::<(), Refusal>(())
+//! ```
+//!
+//! The calls are those of `libheskavern.a`, whose source is proved (docs/PROMISES.md in the repository). This crate adds types, and nothing to what they do.
+#![deny(missing_docs)]
+#![deny(unsafe_code)]
+
+use std::fmt;
+
+#[allow(unsafe_code)]
+mod raw;
+mod refusal;
+mod roll;
+
+pub use refusal::Refusal;
+pub use roll::Roll;
+
+/// The exact length of memory, in bytes, for A arenas of P pools.
+pub const fn memory_bytes(arenas: usize, pools: usize) -> usize {
+    arenas * pools * 4096
+}
+
+/// The exact length of books, in words of 32 bits, for A arenas of P pools.
+pub const fn books_words(arenas: usize, pools: usize) -> usize {
+    72 + 8 * arenas + 8 * arenas * pools
+}
+
+/// The exact length of map, in words of 64 bits, for A arenas of P pools.
+pub const fn map_words(arenas: usize, pools: usize) -> usize {
+    8 * arenas * pools
+}
+
+/// Roll words that are enough for every roll call on A arenas of P pools: two for each block, were all of them of 8 bytes and live.
+pub const fn roll_words(arenas: usize, pools: usize) -> usize {
+    2 * 506 * arenas * pools
+}
+
+/// A heap over three lent buffers.
+///
+/// While it stands, nothing else can read or write them. A holder writes to its own block by [`write`](Heap::write) or [`view_mut`](Heap::view_mut). So, from
+/// [`format`](Heap::format) on, a block is never handed out twice and no call gives 6. Only [`open`](Heap::open) can bring in books that something damaged.
+pub struct Heap<'a> {
+    memory: &'a mut [u8],
+    books: &'a mut [u32],
+    map: &'a mut [u64],
+}
+
+impl<'a> Heap<'a> {
+    /// Format: a fresh heap of the given A and P. Writes all books and map, and no memory. Refused with 1 or 2.
+    ///
+    /// ```
+    /// # use heskavern::{books_words, map_words, memory_bytes, Heap, Refusal};
+    /// # let (mut memory, mut books, mut map) = ([0; memory_bytes(1, 2)], [0; books_words(1, 2)], [0; map_words(1, 2)]);
+    /// assert!(Heap::format(&mut memory, &mut books, &mut map, 1, 2).is_ok());
+    /// assert_eq!(Heap::format(&mut memory, &mut books, &mut map, 1, 1).unwrap_err(), Refusal::OutOfRange);
+    /// assert_eq!(Heap::format(&mut memory, &mut books, &mut map, 1, 3).unwrap_err(), Refusal::NotExact);
+    /// ```
+    pub fn format(memory: &'a mut [u8], books: &'a mut [u32], map: &'a mut [u64], arenas: usize, pools: usize) -> Result<Self, Refusal> {
+        done(raw::format(memory, books, map, arenas, pools))?;
+        Ok(Heap { memory, books, map })
+    }
+
+    /// A heap that was formatted before, with the blocks that are live in it. Writes nothing. Refused with 1 or 2, by the A and P that stand in the books;
+    /// other damage to them is met by the call that comes upon it.
+    ///
+    /// ```
+    /// # use heskavern::{books_words, map_words, memory_bytes, Heap, Refusal};
+    /// # let (mut memory, mut books, mut map) = ([0; memory_bytes(1, 2)], [0; books_words(1, 2)], [0; map_words(1, 2)]);
+    /// let mut heap = Heap::format(&mut memory, &mut books, &mut map, 1, 2)?;
+    /// let word = heap.ask(4)?;
+    ///
+    /// let mut heap = Heap::open(&mut memory, &mut books, &mut map)?;
+    /// heap.give_back(word)?;
+    /// # Ok::<(), Refusal>(())
+    /// ```
+    pub fn open(memory: &'a mut [u8], books: &'a mut [u32], map: &'a mut [u64]) -> Result<Self, Refusal> {
+        let heap = Heap { memory, books, map };
+        // No block starts at 0, so 5 there says that the tests before it are passed.
+        match heap.size_at(0) {
+            Ok(_) | Err(Refusal::NotLive) => Ok(heap),
+            Err(refusal) => Err(refusal),
+        }
+    }
+
+    /// Ask: hands out a block of at least `size` bytes and answers its offset. Its bytes are not cleared. Refused with 3, 4 or 6.
+    ///
+    /// ```
+    /// # use heskavern::{books_words, map_words, memory_bytes, Heap, Refusal};
+    /// # let (mut memory, mut books, mut map) = ([0; memory_bytes(1, 2)], [0; books_words(1, 2)], [0; map_words(1, 2)]);
+    /// # let mut heap = Heap::format(&mut memory, &mut books, &mut map, 1, 2)?;
+    /// assert_eq!(heap.ask(8), Ok(48));
+    /// assert_eq!(heap.ask(8), Ok(56));
+    /// assert_eq!(heap.ask(513), Err(Refusal::BadSize));
+    /// # Ok::<(), Refusal>(())
+    /// ```
+    pub fn ask(&mut self, size: usize) -> Result<u32, Refusal> {
+        done(raw::ask(self.memory, self.books, self.map, size))
+    }
+
+    /// Give back: the block at `offset` is live no more. Refused with 5 or 6.
+    ///
+    /// ```
+    /// # use heskavern::{books_words, map_words, memory_bytes, Heap, Refusal};
+    /// # let (mut memory, mut books, mut map) = ([0; memory_bytes(1, 2)], [0; books_words(1, 2)], [0; map_words(1, 2)]);
+    /// # let mut heap = Heap::format(&mut memory, &mut books, &mut map, 1, 2)?;
+    /// let word = heap.ask(4)?;
+    /// assert_eq!(heap.give_back(word), Ok(()));
+    /// assert_eq!(heap.give_back(word), Err(Refusal::NotLive));
+    /// # Ok::<(), Refusal>(())
+    /// ```
+    pub fn give_back(&mut self, offset: u32) -> Result<(), Refusal> {
+        done(raw::give_back(self.memory, self.books, self.map, offset as usize)).map(drop)
+    }
+
+    /// Resize: makes room for `size` bytes and answers the offset of the block that the text is then in. Of a block of s bytes, the offset is kept where
+    /// `size <= s` and `4 * size > 3 * s`. Otherwise a block is asked for, the first bytes are copied to it, and the old block is given back. Refused with
+    /// 3, 5, 4 or 6; [`Refusal::HalfDone`] has the new offset where only the give-back could not be done.
+    ///
+    /// ```
+    /// # use heskavern::{books_words, map_words, memory_bytes, Heap, Refusal};
+    /// # let (mut memory, mut books, mut map) = ([0; memory_bytes(1, 2)], [0; books_words(1, 2)], [0; map_words(1, 2)]);
+    /// # let mut heap = Heap::format(&mut memory, &mut books, &mut map, 1, 2)?;
+    /// let word = heap.ask(100)?;
+    /// heap.write(word, b"owed")?;
+    /// assert_eq!(heap.resize(word, 79), Ok(word));
+    /// let moved = heap.resize(word, 78)?;
+    /// assert!(heap.view(moved)?.starts_with(b"owed"));
+    /// assert_eq!(heap.view(word), Err(Refusal::NotLive));
+    /// # Ok::<(), Refusal>(())
+    /// ```
+    pub fn resize(&mut self, offset: u32, size: usize) -> Result<u32, Refusal> {
+        done(raw::resize(self.memory, self.books, self.map, offset as usize, size))
+    }
+
+    /// View: the live block's own part of memory, the whole block. Refused with 5.
+    ///
+    /// ```
+    /// # use heskavern::{books_words, map_words, memory_bytes, Heap, Refusal};
+    /// # let (mut memory, mut books, mut map) = ([0; memory_bytes(1, 2)], [0; books_words(1, 2)], [0; map_words(1, 2)]);
+    /// # let mut heap = Heap::format(&mut memory, &mut books, &mut map, 1, 2)?;
+    /// let word = heap.ask(4)?;
+    /// assert_eq!(heap.view(word)?.len(), 8);
+    /// assert_eq!(heap.view(word + 4), Err(Refusal::NotLive));
+    /// # Ok::<(), Refusal>(())
+    /// ```
+    pub fn view(&self, offset: u32) -> Result<&[u8], Refusal> {
+        let size = self.size_at(offset)?;
+        Ok(&self.memory[offset as usize..][..size])
+    }
+
+    /// View, for the holder to write to. Refused with 5.
+    ///
+    /// ```
+    /// # use heskavern::{books_words, map_words, memory_bytes, Heap, Refusal};
+    /// # let (mut memory, mut books, mut map) = ([0; memory_bytes(1, 2)], [0; books_words(1, 2)], [0; map_words(1, 2)]);
+    /// # let mut heap = Heap::format(&mut memory, &mut books, &mut map, 1, 2)?;
+    /// let word = heap.ask(4)?;
+    /// heap.view_mut(word)?.fill(b'-');
+    /// assert_eq!(heap.view(word)?, b"--------");
+    /// # Ok::<(), Refusal>(())
+    /// ```
+    pub fn view_mut(&mut self, offset: u32) -> Result<&mut [u8], Refusal> {
+        let size = self.size_at(offset)?;
+        Ok(&mut self.memory[offset as usize..][..size])
+    }
+
+    /// Write: copies the text to the start of the live block; the rest of the block stays. Refused with 5 or 7.
+    ///
+    /// ```
+    /// # use heskavern::{books_words, map_words, memory_bytes, Heap, Refusal};
+    /// # let (mut memory, mut books, mut map) = ([0; memory_bytes(1, 2)], [0; books_words(1, 2)], [0; map_words(1, 2)]);
+    /// # let mut heap = Heap::format(&mut memory, &mut books, &mut map, 1, 2)?;
+    /// let word = heap.ask(4)?;
+    /// heap.write(word, b"owed")?;
+    /// assert_eq!(&heap.view(word)?[..4], b"owed");
+    /// assert_eq!(heap.write(word, b"overdrawn"), Err(Refusal::DoesNotFit));
+    /// # Ok::<(), Refusal>(())
+    /// ```
+    pub fn write(&mut self, offset: u32, text: &[u8]) -> Result<(), Refusal> {
+        done(raw::write(self.memory, self.books, self.map, offset as usize, text)).map(drop)
+    }
+
+    /// Roll call: lists offset and block size of each live block, by rising offset. They are written to the lent words, two for each block; the words after
+    /// them stay. Refused with 7 where there are too few; [`roll_words`] are always enough.
+    ///
+    /// ```
+    /// # use heskavern::{books_words, map_words, memory_bytes, roll_words, Heap, Refusal};
+    /// # let (mut memory, mut books, mut map) = ([0; memory_bytes(1, 2)], [0; books_words(1, 2)], [0; map_words(1, 2)]);
+    /// # let mut heap = Heap::format(&mut memory, &mut books, &mut map, 1, 2)?;
+    /// heap.ask(4)?;
+    /// heap.ask(100)?;
+    /// let mut words = [0; roll_words(1, 2)];
+    /// assert!(heap.roll_call(&mut words)?.eq([(48, 8), (4144, 104)]));
+    /// # Ok::<(), Refusal>(())
+    /// ```
+    pub fn roll_call<'r>(&self, words: &'r mut [u32]) -> Result<Roll<'r>, Refusal> {
+        let live = done(raw::roll_call(self.memory, self.books, self.map, words))?;
+        Ok(Roll::new(&words[..2 * live as usize]))
+    }
+
+    /// The size of the live block at an offset.
+    fn size_at(&self, offset: u32) -> Result<usize, Refusal> {
+        done(raw::view_size(self.memory, self.books, self.map, offset as usize)).map(|size| size as usize)
+    }
+}
+
+/// Shows A and P, and not the buffers.
+impl fmt::Debug for Heap<'_> {
+    fn fmt(&self, f: &mut fmt::Formatter<'_>) -> fmt::Result {
+        f.debug_struct("Heap").field("arenas", &self.books[0]).field("pools", &self.books[1]).finish_non_exhaustive()
+    }
+}
+
+/// The value of a call that is done, or why it is refused.
+fn done(answer: raw::Answer) -> Result<u32, Refusal> {
+    match answer.number {
+        0 => Ok(answer.value),
+        number => Err(Refusal::of(number, answer.value)),
+    }
+}

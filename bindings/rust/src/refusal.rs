@@ -1,0 +1,100 @@
+//! Why a call is refused.
+
+use std::error::Error;
+use std::fmt;
+
+/// Why a call is refused: each of the library's numbers under a name. A refused call leaves every byte and word as it was, but for [`HalfDone`].
+///
+/// ```
+/// use heskavern::Refusal;
+/// assert_eq!(Refusal::NotLive.number(), 5);
+/// assert_eq!(Refusal::NotLive.to_string(), "offset not live");
+/// ```
+///
+/// [`HalfDone`]: Refusal::HalfDone
+#[derive(Clone, Copy, Debug, PartialEq, Eq, Hash)]
+#[non_exhaustive]
+pub enum Refusal {
+    /// 1: A or P out of range.
+    OutOfRange,
+    /// 2: a lent length is not exact.
+    NotExact,
+    /// 3: size 0 or above 512.
+    BadSize,
+    /// 4: no room.
+    NoRoom,
+    /// 5: offset not live.
+    NotLive,
+    /// 6: books damaged.
+    Damaged,
+    /// 6 of a resize that was half done: the text stands in the new block, at this offset, and the old block could not be given back.
+    HalfDone(u32),
+    /// 7: text longer than its block, or fewer than two roll words for each live block.
+    DoesNotFit,
+    /// A number that this crate does not know.
+    Unknown(u32),
+}
+
+impl Refusal {
+    /// The number that the library gives for it.
+    pub const fn number(self) -> u32 {
+        match self {
+            Refusal::OutOfRange => 1,
+            Refusal::NotExact => 2,
+            Refusal::BadSize => 3,
+            Refusal::NoRoom => 4,
+            Refusal::NotLive => 5,
+            Refusal::Damaged | Refusal::HalfDone(_) => 6,
+            Refusal::DoesNotFit => 7,
+            Refusal::Unknown(number) => number,
+        }
+    }
+
+    /// The refusal that has this number, with the value beside it. No block starts at 0, so a 6 with another value is a half-done resize.
+    pub(crate) const fn of(number: u32, value: u32) -> Refusal {
+        match (number, value) {
+            (1, _) => Refusal::OutOfRange,
+            (2, _) => Refusal::NotExact,
+            (3, _) => Refusal::BadSize,
+            (4, _) => Refusal::NoRoom,
+            (5, _) => Refusal::NotLive,
+            (6, 0) => Refusal::Damaged,
+            (6, offset) => Refusal::HalfDone(offset),
+            (7, _) => Refusal::DoesNotFit,
+            (unknown, _) => Refusal::Unknown(unknown),
+        }
+    }
+}
+
+impl fmt::Display for Refusal {
+    fn fmt(&self, f: &mut fmt::Formatter<'_>) -> fmt::Result {
+        match self {
+            Refusal::OutOfRange => f.write_str("A or P out of range"),
+            Refusal::NotExact => f.write_str("a lent length is not exact"),
+            Refusal::BadSize => f.write_str("size 0 or above 512"),
+            Refusal::NoRoom => f.write_str("no room"),
+            Refusal::NotLive => f.write_str("offset not live"),
+            Refusal::Damaged => f.write_str("books damaged"),
+            Refusal::HalfDone(offset) => write!(f, "books damaged: the text is now at {offset}, and its old block could not be given back"),
+            Refusal::DoesNotFit => f.write_str("text longer than its block, or fewer than two roll words for each live block"),
+            Refusal::Unknown(number) => write!(f, "refused with the unknown number {number}"),
+        }
+    }
+}
+
+impl Error for Refusal {}
+
+#[cfg(test)]
+mod tests {
+    use super::Refusal;
+
+    #[test]
+    fn each_number_has_its_refusal() {
+        for number in 1..=100 {
+            assert_eq!(Refusal::of(number, 0).number(), number);
+            assert_eq!(matches!(Refusal::of(number, 0), Refusal::Unknown(_)), number > 7);
+        }
+        assert_eq!(Refusal::of(6, 48), Refusal::HalfDone(48));
+        assert_eq!(Refusal::HalfDone(48).number(), 6);
+    }
+}

@@ -1,0 +1,123 @@
+//! 01's cases through the bindings: what a caller in Rust gets for each number, and what it can get hold of.
+
+use heskavern::{books_words, map_words, memory_bytes, roll_words, Heap, Refusal};
+
+/// Buffers for A arenas of P pools, which held something else.
+struct Lent {
+    memory: Vec<u8>,
+    books: Vec<u32>,
+    map: Vec<u64>,
+}
+
+fn lent(arenas: usize, pools: usize) -> Lent {
+    Lent { memory: vec![0xA5; memory_bytes(arenas, pools)], books: vec![0xA5; books_words(arenas, pools)], map: vec![0xA5; map_words(arenas, pools)] }
+}
+
+impl Lent {
+    fn format(&mut self, arenas: usize, pools: usize) -> Result<Heap<'_>, Refusal> {
+        Heap::format(&mut self.memory, &mut self.books, &mut self.map, arenas, pools)
+    }
+
+    fn open(&mut self) -> Result<Heap<'_>, Refusal> {
+        Heap::open(&mut self.memory, &mut self.books, &mut self.map)
+    }
+}
+
+#[test]
+fn blocks_come_back_in_01s_order() -> Result<(), Refusal> {
+    let mut lent = lent(1, 16);
+    let mut heap = lent.format(1, 16)?;
+    assert_eq!([heap.ask(1)?, heap.ask(1)?, heap.ask(9)?], [48, 56, 4144]);
+    heap.give_back(48)?;
+    heap.give_back(56)?;
+    assert_eq!(heap.ask(8), Ok(56));
+    Ok(())
+}
+
+#[test]
+fn a_full_heap_serves_again_what_is_given_back() -> Result<(), Refusal> {
+    let mut lent = lent(1, 2);
+    let mut heap = lent.format(1, 2)?;
+    let all: Vec<u32> = (0..1012).map(|_| heap.ask(8)).collect::<Result<_, _>>()?;
+    assert_eq!((all[505], all[506], all[1011]), (4088, 4144, 8184));
+    for &offset in &all {
+        assert_eq!(heap.ask(8), Err(Refusal::NoRoom));
+        heap.give_back(offset)?;
+        assert_eq!(heap.ask(8), Ok(offset));
+    }
+    let mut words = [0; roll_words(1, 2)];
+    assert_eq!(heap.roll_call(&mut words)?.len(), 1012);
+    Ok(())
+}
+
+#[test]
+fn resize_keeps_or_moves() -> Result<(), Refusal> {
+    let mut lent = lent(1, 16);
+    let mut heap = lent.format(1, 16)?;
+    let text: Vec<u8> = (0..104).collect();
+    assert_eq!(heap.ask(104), Ok(48));
+    heap.write(48, &text)?;
+    assert_eq!(heap.resize(48, 104), Ok(48));
+    assert_eq!(heap.resize(48, 105), Ok(4144));
+    assert_eq!(heap.view(4144)?[..104], text);
+    assert_eq!(heap.view(4144)?.len(), 112);
+    assert_eq!(heap.resize(48, 0), Err(Refusal::BadSize));
+    assert_eq!(heap.resize(48, 1), Err(Refusal::NotLive));
+    Ok(())
+}
+
+#[test]
+fn a_half_done_resize_tells_where_the_text_is() -> Result<(), Refusal> {
+    let mut lent = lent(1, 16);
+    let mut heap = lent.format(1, 16)?;
+    assert_eq!(heap.ask(8), Ok(48));
+    heap.write(48, b"owed")?;
+    lent.books[72 + 8] = 0; // the first pool's count, so that no block can be given back there
+    let mut heap = lent.open()?;
+    assert_eq!(heap.give_back(48), Err(Refusal::Damaged));
+    assert_eq!(heap.resize(48, 100), Err(Refusal::HalfDone(4144)));
+    assert!(heap.view(4144)?.starts_with(b"owed"));
+    Ok(())
+}
+
+#[test]
+fn open_asks_for_a_formatted_heap() -> Result<(), Refusal> {
+    let mut lent = lent(2, 3);
+    assert_eq!(lent.open().unwrap_err(), Refusal::OutOfRange);
+    lent.format(2, 3)?.ask(20)?;
+    assert_eq!(lent.open()?.view(48)?.len(), 24);
+    lent.map.pop();
+    assert_eq!(lent.open().unwrap_err(), Refusal::NotExact);
+    lent.books.truncate(1);
+    assert_eq!(lent.open().unwrap_err(), Refusal::NotExact);
+    Ok(())
+}
+
+#[test]
+fn a_short_roll_is_left_as_it_was() -> Result<(), Refusal> {
+    let mut lent = lent(1, 2);
+    let mut heap = lent.format(1, 2)?;
+    assert_eq!(heap.roll_call(&mut [])?.next(), None);
+    heap.ask(8)?;
+    heap.ask(9)?;
+    let mut words = [7; 5];
+    assert_eq!(heap.roll_call(&mut words[..3]).unwrap_err(), Refusal::DoesNotFit);
+    assert_eq!(words, [7; 5]);
+    assert_eq!(heap.roll_call(&mut words)?.collect::<Vec<_>>(), [(48, 8), (4144, 16)]);
+    assert_eq!(words, [48, 8, 4144, 16, 7]);
+    Ok(())
+}
+
+#[test]
+fn no_offset_is_too_large_to_ask_about() -> Result<(), Refusal> {
+    let mut lent = lent(1, 2);
+    let mut heap = lent.format(1, 2)?;
+    heap.ask(8)?;
+    for offset in [0, 47, 52, 56, 8192, u32::MAX] {
+        assert_eq!(heap.give_back(offset), Err(Refusal::NotLive));
+        assert_eq!(heap.view_mut(offset), Err(Refusal::NotLive));
+        assert_eq!(heap.write(offset, b""), Err(Refusal::NotLive));
+    }
+    assert_eq!(heap.write(48, b""), Ok(()));
+    Ok(())
+}
