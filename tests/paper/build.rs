@@ -1,4 +1,4 @@
-//! Makes a program of each slip for the tests, and links the library's archive where that is asked for.
+//! Makes a program of each slip for the tests.
 
 use std::path::Path;
 use std::{env, fs, process};
@@ -30,20 +30,6 @@ fn write_slips() {
     fs::write(Path::new(&out).join("broken.rs"), modules).unwrap_or_else(|error| stop(&format!("broken.rs: {error}")));
 }
 
-fn link_library() {
-    println!("cargo:rerun-if-env-changed=HESKAVERN_ARCHIVE_DIR");
-    let Ok(folder) = env::var("HESKAVERN_ARCHIVE_DIR") else {
-        stop("the feature 'library' needs HESKAVERN_ARCHIVE_DIR, the folder that holds libheskavern.a");
-    };
-    let archive = Path::new(&folder).join("libheskavern.a");
-    if !archive.is_file() {
-        stop(&format!("HESKAVERN_ARCHIVE_DIR: there is no {}", archive.display()));
-    }
-    println!("cargo:rerun-if-changed={}", archive.display());
-    println!("cargo:rustc-link-search=native={folder}");
-    println!("cargo:rustc-link-lib=static=heskavern");
-}
-
 fn stop(message: &str) -> ! {
     eprintln!("{message}");
     process::exit(1)
@@ -52,7 +38,4 @@ fn stop(message: &str) -> ! {
 fn main() {
     println!("cargo:rerun-if-changed=build.rs");
     write_slips();
-    if env::var_os("CARGO_FEATURE_LIBRARY").is_some() {
-        link_library();
-    }
 }

@@ -27,7 +27,7 @@
 use std::fmt;
 
 #[allow(unsafe_code)]
-mod raw;
+pub mod calls;
 mod refusal;
 mod roll;
 
@@ -75,7 +75,7 @@ impl<'a> Heap<'a> {
     /// assert_eq!(Heap::format(&mut memory, &mut books, &mut map, 1, 3).unwrap_err(), Refusal::NotExact);
     /// ```
     pub fn format(memory: &'a mut [u8], books: &'a mut [u32], map: &'a mut [u64], arenas: usize, pools: usize) -> Result<Self, Refusal> {
-        done(raw::format(memory, books, map, arenas, pools))?;
+        done(calls::format(memory, books, map, arenas, pools))?;
         Ok(Heap { memory, books, map })
     }
 
@@ -113,7 +113,7 @@ impl<'a> Heap<'a> {
     /// # Ok::<(), Refusal>(())
     /// ```
     pub fn ask(&mut self, size: usize) -> Result<u32, Refusal> {
-        done(raw::ask(self.memory, self.books, self.map, size))
+        done(calls::ask(self.memory, self.books, self.map, size))
     }
 
     /// Give back: the block at `offset` is live no more. Refused with 5 or 6.
@@ -128,7 +128,7 @@ impl<'a> Heap<'a> {
     /// # Ok::<(), Refusal>(())
     /// ```
     pub fn give_back(&mut self, offset: u32) -> Result<(), Refusal> {
-        done(raw::give_back(self.memory, self.books, self.map, offset as usize)).map(drop)
+        done(calls::give_back(self.memory, self.books, self.map, offset as usize)).map(drop)
     }
 
     /// Resize: makes room for `size` bytes and answers the offset of the block that the text is then in. Of a block of s bytes, the offset is kept where
@@ -148,7 +148,7 @@ impl<'a> Heap<'a> {
     /// # Ok::<(), Refusal>(())
     /// ```
     pub fn resize(&mut self, offset: u32, size: usize) -> Result<u32, Refusal> {
-        done(raw::resize(self.memory, self.books, self.map, offset as usize, size))
+        done(calls::resize(self.memory, self.books, self.map, offset as usize, size))
     }
 
     /// View: the live block's own part of memory, the whole block. Refused with 5.
@@ -196,7 +196,7 @@ impl<'a> Heap<'a> {
     /// # Ok::<(), Refusal>(())
     /// ```
     pub fn write(&mut self, offset: u32, text: &[u8]) -> Result<(), Refusal> {
-        done(raw::write(self.memory, self.books, self.map, offset as usize, text)).map(drop)
+        done(calls::write(self.memory, self.books, self.map, offset as usize, text)).map(drop)
     }
 
     /// Roll call: lists offset and block size of each live block, by rising offset. They are written to the lent words, two for each block; the words after
@@ -213,13 +213,13 @@ impl<'a> Heap<'a> {
     /// # Ok::<(), Refusal>(())
     /// ```
     pub fn roll_call<'r>(&self, words: &'r mut [u32]) -> Result<Roll<'r>, Refusal> {
-        let live = done(raw::roll_call(self.memory, self.books, self.map, words))?;
+        let live = done(calls::roll_call(self.memory, self.books, self.map, words))?;
         Ok(Roll::new(&words[..2 * live as usize]))
     }
 
     /// The size of the live block at an offset.
     fn size_at(&self, offset: u32) -> Result<usize, Refusal> {
-        done(raw::view_size(self.memory, self.books, self.map, offset as usize)).map(|size| size as usize)
+        done(calls::view_size(self.memory, self.books, self.map, offset as usize)).map(|size| size as usize)
     }
 }
 
@@ -231,7 +231,7 @@ impl fmt::Debug for Heap<'_> {
 }
 
 /// The value of a call that is done, or why it is refused.
-fn done(answer: raw::Answer) -> Result<u32, Refusal> {
+fn done(answer: calls::Answer) -> Result<u32, Refusal> {
     match answer.number {
         0 => Ok(answer.value),
         number => Err(Refusal::of(number, answer.value)),

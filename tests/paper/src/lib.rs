@@ -15,7 +15,6 @@ pub use paper::Paper;
 pub use trail::{Path, Rule, Trail};
 
 /// What a call answers: its number, and the offset, size or count that goes with it.
-#[repr(C)]
 #[derive(Clone, Copy, Debug, Default, PartialEq, Eq)]
 pub struct Answer {
     pub number: u32,
