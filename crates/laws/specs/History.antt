@@ -1,14 +1,15 @@
--- Histories of calls, run by the rules, and their ledgers, made from the calls and their answers.
+-- What the theorems speak of: histories of calls, run by the rules; their ledgers, made from the calls and their answers; and a heap with no room.
 -- Assumes nothing.
 use mathlib.Core.Logic.{_≢_}
-use mathlib.Core.Bool.{not}
+use mathlib.Core.Path.{_≡_}
+use mathlib.Core.Bool.{true, not}
 use mathlib.Core.List.{List, [], _∷_, _++_}
-use Prim.Native.Nat.{ℕ, zero, suc, _+_, min}
+use Prim.Native.Nat.{ℕ, zero, suc, _+_, _*_, _/_, _<_, min}
 use lib.Dec.{ltb, eqb}
 use lib.ListN.{length, set, take, drop}
 use Rattle.rules.specs.Say.{if_then_else_}
-use Rattle.rules.specs.Books.{Heap}
-use Rattle.rules.specs.Blocks.{classOf, sizeOf}
+use Rattle.rules.specs.Books.{Heap, class, pool, offsetOf}
+use Rattle.rules.specs.Blocks.{classOf, sizeOf, startOf, capacity, live}
 use Rattle.rules.specs.Outcome.{heapOf}
 use Rattle.rules.specs.View.{part}
 use Rattle.rules.specs.Numbers.{format, ask, giveBack, resize, viewSize, write, rollCall}
@@ -94,3 +95,13 @@ listing g o (suc n) = (if eqb (g o) 0 then [] else (o ∷ g o ∷ [])) ++ listin
 -- how many of the offsets below o hold something
 abbrev pub heldBelow : (ℕ → ℕ) → ℕ → ℕ
 heldBelow g o = howMany (λ x. not (eqb (g x) 0)) o
+
+-- ---- the heap h of A arenas with P pools has no room for class c: every pool holds a live block, and every pool of the class is full of live ones
+pub record LiveIn (al A P : ℕ) (h : Heap) (p : ℕ) : Type 0 where
+  pub offset : ℕ
+  pub inside : offset / 4096 ≡ p
+  pub is-live : live al A P (h .books) (h .map) offset ≡ true
+
+pub record Full (al A P : ℕ) (h : Heap) (c : ℕ) : Type 0 where
+  pub held-all : (p : ℕ) → p < A * P → LiveIn al A P h p
+  pub full-class : (p : ℕ) → p < A * P → pool A (h .books) class p ≡ c → (k : ℕ) → k < capacity (sizeOf al c) → live al A P (h .books) (h .map) (offsetOf p (startOf (sizeOf al c) k)) ≡ true

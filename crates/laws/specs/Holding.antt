@@ -18,9 +18,9 @@ use Rattle.books.specs.Known.{live-is}
 use Rattle.laws.specs.Update.{to}
 use Rattle.laws.specs.Plain.{Plain}
 use Rattle.laws.specs.Sizes.{Aligned, size-low, capacity-high}
-use Rattle.laws.specs.Chains.{block-ends}
+use Rattle.laws.specs.Chains.{block-ends, live-below}
 use Rattle.laws.specs.Sound.{Sound}
-use Rattle.laws.specs.Held.{held, clash}
+use Rattle.laws.specs.Held.{held, in-class, clash}
 use Rattle.laws.specs.Paths.{Quiet, Hand}
 use Rattle.laws.specs.Bytes.{part-long, part-same}
 
@@ -66,6 +66,16 @@ module _ {al A P : ℕ} {h : Heap} {r : Plain} (L : Aligned al) (S : Sound al A 
         fits = z .number;
         on = sym (S .bits (o / 4096) _ (t .pool) (omega (arith, z .few))) ∙ rw c at (t .set);
       }
+
+  -- a live block of the rows
+  pub block-live : (p k : ℕ) → p < A * P → r .live p k ≡ true → LiveAt al A P r (offsetOf p (startOf (sizeOf al (r .class p)) k))
+  block-live p k l on =
+      let I = in-class L (held S .says) p k l on in
+      record { pool = p; block = k; place = refl; inside = l; class = I .class-low; fits = omega (arith, live-below (I .blocks) k on, I .blocks .fits); on = on }
+
+  pub block-pool : (p k : ℕ) (l : p < A * P) (on : r .live p k ≡ true) → block-live p k l on .pool ≡ p
+  unfolding block-live
+  block-pool p k l on = refl
 
   module _ (o : ℕ) (t : LiveAt al A P r o) where
     ends : startOf (sizeOf al (r .class (t .pool))) (t .block) + sizeOf al (r .class (t .pool)) ≤ 4096

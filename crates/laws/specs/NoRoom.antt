@@ -14,8 +14,8 @@ use borrow.Author.Tests.{ltb-true, not-false}
 use Rattle.rules.specs.declared.AskPlan.{AskPlan}
 use Rattle.rules.specs.declared.AskPlan.the-variants.{NoRoom}
 use Rattle.rules.specs.Say.{if_then_else_}
-use Rattle.rules.specs.Books.{Heap, isSet, class, pool, classHead}
-use Rattle.rules.specs.Blocks.{classOf, sizeOf, capacity}
+use Rattle.rules.specs.Books.{Heap, classHead, offsetOf}
+use Rattle.rules.specs.Blocks.{classOf, sizeOf, startOf, capacity, live}
 use Rattle.rules.specs.Ask.{askAnswer}
 use Rattle.rules.specs.Outcome.{Outcome}
 use Rattle.rules.specs.Numbers.{ask}
@@ -27,12 +27,9 @@ use Rattle.laws.specs.Chains.{room, among}
 use Rattle.laws.specs.Sound.{Sound, InClass}
 use Rattle.laws.specs.Held.{held, Says, in-class, home-listed, base-unused, base-usable, arena-low, clash}
 use Rattle.laws.specs.Paths.{Hand}
+use Rattle.laws.specs.Holding.{holding, live-rows, rows-live, pool-is, block-live, block-pool, holding-more, holding-none}
+use Rattle.laws.specs.History.{Full}
 use Rattle.laws.specs.Calls.{plain-number, ask-done, ask-is}
-
--- the heap has no room for class c, by the map and the books' classes
-pub record Full (al A P : ℕ) (h : Heap) (c : ℕ) : Type 0 where
-  pub held-all : (p : ℕ) → p < A * P → Passes (λ k. isSet (h .map) p k) 512
-  pub full-class : (p : ℕ) → p < A * P → pool A (h .books) class p ≡ c → (k : ℕ) → k < capacity (sizeOf al c) → isSet (h .map) p k ≡ true
 
 -- the plain heap finds no room exactly with empty lists
 empty-lists : (al P : ℕ) (r : Plain) (c : ℕ) → plainAsk al P r c ≡ NoRoom → (r .listed c ≡ []) × (r .usable ≡ []) × (r .unused ≡ [])
@@ -101,12 +98,17 @@ module _ {al A P : ℕ} {h : Heap} {r : Plain} (L : Aligned al) (S : Sound al A 
     is-full : Full al A P h (classOf al n)
     is-full =
         record {
-          held-all = λ p l. let t = many-has (r .live p) 512 (all-used p l) in record { number = t .number; low = t .low; yes = S .bits p (t .number) l (t .low) ∙ t .yes };
+          held-all = λ p l.
+              let t = many-has (r .live p) 512 (all-used p l) in
+              let u = block-live L S p (t .number) l (t .yes) in
+              let o = offsetOf p (startOf (sizeOf al (r .class p)) (t .number)) in
+              record { offset = o; inside = pool-is L S o u ∙ block-pool L S p (t .number) l (t .yes); is-live = rows-live L S o u };
           full-class = λ p l e k u. whole p l (sym (S .classes p l) ∙ e) k u;
         }
       where
-        whole : (p : ℕ) → p < A * P → r .class p ≡ classOf al n → (k : ℕ) → k < capacity (sizeOf al (classOf al n)) → isSet (h .map) p k ≡ true
-        whole p l e k u = S .bits p k l (omega (arith, u, capacity-high L (classOf al n) (has-class L n high))) ∙ on
+        whole : (p : ℕ) → p < A * P → r .class p ≡ classOf al n → (k : ℕ) → k < capacity (sizeOf al (classOf al n))
+            → live al A P (h .books) (h .map) (offsetOf p (startOf (sizeOf al (classOf al n)) k)) ≡ true
+        whole p l e k u = rw (← e) (rows-live L S (offsetOf p (startOf (sizeOf al (r .class p)) k)) (block-live L S p k l on))
           where
             t : Passes (r .live p) 512
             t = many-has (r .live p) 512 (all-used p l)
@@ -150,8 +152,13 @@ module _ {al A P : ℕ} {h : Heap} {r : Plain} (L : Aligned al) (S : Sound al A 
 
           none : (r .class (H .pool) ≡ classOf al n) ⊎ ((j : ℕ) → r .live (H .pool) j ≡ false) → ⊥
           none (inl c) =
-              clash (sym (Z .full-class (H .pool) (H .inside) (S .classes (H .pool) (H .inside) ∙ c) (H .block) (H .fits)) ∙ S .bits (H .pool) (H .block) (H .inside) (omega (arith, H .fits, capacity-high L (classOf al n) (has-class L n high))) ∙ H .was-dead)
-          none (inr d) = let t = Z .held-all (H .pool) (H .inside) in clash (sym (t .yes) ∙ S .bits (H .pool) (t .number) (H .inside) (t .low) ∙ d (t .number))
+              let o = offsetOf (H .pool) (startOf (sizeOf al (classOf al n)) (H .block)) in
+              let e = Z .full-class (H .pool) (H .inside) (S .classes (H .pool) (H .inside) ∙ c) (H .block) (H .fits) in
+              absurd (omega (arith, holding-more L S o (live-rows L S o e), ap length (ap (holding al A P h) (sym (H .place)) ∙ holding-none L S (ask-done L S n low high .sound) (ask-done L S n low high .quiet) (has-class L n high) H)))
+          none (inr d) =
+              let t = Z .held-all (H .pool) (H .inside) in
+              let u = live-rows L S (t .offset) (t .is-live) in
+              clash (sym (u .on) ∙ ap (λ (p : ℕ). r .live p (u .block)) (sym (pool-is L S (t .offset) u) ∙ t .inside) ∙ d (u .block))
 
   -- ask n is refused with 4 exactly if the heap is full for its class
   pub four-full : ask al h n .answer .number ≡ 4 → Full al A P h (classOf al n)

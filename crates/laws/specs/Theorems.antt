@@ -20,8 +20,8 @@ use Rattle.laws.specs.Holding.{LiveAt, live-rows, class-is, in-memory, h
 use Rattle.laws.specs.Written.{apart}
 use Rattle.laws.specs.Calls.{shape-zero}
 use Rattle.laws.specs.Roll.{listing-same, listing-count, listing-place, sizeHeld, roll-is}
-use Rattle.laws.specs.NoRoom.{Full, four-full, full-four}
-use Rattle.laws.specs.History.{Event, State, NoSix, run, listing, heldBelow}
+use Rattle.laws.specs.NoRoom.{four-full, full-four}
+use Rattle.laws.specs.History.{Event, State, NoSix, run, listing, heldBelow, Full}
 use Rattle.laws.specs.Tied.{Tied, tied, first-format}
 
 -- ---- a history begins with a format that is done, over any buffers: the heap that it leaves, and the empty ledger
