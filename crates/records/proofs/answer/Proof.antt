@@ -1,0 +1,90 @@
+-- `records::answer` tests for a short record, then for an unknown op or a spare byte, and then makes the call.
+-- Assumes nothing.
+use mathlib.Core.Path.{sym, ap, _∙_}
+use Prim.Native.Nat.{ℕ}
+use borrow.Author.Tests.{lt-ltb, le-ltb, not-true, not-false}
+use Rattle.rules.specs.Replay.{replayRecord}
+use Rattle.records.specs.declared.Reply.{Reply}
+use Rattle.records.specs.Replies.{replyOf, refusalOf, repliedWith, counted, chosen, passed-over}
+use borrow.Author.Needs.{needs}
+use Rattle.records.proofs.answer.Statement.{statement}
+use Rattle.records.proofs.answer.Tie as tie
+
+live-blocks-requires : tie.Need-live-blocks-requires
+live-blocks-requires c κs = let a = c .before .before .before .before .before .before .before .args in counted (a .memory .now) (a .books .now) (a .map .now) (c .before .before .before .before .before .before .before .pre)
+
+same-length : tie.Need-same-length
+same-length c = search needs
+
+same-length-2 : tie.Need-same-length-2
+same-length-2 c = search needs
+
+returns : tie.Need-returns
+unfolding replayRecord
+returns c =
+    let a = c .before .before .before .before .before .before .before .before .args in
+    ap (λ (n : ℕ). repliedWith (replyOf 0 8 0 0 n) (a .memory .now) (a .books .now) (a .map .now)) (c .live-blocks .ensures)
+    ∙ chosen _ _ _ (lt-ltb _ _ (c .before .before .before .if1 .taken))
+
+well-made-requires : tie.Need-well-made-requires
+well-made-requires c κs = search needs
+
+live-blocks-requires-2 : tie.Need-live-blocks-requires-2
+live-blocks-requires-2 c κs = let a = c .before .before .before .before .before .before .before .before .before .args in counted (a .memory .now) (a .books .now) (a .map .now) (c .before .before .before .before .before .before .before .before .before .pre)
+
+refusal-requires : tie.Need-refusal-requires
+refusal-requires c κs = search needs
+
+same-length-3 : tie.Need-same-length-3
+same-length-3 c = search needs
+
+same-length-4 : tie.Need-same-length-4
+same-length-4 c = search needs
+
+returns-2 : tie.Need-returns-2
+unfolding replayRecord
+returns-2 c =
+    let a = c .before .before .before .before .before .before .before .before .before .before .before .args in
+    ap (λ (r : Reply). repliedWith r (a .memory .now) (a .books .now) (a .map .now))
+    (c .refusal .ensures ∙ ap (refusalOf (a .bytes .now) 9) (c .before .live-blocks2 .ensures))
+    ∙ passed-over _ _ _ (sym (c .before .before .before .before .before .well-made .ensures) ∙ not-true (c .before .before .before .before .before .well-made .result) (c .before .before .before .before .if2 .taken))
+    ∙ passed-over _ _ _ (le-ltb _ _ (c .before .before .before .before .before .before .if1 .left))
+
+answer-call-requires : tie.Need-answer-call-requires
+answer-call-requires c κs = search needs
+
+same-length-5 : tie.Need-same-length-5
+same-length-5 c = search needs
+
+same-length-6 : tie.Need-same-length-6
+same-length-6 c = search needs
+
+same-length-7 : tie.Need-same-length-7
+same-length-7 c = search needs
+
+returns-3 : tie.Need-returns-3
+unfolding replayRecord
+returns-3 c =
+    c .before .before .before .before .before .before .answer-call .ensures
+    ∙ chosen _ _ _ (sym (c .before .before .before .before .before .before .before .before .before .before .before .well-made .ensures) ∙ not-false (c .before .before .before .before .before .before .before .before .before .before .before .well-made .result) (c .before .before .before .before .before .before .before .before .before .before .if2 .left))
+    ∙ passed-over _ _ _ (le-ltb _ _ (c .before .before .before .before .before .before .before .before .before .before .before .before .if1 .left))
+
+pub answer-spec : {M : Type 1} → statement M
+answer-spec =
+    tie.close
+    (tie.spec
+    live-blocks-requires
+    same-length
+    same-length-2
+    returns
+    well-made-requires
+    live-blocks-requires-2
+    refusal-requires
+    same-length-3
+    same-length-4
+    returns-2
+    answer-call-requires
+    same-length-5
+    same-length-6
+    same-length-7
+    returns-3)

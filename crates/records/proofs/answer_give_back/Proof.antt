@@ -1,0 +1,76 @@
+-- `records::answer_give_back` reads the block's size, gives the block back, and replies with what that answered and the heap that it left.
+-- Assumes nothing.
+use mathlib.Core.Path.{ap, _∙_}
+use Prim.Native.Nat.{ℕ}
+use Rattle.rules.specs.Outcome.{Outcome, heapOf, outcome}
+use Rattle.rules.specs.Numbers.{giveBack, blockSize}
+use Rattle.rules.specs.Replay.{called}
+use Rattle.records.specs.Calls.{back-fair}
+use Rattle.records.specs.declared.Reply.{Reply}
+use Rattle.records.specs.Replies.{repliedWith, counted, small-number, still-whole, called-is}
+use borrow.Author.Needs.{needs}
+use Rattle.records.proofs.answer_give_back.Statement.{statement}
+use Rattle.records.proofs.answer_give_back.Tie as tie
+
+link-at-requires : tie.Need-link-at-requires
+link-at-requires c κs = search needs
+
+size-at-requires : tie.Need-size-at-requires
+size-at-requires c κs = search needs
+
+index-requires : tie.Need-index-requires
+index-requires c κs = search needs
+
+give-back-requires : tie.Need-give-back-requires
+give-back-requires c κs = search needs
+
+live-blocks-requires : tie.Need-live-blocks-requires
+live-blocks-requires c κs =
+    let a = c .before .before .before .before .before .before .before .before .before .before .before .before .before .before .before .before .before .before .before .before .args in
+    let x = c .before .before .before .before .before .before .before .before .give-back in
+    let fair = back-fair 8 (heapOf (a .memory .now) (a .books .now) (a .map .now)) (c .before .before .before .before .before .before .before .before .before .index .result) in
+    counted (x .last .0) (x .last .1 .0) (x .last .1 .1 .0)
+    (still-whole (a .memory .now) (a .books .now) (a .map .now) (x .last .0) (x .last .1 .0) (x .last .1 .1 .0) _
+    (c .before .before .before .before .before .before .before .before .before .before .before .before .before .before .before .before .before .before .before .before .pre .0) (fair .kept) (ap (λ (y : Outcome). y .heap) (x .ensures)) (x .kept .0) (x .kept .1 .0) (x .kept .1 .1 .0))
+
+reply-to-requires : tie.Need-reply-to-requires
+reply-to-requires c κs =
+    let a = c .before .before .before .before .before .before .before .before .before .before .before .before .before .before .before .before .before .before .before .before .before .args in
+    let x = c .before .before .before .before .before .before .before .before .before .give-back in
+    let fair = back-fair 8 (heapOf (a .memory .now) (a .books .now) (a .map .now)) (c .before .before .before .before .before .before .before .before .before .before .index .result) in
+    (c .before .before .before .before .before .before .before .before .before .before .before .before .before .before .before .before .before .before .before .before .before .pre .1, small-number fair (x .result) (heapOf (x .last .0) (x .last .1 .0) (x .last .1 .1 .0)) (x .ensures))
+
+same-length : tie.Need-same-length
+same-length c = search needs
+
+same-length-2 : tie.Need-same-length-2
+same-length-2 c = search needs
+
+same-length-3 : tie.Need-same-length-3
+same-length-3 c = search needs
+
+returns : tie.Need-returns
+returns c =
+    let a = c .before .before .before .before .before .before .before .before .before .before .before .before .before .before .before .before .before .before .before .before .before .before .args in
+    let x = c .before .before .before .before .before .before .before .before .before .before .give-back in
+    let g = heapOf (a .memory .now) (a .books .now) (a .map .now) in
+    let h = heapOf (x .last .0) (x .last .1 .0) (x .last .1 .1 .0) in
+    ap (λ (r : Reply). repliedWith r (x .last .0) (x .last .1 .0) (x .last .1 .1 .0)) (c .reply-to .ensures)
+    ∙ called-is (a .bytes .now) (outcome (x .result) h) (blockSize 8 g (c .before .before .before .before .before .before .before .before .before .before .before .before .before .before .before .before .before .link-at .result)) (c .before .before .before .before .before .before .before .before .before .before .before .before .before .before .before .size-at .result) (c .before .live-blocks .result) (c .before .before .before .before .before .before .before .before .before .before .before .before .before .before .before .size-at .ensures) (c .before .live-blocks .ensures)
+    ∙ ap (λ (y : Outcome). called 8 (a .bytes .now) y (blockSize 8 g (c .before .before .before .before .before .before .before .before .before .before .before .before .before .before .before .before .before .link-at .result))) (x .ensures ∙ ap (giveBack 8 g) (c .before .before .before .before .before .before .before .before .before .before .before .index .ensures .0))
+    ∙ ap (λ (o : ℕ). called 8 (a .bytes .now) (giveBack 8 g o) (blockSize 8 g o)) (c .before .before .before .before .before .before .before .before .before .before .before .before .before .before .before .before .before .link-at .ensures)
+
+pub answer-give-back-spec : {M : Type 1} → statement M
+answer-give-back-spec =
+    tie.close
+    (tie.spec
+    link-at-requires
+    size-at-requires
+    index-requires
+    give-back-requires
+    live-blocks-requires
+    reply-to-requires
+    same-length
+    same-length-2
+    same-length-3
+    returns)

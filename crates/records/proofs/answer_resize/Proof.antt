@@ -1,0 +1,83 @@
+-- `records::answer_resize` resizes, and replies with what the resize answered and the heap that it left.
+-- Assumes nothing.
+use mathlib.Core.Path.{ap, ap₂, _∙_}
+use Prim.Native.Nat.{ℕ}
+use Rattle.rules.specs.Outcome.{Outcome, heapOf, outcome}
+use Rattle.rules.specs.Numbers.{resize, blockSize}
+use Rattle.rules.specs.Replay.{calledFor}
+use Rattle.records.specs.Calls.{resize-fair}
+use Rattle.records.specs.declared.Reply.{Reply}
+use Rattle.records.specs.Replies.{repliedWith, counted, small-number, still-whole, called-is}
+use borrow.Author.Needs.{needs}
+use Rattle.records.proofs.answer_resize.Statement.{statement}
+use Rattle.records.proofs.answer_resize.Tie as tie
+
+link-at-requires : tie.Need-link-at-requires
+link-at-requires c κs = search needs
+
+link-at-requires-2 : tie.Need-link-at-requires-2
+link-at-requires-2 c κs = search needs
+
+index-requires : tie.Need-index-requires
+index-requires c κs = search needs
+
+index-requires-2 : tie.Need-index-requires-2
+index-requires-2 c κs = search needs
+
+resize-requires : tie.Need-resize-requires
+resize-requires c κs = search needs
+
+size-at-requires : tie.Need-size-at-requires
+size-at-requires c κs = search needs
+
+live-blocks-requires : tie.Need-live-blocks-requires
+live-blocks-requires c κs =
+    let a = c .before .before .before .before .before .before .before .before .before .before .before .before .before .before .before .before .before .before .before .before .before .before .args in
+    let x = c .before .before .before .before .before .before .before .before .before .before .resize in
+    let fair = resize-fair 8 (heapOf (a .memory .now) (a .books .now) (a .map .now)) (c .before .before .before .before .before .before .before .before .before .before .before .before .index .result) (c .before .before .before .before .before .before .before .before .before .before .before .index2 .result) in
+    counted (x .last .0) (x .last .1 .0) (x .last .1 .1 .0)
+    (still-whole (a .memory .now) (a .books .now) (a .map .now) (x .last .0) (x .last .1 .0) (x .last .1 .1 .0) _
+    (c .before .before .before .before .before .before .before .before .before .before .before .before .before .before .before .before .before .before .before .before .before .before .pre .0) (fair .kept) (ap (λ (y : Outcome). y .heap) (x .ensures)) (x .kept .0) (x .kept .1 .0) (x .kept .1 .1 .0))
+
+reply-to-requires : tie.Need-reply-to-requires
+reply-to-requires c κs =
+    let a = c .before .before .before .before .before .before .before .before .before .before .before .before .before .before .before .before .before .before .before .before .before .before .before .args in
+    let x = c .before .before .before .before .before .before .before .before .before .before .before .resize in
+    let fair = resize-fair 8 (heapOf (a .memory .now) (a .books .now) (a .map .now)) (c .before .before .before .before .before .before .before .before .before .before .before .before .before .index .result) (c .before .before .before .before .before .before .before .before .before .before .before .before .index2 .result) in
+    (c .before .before .before .before .before .before .before .before .before .before .before .before .before .before .before .before .before .before .before .before .before .before .before .pre .1, small-number fair (x .result) (heapOf (x .last .0) (x .last .1 .0) (x .last .1 .1 .0)) (x .ensures))
+
+same-length : tie.Need-same-length
+same-length c = search needs
+
+same-length-2 : tie.Need-same-length-2
+same-length-2 c = search needs
+
+same-length-3 : tie.Need-same-length-3
+same-length-3 c = search needs
+
+returns : tie.Need-returns
+returns c =
+    let a = c .before .before .before .before .before .before .before .before .before .before .before .before .before .before .before .before .before .before .before .before .before .before .before .before .args in
+    let x = c .before .before .before .before .before .before .before .before .before .before .before .before .resize in
+    let h = heapOf (x .last .0) (x .last .1 .0) (x .last .1 .1 .0) in
+    ap (λ (r : Reply). repliedWith r (x .last .0) (x .last .1 .0) (x .last .1 .1 .0)) (c .reply-to .ensures)
+    ∙ called-is (a .bytes .now) (outcome (x .result) h) (blockSize 8 h (x .result .offset)) (c .before .before .before .before .size-at .result) (c .before .live-blocks .result) (c .before .before .before .before .size-at .ensures) (c .before .live-blocks .ensures)
+    ∙ ap (calledFor 8 (a .bytes .now)) (x .ensures)
+    ∙ ap₂ (λ (o n : ℕ). calledFor 8 (a .bytes .now) (resize 8 (heapOf (a .memory .now) (a .books .now) (a .map .now)) o n)) (c .before .before .before .before .before .before .before .before .before .before .before .before .before .before .index .ensures .0 ∙ c .before .before .before .before .before .before .before .before .before .before .before .before .before .before .before .before .before .before .before .link-at .ensures) (c .before .before .before .before .before .before .before .before .before .before .before .before .before .index2 .ensures .0 ∙ c .before .before .before .before .before .before .before .before .before .before .before .before .before .before .before .before .before .before .link-at2 .ensures)
+
+pub answer-resize-spec : {M : Type 1} → statement M
+answer-resize-spec =
+    tie.close
+    (tie.spec
+    link-at-requires
+    link-at-requires-2
+    index-requires
+    index-requires-2
+    resize-requires
+    size-at-requires
+    live-blocks-requires
+    reply-to-requires
+    same-length
+    same-length-2
+    same-length-3
+    returns)

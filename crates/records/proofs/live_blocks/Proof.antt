@@ -1,0 +1,40 @@
+-- `records::live_blocks` counts the words of the roll, two for each live block.
+-- Assumes nothing.
+use mathlib.Core.Path.{ap, ap₂, _∙_}
+use Prim.Native.Nat.{ℕ, _*_, _/_}
+use lib.ListN.{length}
+use Rattle.rules.specs.View.{rollPools}
+use Rattle.loops.specs.Roll.{length-roll}
+use native.Mathlib.Omega.{arith}
+use borrow.Author.Needs.{needs}
+use Rattle.records.proofs.live_blocks.Statement.{statement}
+use Rattle.records.proofs.live_blocks.Tie as tie
+
+word-requires : tie.Need-word-requires
+word-requires c κs = search needs
+
+word-requires-2 : tie.Need-word-requires-2
+word-requires-2 c κs = search needs
+
+mul-all : tie.Need-mul-all
+mul-all c = let e = ap₂ (λ (x y : ℕ). x * y) (c .before .word .ensures .0) (c .word2 .ensures .0) in omega (arith, c .before .before .before .before .pre .all)
+
+count-words-requires : tie.Need-count-words-requires
+count-words-requires c κs = let e = ap₂ (λ (x y : ℕ). x * y) (c .before .word .ensures .0) (c .word2 .ensures .0) in omega (arith, c .before .before .before .before .pre .all, c .before .before .before .before .pre .books, c .before .before .before .before .pre .map, c .before .word .ensures .0)
+
+cast-result : tie.Need-cast-result
+cast-result c =
+    let a = c .before .before .before .before .before .args in
+    let e = ap₂ (λ (x y : ℕ). x * y) (c .before .before .word .ensures .0) (c .before .word2 .ensures .0) in
+    let l = length-roll 8 (c .before .before .word .result) (a .books .now) (a .map .now) (omega arith) 0 (c .before .before .word .result * c .before .word2 .result) in
+    omega (arith, c .before .before .before .before .before .pre .all, c .count-words .ensures)
+
+returns : tie.Need-returns
+returns c =
+    let a = c .before .before .before .before .before .args in
+    ap (λ (n : ℕ). n / 2) (c .count-words .ensures ∙ ap₂ (λ (x y : ℕ). length (rollPools 8 x (a .books .now) (a .map .now) 0 (x * y))) (c .before .before .word .ensures .0) (c .before .word2 .ensures .0))
+
+pub live-blocks-spec : {M : Type 1} → statement M
+live-blocks-spec =
+    tie.close
+    (tie.spec word-requires word-requires-2 mul-all count-words-requires cast-result returns)

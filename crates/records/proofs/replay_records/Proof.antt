@@ -1,0 +1,141 @@
+-- `records::replay_records` tests the shape and the room, and then answers record by record: at turn i the replies from record i on are left.
+-- Assumes nothing.
+use mathlib.Core.Path.{_≡_, refl, sym, _∙_}
+use Prim.Native.Nat.{_-_, _≤_}
+use lib.ListN.{length}
+use borrow.Author.Needs.{needs}
+use Rattle.rules.specs.Outcome.{heapOf}
+use Rattle.records.specs.Replies.{Whole, still-whole}
+use Rattle.records.specs.Pieces.{Going, begin, turn, stored, record-sent, recordAt, no-heap, no-room, all-done}
+use native.Mathlib.Omega.{arith}
+use Rattle.records.proofs.replay_records.Statement.{statement}
+use Rattle.records.proofs.replay_records.Tie as tie
+
+abbrev Inv-loop : tie.InvT-loop
+Inv-loop memory₀ books₀ map₀ input output₀ number records i₀ memory books map output i =
+    Going records (heapOf memory₀ books₀ map₀) input output₀ (heapOf memory books map) output i
+    × Whole memory books map
+    × (length memory ≡ length memory₀)
+    × (length books ≡ length books₀)
+    × (length map ≡ length map₀)
+    × (i ≤ records)
+
+abbrev μ-loop : tie.MeasureT-loop
+μ-loop memory₀ books₀ map₀ input output₀ number records i₀ memory books map output i = records - i
+
+shape-number-requires : tie.Need-shape-number-requires Inv-loop μ-loop
+shape-number-requires c κs = search needs
+
+same-length : tie.Need-same-length Inv-loop μ-loop
+same-length c = search needs
+
+same-length-2 : tie.Need-same-length-2 Inv-loop μ-loop
+same-length-2 c = search needs
+
+same-length-3 : tie.Need-same-length-3 Inv-loop μ-loop
+same-length-3 c = search needs
+
+returns : tie.Need-returns Inv-loop μ-loop
+returns c =
+    let a = c .before .before .before .before .before .before .before .before .before .before .args in
+    no-heap (heapOf (a .memory .now) (a .books .now) (a .map .now)) (a .input .now) (a .output .now) (c .before .shape-number .result) (c .before .shape-number .ensures .0) (c .if1 .taken)
+
+add-records : tie.Need-add-records Inv-loop μ-loop
+add-records c = omega arith
+
+mul-if2 : tie.Need-mul-if2 Inv-loop μ-loop
+mul-if2 c = omega arith
+
+same-length-4 : tie.Need-same-length-4 Inv-loop μ-loop
+same-length-4 c = search needs
+
+same-length-5 : tie.Need-same-length-5 Inv-loop μ-loop
+same-length-5 c = search needs
+
+same-length-6 : tie.Need-same-length-6 Inv-loop μ-loop
+same-length-6 c = search needs
+
+returns-2 : tie.Need-returns-2 Inv-loop μ-loop
+returns-2 c =
+    let a = c .before .before .before .before .before .before .before .before .before .before .before .args in
+    no-room (heapOf (a .memory .now) (a .books .now) (a .map .now)) (a .input .now) (a .output .now) (sym (c .before .before .shape-number .ensures .0) ∙ c .before .if1 .left) (c .if2 .taken)
+
+loop-holds : tie.Need-loop-holds Inv-loop μ-loop
+loop-holds c = (begin, c .before .before .shape-number .ensures .1 (c .before .if1 .left), refl, refl, refl, omega arith)
+
+replay-record-requires : tie.Need-replay-record-requires Inv-loop μ-loop
+replay-record-requires c κs =
+    let p = c .before .before .before .before .before .loop in
+    (p .inv .1, omega arith, omega (arith, p .inv .0 .long))
+
+add-i : tie.Need-add-i Inv-loop μ-loop
+add-i c = omega arith
+
+loop-less : tie.Need-loop-less Inv-loop μ-loop
+loop-less c = omega arith
+
+loop-again : tie.Need-loop-again Inv-loop μ-loop
+loop-again c =
+    let a = c .before .before .before .before .before .before .before .before .before .before .before .before .before .before .before .before .before .before .before .before .before .before .before .before .before .before .args in
+    let p = c .before .before .before .before .before .before .before .before .before .before .before .before .before .before .loop in
+    let x = c .before .before .before .before .before .before .before .before .replay-record in
+    let t = record-sent (heapOf (p .memory) (p .books) (p .map)) (recordAt (p .i) (a .input .now)) in (
+      turn (p .i) (omega arith) (p .inv .0) (x .ensures .0) (x .ensures .1),
+      still-whole (p .memory) (p .books) (p .map) (x .last .0) (x .last .1 .0) (x .last .1 .1 .0) _ (p .inv .1) (t .kept) (x .ensures .1) (x .kept .0) (x .kept .1 .0) (x .kept .1 .1 .0),
+      x .kept .0 ∙ p .inv .2,
+      x .kept .1 .0 ∙ p .inv .3,
+      x .kept .1 .1 .0 ∙ p .inv .4,
+      omega arith,
+    )
+
+mul-t16 : tie.Need-mul-t16 Inv-loop μ-loop
+mul-t16 c = omega arith
+
+same-length-7 : tie.Need-same-length-7 Inv-loop μ-loop
+same-length-7 c = c .before .loop .inv .2
+
+same-length-8 : tie.Need-same-length-8 Inv-loop μ-loop
+same-length-8 c = c .before .loop .inv .3
+
+same-length-9 : tie.Need-same-length-9 Inv-loop μ-loop
+same-length-9 c = c .before .loop .inv .4
+
+same-length-10 : tie.Need-same-length-10 Inv-loop μ-loop
+same-length-10 c = c .before .loop .inv .0 .long
+
+returns-3 : tie.Need-returns-3 Inv-loop μ-loop
+returns-3 c =
+    let a = c .before .before .before .before .before .before .before .before .before .before .before .before .before .args in
+    let p = c .before .loop in
+    let s = stored (p .i) (omega arith) (p .inv .0) in
+    all-done (heapOf (a .memory .now) (a .books .now) (a .map .now)) (a .input .now) (a .output .now) (sym (c .before .before .before .before .shape-number .ensures .0) ∙ c .before .before .before .if1 .left) (c .before .before .if2 .left)
+    (p .output) (heapOf (p .memory) (p .books) (p .map)) (s .0) (s .1)
+
+pub replay-records-spec : {M : Type 1} → statement M
+replay-records-spec =
+    tie.close
+    (tie.spec
+    Inv-loop
+    μ-loop
+    shape-number-requires
+    same-length
+    same-length-2
+    same-length-3
+    returns
+    add-records
+    mul-if2
+    same-length-4
+    same-length-5
+    same-length-6
+    returns-2
+    loop-holds
+    replay-record-requires
+    add-i
+    loop-less
+    loop-again
+    mul-t16
+    same-length-7
+    same-length-8
+    same-length-9
+    same-length-10
+    returns-3)

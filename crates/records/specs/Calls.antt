@@ -1,0 +1,251 @@
+-- What a replay needs to know of ask, give back and resize, whatever the heap holds: the number fits a byte, and A and P stay in the books.
+-- Assumes nothing.
+use mathlib.Core.Path.{_≡_, refl, _∙_}
+use mathlib.Core.Bool.{Bool, true, false, not, _&&_}
+use mathlib.Core.Logic.{inl}
+use mathlib.Core.List.{List}
+use Prim.Native.Nat.{ℕ, zero, suc, _/_, _≤_, _<_, min}
+use native.Mathlib.Omega.{arith}
+use lib.Dec.{leb, ltb}
+use lib.ListN.{length, replicate}
+use lib.Seq.{sets, getD-set-other}
+use Rattle.rules.specs.declared.Source.{Source}
+use Rattle.rules.specs.declared.Source.the-variants.{Freed, Carved, Opened}
+use Rattle.rules.specs.declared.AskPlan.{AskPlan}
+use Rattle.rules.specs.declared.AskPlan.the-variants.{NoRoom, Damaged, Follow, Ready, Last, Again, Anew}
+use Rattle.rules.specs.declared.BackPlan.{BackPlan}
+use Rattle.rules.specs.declared.BackPlan.the-variants.{Damaged as Broken, Joins, Stays, Empties, Returns, Releases}
+use Rattle.rules.specs.Say.{if_then_else_, only}
+use Rattle.rules.specs.Books.{Heap, inRange, exact, at, put, arenas, pools, usableHead, freePools, arenaWord, arena, fall, none?}
+use Rattle.rules.specs.Blocks.{largest, sizeAt, live, liveNumber}
+use Rattle.rules.specs.Lists.{leave, join, arenaLinks, arenaLeaves}
+use Rattle.rules.specs.Outcome.{Outcome, outcome, answerOf, done, refused, passing}
+use Rattle.rules.specs.Ask.{takeFrom, arenaOf, spend, alone, afterAsk, askAnswer, askStep}
+use Rattle.rules.specs.GiveBack.{takeBack, empty, release, afterBack, backAnswer, backStep}
+use Rattle.rules.specs.Resize.{keeps, copy, giveOld, halfDone, moved, resizeStep}
+use Rattle.rules.specs.Numbers.{fitNumber, shapeNumber, sizeNumber, _before_, inOrder, offsetNumber, ask, giveBack, resize}
+use Rattle.books.specs.Lists.{leave-keeps, join-keeps}
+use Rattle.loops.specs.Sets.{sets-other}
+
+-- the books b′ have the words 0 and 1 of b
+pub record Kept (b b′ : List ℕ) : Type 0 where
+  pub word : (j : ℕ) → j < 2 → at b′ j ≡ at b j
+
+pub none-written : {b : List ℕ} → Kept b b
+none-written = record { word = λ j l. refl }
+
+pub kept-on : {a b c : List ℕ} → Kept a b → Kept b c → Kept a c
+kept-on k l = record { word = λ j u. l .word j u ∙ k .word j u }
+
+-- ---- the writes of the steps, each to words from 2 on
+module _ {b b′ : List ℕ} where
+  put-kept : (i v : ℕ) → 2 ≤ i → Kept b b′ → Kept b (put i v b′)
+  put-kept i v h k = record { word = λ j l. getD-set-other b′ i j v 0 (omega arith) ∙ k .word j l }
+
+  sets-kept : (i : ℕ) (vs : List ℕ) → 2 ≤ i → Kept b b′ → Kept b (sets b′ i vs)
+  sets-kept i vs h k = record { word = λ j l. sets-other b′ i vs j (inl (omega arith)) ∙ k .word j l }
+
+  leave-kept : (base head n : ℕ) → 2 ≤ base → 2 ≤ head → Kept b b′ → Kept b (leave base head n b′)
+  leave-kept base head n u v k = record { word = λ j l. leave-keeps base head _ _ n b′ j (omega arith) ∙ k .word j l }
+
+  join-kept : (base head n : ℕ) → 2 ≤ base → 2 ≤ head → Kept b b′ → Kept b (join base head n b′)
+  join-kept base head n u v k = record { word = λ j l. join-keeps base head _ n b′ j (omega arith) ∙ k .word j l }
+
+-- a change that is made only where a test holds
+only-kept : {b : List ℕ} (t : Bool) (f : Heap → Heap) (h : Heap) → Kept b (h .books) → Kept b (f h .books) → Kept b (only t f h .books)
+only-kept true f h k l = l
+only-kept false f h k l = k
+
+-- ---- an ask
+module _ (al A P c : ℕ) {b : List ℕ} where
+  take-kept : (s : Source) (p : ℕ) (h : Heap) → Kept b (h .books) → Kept b (takeFrom al A P c s p h .books)
+  unfolding takeFrom
+  take-kept (Freed a) p h k = put-kept _ _ (omega arith) k
+  take-kept (Carved a) p h k = put-kept _ _ (omega arith) (put-kept _ _ (omega arith) k)
+  take-kept (Opened a) p h k =
+      put-kept _ _ (omega arith) (put-kept _ _ (omega arith)
+      (put-kept _ _ (omega arith) (put-kept _ _ (omega arith) (put-kept _ _ (omega arith) (put-kept _ _ (omega arith)
+      (join-kept _ _ _ (omega arith) (omega arith) (leave-kept _ _ _ (omega arith) (omega arith) k)))))))
+
+  spend-kept : (a : ℕ) (h : Heap) → Kept b (h .books) → Kept b (spend al A P c a h .books)
+  spend-kept a h k =
+      let less : Kept b (fall (arenaWord freePools a) h .books) = put-kept _ _ (omega arith) k in
+      only-kept (none? (arena (fall (arenaWord freePools a) h .books) freePools a)) (arenaLeaves usableHead a) (fall (arenaWord freePools a) h) less (leave-kept arenaLinks usableHead a (omega arith) (omega arith) less)
+
+  alone-kept : (p : ℕ) (h : Heap) → Kept b (h .books) → Kept b (alone al A P c p h .books)
+  alone-kept p h k =
+      put-kept _ _ (omega arith) (put-kept _ _ (omega arith) (put-kept _ _ (omega arith) (put-kept _ _ (omega arith) k)))
+
+  -- a pool is taken from its source, its arena spends it, and it goes alone on the class list
+  listed-kept : (s : Source) (p : ℕ) (h : Heap) → Kept b (h .books)
+      → Kept b (alone al A P c p (spend al A P c (arenaOf al A P c s) (takeFrom al A P c s p h)) .books)
+  listed-kept s p h k =
+      let taken = takeFrom al A P c s p h in
+      let a = arenaOf al A P c s in
+      alone-kept p (spend al A P c a taken) (spend-kept a taken (take-kept s p h k))
+
+  ask-kept : (q : AskPlan) (h : Heap) → Kept b (h .books) → Kept b (afterAsk al A P c q h .books)
+  unfolding afterAsk
+  ask-kept NoRoom h k = k
+  ask-kept Damaged h k = k
+  ask-kept (Follow p f l) h k = put-kept _ _ (omega arith) (put-kept _ _ (omega arith) k)
+  ask-kept (Ready p f m) h k = put-kept _ _ (omega arith) (put-kept _ _ (omega arith) (put-kept _ _ (omega arith) k))
+  ask-kept (Last p f) h k = leave-kept _ _ _ (omega arith) (omega arith) (put-kept _ _ (omega arith) (put-kept _ _ (omega arith) k))
+  ask-kept (Again a p f l) h k =
+      put-kept _ _ (omega arith) (listed-kept (Freed a) p h k)
+  ask-kept (Anew s p) h k =
+      put-kept _ _ (omega arith) (put-kept _ _ (omega arith) (put-kept _ _ (omega arith) (put-kept _ _ (omega arith)
+      (listed-kept s p h k))))
+
+-- ---- a give-back
+module _ (al A P c p f : ℕ) {b : List ℕ} where
+  take-back-kept : (h : Heap) → Kept b (h .books) → Kept b (takeBack al A P c p f h .books)
+  take-back-kept h k = put-kept _ _ (omega arith) (put-kept _ _ (omega arith) k)
+
+  empty-kept : (h : Heap) → Kept b (h .books) → Kept b (empty al A P c p f h .books)
+  empty-kept h k =
+      put-kept _ _ (omega arith) (put-kept _ _ (omega arith) (put-kept _ _ (omega arith) (put-kept _ _ (omega arith)
+      (leave-kept _ _ _ (omega arith) (omega arith) k))))
+
+  -- the block is taken back and its pool is emptied
+  emptied-kept : (h : Heap) → Kept b (h .books) → Kept b (empty al A P c p f (takeBack al A P c p f h) .books)
+  emptied-kept h k = empty-kept (takeBack al A P c p f h) (take-back-kept h k)
+
+  release-kept : (a : ℕ) (h : Heap) → Kept b (h .books) → Kept b (release al A P c p f a h .books)
+  release-kept a h k =
+      join-kept _ _ _ (omega arith) (omega arith) (sets-kept (arenaWord 0 a) (replicate 8 0) (omega arith) (leave-kept _ _ _ (omega arith) (omega arith) k))
+
+  back-kept : (q : BackPlan) (h : Heap) → Kept b (h .books) → Kept b (afterBack al A P c p f q h .books)
+  unfolding afterBack
+  back-kept Broken h k = k
+  back-kept Joins h k = join-kept _ _ _ (omega arith) (omega arith) (take-back-kept h k)
+  back-kept Stays h k = take-back-kept h k
+  back-kept Empties h k = emptied-kept h k
+  back-kept Returns h k = join-kept _ _ _ (omega arith) (omega arith) (emptied-kept h k)
+  back-kept Releases h k = release-kept (p / P) (empty al A P c p f (takeBack al A P c p f h)) (emptied-kept h k)
+
+-- ---- the numbers
+either : (t : Bool) (x y : ℕ) → x ≤ 7 → y ≤ 7 → (if t then x else y) ≤ 7
+either true x y u v = u
+either false x y u v = v
+
+fit-small : (h : Heap) (A P : ℕ) → fitNumber h A P ≤ 7
+unfolding fitNumber
+fit-small h A P =
+    either (not (inRange A P)) 1 (if not (exact A P h) then 2 else 0) (omega arith)
+    (either (not (exact A P h)) 2 0 (omega arith) (omega arith))
+
+shape-small : (h : Heap) → shapeNumber h ≤ 7
+unfolding shapeNumber
+shape-small h = either (ltb (length (h .books)) 2) 2 (fitNumber h (arenas h) (pools h)) (omega arith) (fit-small h (arenas h) (pools h))
+
+size-small : (n : ℕ) → sizeNumber n ≤ 7
+unfolding sizeNumber
+size-small n = either (leb 1 n && leb n largest) 0 3 (omega arith) (omega arith)
+
+live-small : (al A P : ℕ) (b m : List ℕ) (o : ℕ) → liveNumber al A P b m o ≤ 7
+unfolding liveNumber
+live-small al A P b m o = either (live al A P b m o) 0 5 (omega arith) (omega arith)
+
+before-small : (j k : ℕ) → j ≤ 7 → k ≤ 7 → (j before k) ≤ 7
+before-small zero k u v = v
+before-small (suc j) k u v = u
+
+order-small : (shape size offset room : ℕ) → shape ≤ 7 → size ≤ 7 → offset ≤ 7 → room ≤ 7 → inOrder shape size offset room ≤ 7
+order-small shape size offset room t u v w =
+    before-small shape _ t (before-small size _ u (before-small offset room v w))
+
+ask-small : (q : AskPlan) → askAnswer q .number ≤ 7
+unfolding askAnswer
+ask-small NoRoom = omega arith
+ask-small Damaged = omega arith
+ask-small (Follow p f l) = omega arith
+ask-small (Ready p f m) = omega arith
+ask-small (Last p f) = omega arith
+ask-small (Again a p f l) = omega arith
+ask-small (Anew s p) = omega arith
+
+back-small : (o : ℕ) (q : BackPlan) → backAnswer o q .number ≤ 7
+unfolding backAnswer
+back-small o Broken = omega arith
+back-small o Joins = omega arith
+back-small o Stays = omega arith
+back-small o Empties = omega arith
+back-small o Returns = omega arith
+back-small o Releases = omega arith
+
+-- ---- the calls
+-- an outcome over a heap whose books were b: its number is one of 01's table, and A and P are as they were
+pub record Fair (b : List ℕ) (x : Outcome) : Type 0 where
+  pub small : x .answer .number ≤ 7
+  pub kept : Kept b (x .heap .books)
+
+-- a call that a test refuses changes nothing
+tested : {b : List ℕ} (n : ℕ) (h : Heap) (x : Outcome) → n ≤ 7 → Kept b (h .books) → Fair b x → Fair b (passing n (λ k. refused k h) x)
+tested zero h x u k t = t
+tested (suc n) h x u k t = record { small = u; kept = k }
+
+module _ (al A P : ℕ) {b : List ℕ} where
+  ask-step : (h : Heap) (n : ℕ) → Kept b (h .books) → Fair b (askStep al A P h n)
+  unfolding askStep
+  ask-step h n k = record { small = ask-small _; kept = ask-kept al A P _ _ h k }
+
+  back-step : (h : Heap) (o : ℕ) → Kept b (h .books) → Fair b (backStep al A P h o)
+  unfolding backStep
+  back-step h o k = record { small = back-small o _; kept = back-kept al A P _ _ _ _ h k }
+
+  give-old : (h : Heap) (o : ℕ) → Kept b (h .books) → Fair b (giveOld al A P h o)
+  unfolding giveOld
+  give-old h o k = tested _ h _ (live-small al A P (h .books) (h .map) o) k (back-step h o k)
+
+  half-done : (new : ℕ) (r : Outcome) → Fair b r → Fair b (halfDone al A P new r)
+  half-done new r t = go (r .answer .number)
+    where
+      go : (n : ℕ) → Fair b (passing n (λ k. outcome (answerOf 6 new) (r .heap)) (done new (r .heap)))
+      go zero = record { small = omega arith; kept = t .kept }
+      go (suc n) = record { small = omega arith; kept = t .kept }
+
+  move : (o k : ℕ) (r : Outcome) → Fair b r → Fair b (moved al A P o k r)
+  unfolding moved
+  move o k r t = go (r .answer .number)
+    where
+      back : Outcome
+      back = giveOld al A P (copy o (r .answer .offset) k (r .heap)) o
+
+      go : (n : ℕ) → Fair b (passing n (λ number. r) (halfDone al A P (r .answer .offset) back))
+      go zero = half-done (r .answer .offset) back (give-old (copy o (r .answer .offset) k (r .heap)) o (t .kept))
+      go (suc n) = t
+
+  resize-step : (h : Heap) (o n : ℕ) → Kept b (h .books) → Fair b (resizeStep al A P h o n)
+  unfolding resizeStep
+  resize-step h o n k = go (keeps (sizeAt al A (h .books) o) n)
+    where
+      go : (t : Bool) → Fair b (if t then done o h else moved al A P o (min n (sizeAt al A (h .books) o)) (askStep al A P h n))
+      go true = record { small = omega arith; kept = k }
+      go false = move o _ (askStep al A P h n) (ask-step h n k)
+
+module _ (al : ℕ) (h : Heap) where
+  pub ask-fair : (n : ℕ) → Fair (h .books) (ask al h n)
+  unfolding ask
+  ask-fair n =
+      tested (inOrder (shapeNumber h) (sizeNumber n) 0 0) h (askStep al (arenas h) (pools h) h n)
+      (order-small (shapeNumber h) (sizeNumber n) 0 0 (shape-small h) (size-small n) (omega arith) (omega arith)) none-written
+      (ask-step al (arenas h) (pools h) h n none-written)
+
+  pub back-fair : (o : ℕ) → Fair (h .books) (giveBack al h o)
+  unfolding giveBack
+  back-fair o =
+      let dead = offsetNumber al h o in
+      let few : dead ≤ 7 = live-small al (arenas h) (pools h) (h .books) (h .map) o in
+      tested (inOrder (shapeNumber h) 0 dead 0) h (backStep al (arenas h) (pools h) h o)
+      (order-small (shapeNumber h) 0 dead 0 (shape-small h) (omega arith) few (omega arith)) none-written
+      (back-step al (arenas h) (pools h) h o none-written)
+
+  pub resize-fair : (o n : ℕ) → Fair (h .books) (resize al h o n)
+  unfolding resize
+  resize-fair o n =
+      let dead = offsetNumber al h o in
+      let few : dead ≤ 7 = live-small al (arenas h) (pools h) (h .books) (h .map) o in
+      tested (inOrder (shapeNumber h) (sizeNumber n) dead 0) h (resizeStep al (arenas h) (pools h) h o n)
+      (order-small (shapeNumber h) (sizeNumber n) dead 0 (shape-small h) (size-small n) few (omega arith)) none-written
+      (resize-step al (arenas h) (pools h) h o n none-written)

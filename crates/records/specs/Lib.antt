@@ -1,0 +1,4 @@
+-- The laws of replay records.
+pub mod Calls
+pub mod Replies
+pub mod Pieces

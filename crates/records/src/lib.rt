@@ -1,0 +1,286 @@
+// Replay records: one record in, one reply out, over the three buffers of a heap; and a whole piece of a replay, records in and replies out.
+use books::blocks::ALIGNMENT;
+use books::links::link_at;
+use books::links::put_link;
+use books::numbers::shape_number;
+use books::words::CLASS;
+use books::words::RECORDS;
+use loops::count_words;
+use plans::words::index;
+use plans::words::word;
+use rules::Answer;
+ghost use mathlib.Core.Path.{_≡_};
+ghost use Prim.Native.Nat.{_+_, _*_, _-_, _%_, _^_, _<_, _≤_, min};
+ghost use lib.ListN.{length};
+ghost use lib.Seq.{sets};
+ghost use Rattle.rules.specs.Books.{at};
+ghost use Rattle.rules.specs.Blocks.{sizeAt};
+ghost use Rattle.rules.specs.Outcome.{heapOf};
+ghost use Rattle.rules.specs.Numbers.{ask, giveBack, resize, blockSize};
+ghost use Rattle.rules.specs.Replay.{wellMade, sizeIn, offsetIn, called, calledFor, replayCall, replayRecord};
+ghost use Rattle.records.specs.Replies.{Counted, Whole, liveIn, repeated, bytesOf, refusalOf, replyTo, repliedWith};
+ghost use Rattle.records.specs.Pieces.{recordAt, replayPiece};
+
+// A reply, before its bytes are written.
+struct Reply {
+    op: u8,
+    number: u8,
+    offset: u32,
+    size: u32,
+    live: u32,
+}
+
+// What a piece of a replay answers: 1 or 2 for a heap of another shape, 7 for an output that is too small, 0 when done; and how many bytes of
+// the output it has written.
+pub struct Replayed {
+    pub number: u32,
+    pub written: usize,
+}
+
+// ---- what a reply is made of
+
+// The op is known and the spare bytes are 0.
+fn well_made(bytes: &[u8]) -> bool
+    requires { ⌜ 16 ≤ length (now bytes) ⌝ }
+    ensures { λ r. ⌜ r ≡ wellMade (now (bytes .entry)) ⌝ }
+{
+    (1 <= bytes[0])
+        & (bytes[0] <= 3)
+        & (bytes[1] == 0)
+        & (bytes[2] == 0)
+        & (bytes[3] == 0)
+        & (bytes[12] == 0)
+        & (bytes[13] == 0)
+        & (bytes[14] == 0)
+        & (bytes[15] == 0)
+}
+
+// The offset that a refusal repeats: the record's, and 0 for an ask.
+fn repeated(bytes: &[u8]) -> u32
+    requires { ⌜ 16 ≤ length (now bytes) ⌝ }
+    ensures { λ r. ⌜ r ≡ repeated (now (bytes .entry)) ⌝ }
+{
+    let op = bytes[0];
+    if op == 1 {
+        return 0;
+    }
+    link_at(bytes, 8)
+}
+
+// How many blocks are live.
+fn live_blocks(books: &[u32], map: &[u64]) -> u32
+    requires { ⌜ Counted (now books) (now map) ⌝ }
+    ensures { λ r. ⌜ r ≡ liveIn (now (books .entry)) (now (map .entry)) ⌝ }
+{
+    let arenas = word(books, 0);
+    let all = arenas * word(books, 1);
+    (count_words(books, map, arenas, all) / 2) as u32
+}
+
+// A word of the books, and 0 past their end.
+fn word_or_none(books: &[u32], i: usize) -> usize
+    ensures { λ r. ⌜ (r ≡ at (now (books .entry)) i) × (r < 2 ^ 32) ⌝ }
+{
+    if books.len() <= i {
+        return 0;
+    }
+    word(books, i)
+}
+
+// The size of the block at an offset, as far as the four bytes of a reply hold it. Nothing is asked of the offset: a record may hold any.
+fn size_at(books: &[u32], offset: u32) -> u32
+    ensures { λ r. ⌜ r ≡ sizeAt 8 (at (now (books .entry)) 0) (now (books .entry)) offset % 4294967296 ⌝ }
+{
+    let arenas = word_or_none(books, 0);
+    let pool = index(offset) / 4096;
+    let class = word_or_none(books, RECORDS + 8 * arenas + 8 * pool + CLASS);
+    (ALIGNMENT * (class + 1) % 4294967296) as u32
+}
+
+// ---- the reply to one record
+
+// A refusal with the number.
+fn refusal(bytes: &[u8], number: u8, live: u32) -> Reply
+    requires { ⌜ 16 ≤ length (now bytes) ⌝ }
+    ensures { λ r. ⌜ r ≡ refusalOf (now (bytes .entry)) number live ⌝ }
+{
+    Reply {
+        op: bytes[0],
+        number,
+        offset: repeated(bytes),
+        size: 0,
+        live,
+    }
+}
+
+// The reply to a call that answered so.
+fn reply_to(bytes: &[u8], answer: Answer, size: u32, live: u32) -> Reply
+    requires { ⌜ (16 ≤ length (now bytes)) × (answer .number ≤ 7) ⌝ }
+    ensures { λ r. ⌜ r ≡ replyTo (now (bytes .entry)) answer size live ⌝ }
+{
+    let number = answer.number;
+    if number != 0 {
+        return refusal(bytes, number as u8, live);
+    }
+    Reply {
+        op: bytes[0],
+        number: 0,
+        offset: answer.offset,
+        size,
+        live,
+    }
+}
+
+// The reply to an ask: its size is that of the block that is handed out.
+fn answer_ask(memory: &mut [u8], books: &mut [u32], map: &mut [u64], bytes: &[u8]) -> Reply
+    requires { ⌜ Whole (now memory) (now books) (now map) × (16 ≤ length (now bytes)) ⌝ }
+    ensures { λ r. ⌜ repliedWith r (now (memory .exit)) (now (books .exit)) (now (map .exit))
+        ≡ calledFor 8 (now (bytes .entry)) (ask 8 (heapOf (now (memory .entry)) (now (books .entry)) (now (map .entry))) (sizeIn (now (bytes .entry)))) ⌝ }
+{
+    let answer = heap::ask(memory, books, map, index(link_at(bytes, 4)));
+    let size = size_at(books, answer.offset);
+    reply_to(bytes, answer, size, live_blocks(books, map))
+}
+
+// The reply to a give-back: its size is that of the block that is given back, so it is read before.
+fn answer_give_back(memory: &mut [u8], books: &mut [u32], map: &mut [u64], bytes: &[u8]) -> Reply
+    requires { ⌜ Whole (now memory) (now books) (now map) × (16 ≤ length (now bytes)) ⌝ }
+    ensures { λ r. ⌜ repliedWith r (now (memory .exit)) (now (books .exit)) (now (map .exit))
+        ≡ called 8 (now (bytes .entry)) (giveBack 8 (heapOf (now (memory .entry)) (now (books .entry)) (now (map .entry))) (offsetIn (now (bytes .entry))))
+        (blockSize 8 (heapOf (now (memory .entry)) (now (books .entry)) (now (map .entry))) (offsetIn (now (bytes .entry)))) ⌝ }
+{
+    let offset = link_at(bytes, 8);
+    let size = size_at(books, offset);
+    let answer = heap::give_back(memory, books, map, index(offset));
+    reply_to(bytes, answer, size, live_blocks(books, map))
+}
+
+// The reply to a resize: its size is that of the block that the text is now in.
+fn answer_resize(memory: &mut [u8], books: &mut [u32], map: &mut [u64], bytes: &[u8]) -> Reply
+    requires { ⌜ Whole (now memory) (now books) (now map) × (16 ≤ length (now bytes)) ⌝ }
+    ensures { λ r. ⌜ repliedWith r (now (memory .exit)) (now (books .exit)) (now (map .exit))
+        ≡ calledFor 8 (now (bytes .entry)) (resize 8 (heapOf (now (memory .entry)) (now (books .entry)) (now (map .entry)))
+        (offsetIn (now (bytes .entry))) (sizeIn (now (bytes .entry)))) ⌝ }
+{
+    let offset = link_at(bytes, 8);
+    let wanted = link_at(bytes, 4);
+    let answer = heap::resize(memory, books, map, index(offset), index(wanted));
+    let size = size_at(books, answer.offset);
+    reply_to(bytes, answer, size, live_blocks(books, map))
+}
+
+// The reply to a record that is whole and well made: its call is made.
+fn answer_call(memory: &mut [u8], books: &mut [u32], map: &mut [u64], bytes: &[u8]) -> Reply
+    requires { ⌜ Whole (now memory) (now books) (now map) × (16 ≤ length (now bytes)) ⌝ }
+    ensures { λ r. ⌜ repliedWith r (now (memory .exit)) (now (books .exit)) (now (map .exit))
+        ≡ replayCall 8 (heapOf (now (memory .entry)) (now (books .entry)) (now (map .entry))) (now (bytes .entry)) ⌝ }
+{
+    if bytes[0] == 1 {
+        return answer_ask(memory, books, map, bytes);
+    }
+    if bytes[0] == 2 {
+        return answer_give_back(memory, books, map, bytes);
+    }
+    answer_resize(memory, books, map, bytes)
+}
+
+// The reply to any record.
+fn answer(memory: &mut [u8], books: &mut [u32], map: &mut [u64], bytes: &[u8]) -> Reply
+    requires { ⌜ Whole (now memory) (now books) (now map) ⌝ }
+    ensures { λ r. ⌜ repliedWith r (now (memory .exit)) (now (books .exit)) (now (map .exit))
+        ≡ replayRecord 8 (heapOf (now (memory .entry)) (now (books .entry)) (now (map .entry))) (now (bytes .entry)) ⌝ }
+{
+    if bytes.len() < 16 {
+        return Reply {
+            op: 0,
+            number: 8,
+            offset: 0,
+            size: 0,
+            live: live_blocks(books, map),
+        };
+    }
+    if !well_made(bytes) {
+        return refusal(bytes, 9, live_blocks(books, map));
+    }
+    answer_call(memory, books, map, bytes)
+}
+
+// The reply's bytes are stored in the output from byte `at` on.
+fn put_reply(output: &mut [u8], at: usize, reply: Reply)
+    requires { ⌜ at + 16 ≤ length (now output) ⌝ }
+    ensures { λ _. ⌜ now (output .exit) ≡ sets (now (output .entry)) at (bytesOf reply) ⌝ }
+{
+    output[at] = reply.op;
+    output[at + 1] = reply.number;
+    output[at + 2] = 0;
+    output[at + 3] = 0;
+    put_link(output, at + 4, reply.offset);
+    put_link(output, at + 8, reply.size);
+    put_link(output, at + 12, reply.live);
+}
+
+// ---- a piece of a replay
+
+// Where the record that starts at `from` ends: sixteen bytes on, or where the input ends.
+fn end_of(from: usize, length: usize) -> usize
+    requires { ⌜ from ≤ length ⌝ }
+    ensures { λ r. ⌜ r ≡ from + min 16 (length - from) ⌝ }
+{
+    if length - from < 16 {
+        return length;
+    }
+    from + 16
+}
+
+// Record i of the input is answered, and its reply is stored at its place in the output.
+fn replay_record(
+    memory: &mut [u8],
+    books: &mut [u32],
+    map: &mut [u64],
+    input: &[u8],
+    output: &mut [u8],
+    i: usize,
+)
+    requires { ⌜ Whole (now memory) (now books) (now map) × (16 * i ≤ length (now input)) × (16 * i + 16 ≤ length (now output)) ⌝ }
+    ensures { λ _. ⌜ (now (output .exit) ≡ sets (now (output .entry)) (16 * i)
+        (replayRecord 8 (heapOf (now (memory .entry)) (now (books .entry)) (now (map .entry))) (recordAt i (now (input .entry))) .reply))
+        × (heapOf (now (memory .exit)) (now (books .exit)) (now (map .exit))
+        ≡ replayRecord 8 (heapOf (now (memory .entry)) (now (books .entry)) (now (map .entry))) (recordAt i (now (input .entry))) .heap) ⌝ }
+{
+    let from = 16 * i;
+    let to = end_of(from, input.len());
+    let reply = answer(memory, books, map, &input[from..to]);
+    put_reply(output, from, reply);
+}
+
+// Every record of the input is answered in order, a short one at the end too; the replies stand at the front of the output. Nothing is
+// done on a heap of another shape, or where the output is too small.
+pub fn replay_records(
+    memory: &mut [u8],
+    books: &mut [u32],
+    map: &mut [u64],
+    input: &[u8],
+    output: &mut [u8],
+) -> Replayed
+    ensures { λ r. ⌜ record { answer = r; output = now (output .exit); heap = heapOf (now (memory .exit)) (now (books .exit)) (now (map .exit)) }
+        ≡ replayPiece (heapOf (now (memory .entry)) (now (books .entry)) (now (map .entry))) (now (input .entry)) (now (output .entry)) ⌝ }
+{
+    let number = shape_number(memory, books, map);
+    if number != 0 {
+        return Replayed { number, written: 0 };
+    }
+    let records = (input.len() + 15) / 16;
+    if output.len() < 16 * records {
+        return Replayed {
+            number: 7,
+            written: 0,
+        };
+    }
+    for i in 0..records {
+        replay_record(memory, books, map, input, output, i);
+    }
+    Replayed {
+        number: 0,
+        written: 16 * records,
+    }
+}
