@@ -409,8 +409,11 @@ INLINE uint32_t count_live(const struct heap *h)
         if (h->pool[p].class > LAST_CLASS)
             continue;
         uint32_t blocks = (POOL_BYTES - FIRST_BLOCK) / size_of(h->pool[p].class);
-        for (uint32_t w = 0; 64 * w < blocks; w++)
-            live += (uint32_t)__builtin_popcountll(live_word(h, p, w, blocks));
+        for (uint32_t w = 0; 64 * w < blocks; w++) {
+            uint64_t word = live_word(h, p, w, blocks);
+            if (word != 0)
+                live += (uint32_t)__builtin_popcountll(word);
+        }
     }
     return live;
 }

@@ -1,18 +1,23 @@
 /* Measures the variants: measure [ROUNDS]. Each round visits every variant, in an order that rotates from round to round, so that whatever else
  * the machine does falls on all of them alike. Prints tables of medians; fails only where a variant answers wrongly. */
-#define _POSIX_C_SOURCE 200112L
+#define _DEFAULT_SOURCE
 #include "random.h"
 #include "variants.h"
 
+#include <math.h>
 #include <stdbool.h>
 #include <stdio.h>
 #include <stdlib.h>
 #include <string.h>
+#include <sys/mman.h>
+#include <sys/wait.h>
 #include <time.h>
+#include <unistd.h>
 
 enum { PAIRS = 8192, WARM = 2048, WINDOWS = 32 };                               /* of the mixed trace; a visit runs one window of it */
 enum { RUNS = 32, SHORTEST_RUN = 50, LONGEST_RUN = 400, RUN_WINDOWS = 8 };      /* of the statement's trace */
-enum { ROLL_ARENAS = 4, ROLL_POOLS = 64, CALLS = 8, MOST_ROUNDS = 10000 };
+enum { ROLL_ARENAS = 4, ROLL_POOLS = 64, CALLS = 8 };                           /* of roll call and format; a visit makes so many calls */
+enum { CHILD_ROUNDS = 25, MOST_ROUNDS = 10000 };
 
 /* What is measured. A visit gives the time of one operation. */
 struct task {
@@ -20,7 +25,11 @@ struct task {
     bool (*can)(const struct variant *v);
     void (*prepare)(const struct variant *v);
     double (*visit)(const struct variant *v, size_t round);
-    void (*finish)(const struct variant *v);
+};
+
+/* The library's time as a multiple of a variant's, over all rounds and over the quietest quarter of them. */
+struct ratio {
+    double all, quiet;
 };
 
 static struct step mixed[WINDOWS * PAIRS + WARM], texts[RUN_WINDOWS][RUNS * LONGEST_RUN], start[SLOTS], wide[SLOTS], up[SLOTS], down[SLOTS];
@@ -28,7 +37,7 @@ static uint16_t runs[RUN_WINDOWS][RUNS];
 static uint8_t text[512], roll_memory[HESKAVERN_MEMORY_BYTES(ROLL_ARENAS, ROLL_POOLS)];
 static uint32_t roll_books[HESKAVERN_BOOKS_WORDS(ROLL_ARENAS, ROLL_POOLS)], roll[HESKAVERN_ROLL_WORDS(ROLL_ARENAS, ROLL_POOLS)], live;
 static uint64_t roll_map[HESKAVERN_MAP_WORDS(ROLL_ARENAS, ROLL_POOLS)];
-static double times[MOST_VARIANTS][MOST_ROUNDS];
+static double (*times)[MOST_ROUNDS];    /* of each variant, shared with the children */
 static size_t rounds = 400;
 
 static void fail(const char *who, const char *what)
@@ -78,11 +87,6 @@ static bool can_ask(const struct variant *v)
     return v->fill != NULL;
 }
 
-static void give_all_back(const struct variant *v)
-{
-    must(v->drain(start, SLOTS), v);
-}
-
 static void prepare_mixed(const struct variant *v)
 {
     v->fresh();
@@ -100,14 +104,12 @@ static double visit_mixed(const struct variant *v, size_t round)
     return (end - begin) / PAIRS;
 }
 
+/* Every slot has held a block, so that the variants' slots can be compared. */
 static void prepare_empty(const struct variant *v)
 {
     v->fresh();
-}
-
-static void leave_empty(const struct variant *v)
-{
-    (void)v;
+    must(v->fill(start, SLOTS), v);
+    must(v->drain(start, SLOTS), v);
 }
 
 static double visit_statement(const struct variant *v, size_t round)
@@ -251,17 +253,23 @@ static void prepare_roll_900(const struct variant *v)
 
 static double visit_roll(const struct variant *v, size_t round)
 {
-    static uint32_t first[sizeof roll / sizeof *roll];
+    static uint32_t first[sizeof roll / sizeof *roll];      /* the library's roll, once it has been called */
+    (void)round;
     double begin = now();
     for (int i = 0; i < CALLS; i++)
         if (v->roll_call(ROLL_HEAP, roll, sizeof roll / sizeof *roll).value != live)
             fail(v->name, "its roll call counts wrongly");
     double end = now();
-    if (round == 0 && v == variants[0])
+    if (v == variants[0])
         memcpy(first, roll, sizeof roll);
-    if (memcmp(first, roll, 2 * live * sizeof *roll) != 0)
+    else if (first[1] != 0 && memcmp(first, roll, 2 * live * sizeof *roll) != 0)
         fail(v->name, "its roll is not the library's");
     return (end - begin) / CALLS / 1000;
+}
+
+static void prepare_format(const struct variant *v)
+{
+    (void)v;
 }
 
 static double visit_format(const struct variant *v, size_t round)
@@ -292,18 +300,48 @@ static int by_size(const void *a, const void *b)
     return (x > y) - (x < y);
 }
 
-/* A variant's row: its times, and the median over the rounds of the library's time as a multiple of its own in the same round. */
-static void print_row(size_t v, double *ratio)
+static double quantile(double *values, size_t n, double share)
 {
-    static double sorted[MOST_ROUNDS], ratios[MOST_ROUNDS];
-    for (size_t r = 0; r < rounds; r++) {
-        sorted[r] = times[v][r];
-        ratios[r] = times[0][r] / times[v][r];
-    }
-    qsort(sorted, rounds, sizeof *sorted, by_size);
-    qsort(ratios, rounds, sizeof *ratios, by_size);
-    *ratio = ratios[rounds / 2];
-    printf("| %s | %.2f | %.2f to %.2f | %.2f |\n", variants[v]->name, sorted[rounds / 2], sorted[rounds / 4], sorted[rounds * 3 / 4], *ratio);
+    qsort(values, n, sizeof *values, by_size);
+    return values[(size_t)(share * (double)n)];
+}
+
+static double round_time(size_t r)
+{
+    double sum = 0;
+    for (size_t v = 0; v < variant_count; v++)
+        sum += times[v][r];
+    return sum;
+}
+
+/* What a quarter of the rounds, the quietest ones, take at most. */
+static double quiet_time(void)
+{
+    static double sums[MOST_ROUNDS];
+    for (size_t r = 0; r < rounds; r++)
+        sums[r] = round_time(r);
+    return quantile(sums, rounds, 0.25);
+}
+
+/* The library's time as a multiple of the variant's in the same round: the median over the rounds of at most this time. */
+static double ratio_to(size_t v, double most)
+{
+    static double ratios[MOST_ROUNDS];
+    size_t n = 0;
+    for (size_t r = 0; r < rounds; r++)
+        if (round_time(r) <= most)
+            ratios[n++] = times[0][r] / times[v][r];
+    return quantile(ratios, n, 0.5);
+}
+
+static void print_row(size_t v, struct ratio *ratio)
+{
+    static double sorted[MOST_ROUNDS];
+    memcpy(sorted, times[v], rounds * sizeof *sorted);
+    double median = quantile(sorted, rounds, 0.5);
+    *ratio = (struct ratio){ratio_to(v, INFINITY), ratio_to(v, quiet_time())};
+    printf("| %s | %.2f | %.2f to %.2f | %.2f | %.2f |\n", variants[v]->name, median, quantile(sorted, rounds, 0.25), quantile(sorted, rounds, 0.75),
+           ratio->all, ratio->quiet);
 }
 
 /* A visit with the stack moved by another amount in each round: where the stack stands, and with it which of its words share the low twelve bits
@@ -316,12 +354,13 @@ static double visit_shifted(const struct task *t, const struct variant *v, size_
     return time + shift[0];
 }
 
-static void measure(const struct task *t, double *ratios)
+/* Some rounds, from the preparation on. */
+static void run_rounds(const struct task *t, size_t first, size_t end)
 {
     for (size_t i = 0; i < variant_count; i++)
         if (t->can(variants[i]))
             t->prepare(variants[i]);
-    for (size_t r = 0; r < rounds; r++) {
+    for (size_t r = first; r < end; r++) {
         for (size_t i = 0; i < variant_count; i++) {
             size_t v = (i + r) % variant_count;
             if (t->can(variants[v]))
@@ -329,37 +368,56 @@ static void measure(const struct task *t, double *ratios)
         }
         same_places(t);
     }
-    printf("\n| %s | median | quartiles | library / it |\n|---|---:|---:|---:|\n", t->title);
-    for (size_t i = 0; i < variant_count; i++) {
-        if (t->can(variants[i])) {
-            t->finish(variants[i]);
-            print_row(i, &ratios[i]);
-        }
+}
+
+/* The same in a child process: its memory is its own, so that where the pages stand is another throw of the dice for every few rounds. */
+static void run_child(const struct task *t, size_t first, size_t end)
+{
+    int status;
+    pid_t child = fork();
+    if (child == 0) {
+        run_rounds(t, first, end);
+        _exit(0);
     }
+    if (child < 0 || waitpid(child, &status, 0) != child)
+        fail("fork", "no child process");
+    if (status != 0)
+        exit(1);
+}
+
+static void measure(const struct task *t, struct ratio *ratios)
+{
+    memset(times, 0, MOST_VARIANTS * sizeof *times);
+    for (size_t first = 0; first < rounds; first += CHILD_ROUNDS)
+        run_child(t, first, first + CHILD_ROUNDS < rounds ? first + CHILD_ROUNDS : rounds);
+    printf("\n| %s | median | quartiles | library / it | in quiet rounds |\n|---|---:|---:|---:|---:|\n", t->title);
+    for (size_t i = 0; i < variant_count; i++)
+        if (t->can(variants[i]))
+            print_row(i, &ratios[i]);
     fflush(stdout);
 }
 
 static const struct task tasks[] = {
-    {"ask + give back, mixed: ns a pair", can_ask, prepare_mixed, visit_mixed, give_all_back},
-    {"ask + give back, statement: ns a pair", can_ask, prepare_empty, visit_statement, leave_empty},
-    {"resize up: ns", can_ask, prepare_resize, visit_up, give_all_back},
-    {"resize down: ns", can_ask, prepare_resize, visit_down, give_all_back},
-    {"write 16 bytes (source: memcpy): ns", can_write, prepare_write, visit_write_16, give_all_back},
-    {"write 200 bytes (source: memcpy): ns", can_write, prepare_write, visit_write_200, give_all_back},
-    {"view_size: ns", can_write, prepare_write, visit_view, give_all_back},
-    {"roll call, 0.1 % live (C: a loop with ctz): µs", can_roll, prepare_roll_1, visit_roll, leave_empty},
-    {"roll call, 10 % live (C: a loop with ctz): µs", can_roll, prepare_roll_100, visit_roll, leave_empty},
-    {"roll call, 90 % live (C: a loop with ctz): µs", can_roll, prepare_roll_900, visit_roll, leave_empty},
-    {"format (C: memset and a loop): µs", can_roll, leave_empty, visit_format, leave_empty},
+    {"ask + give back, mixed: ns a pair", can_ask, prepare_mixed, visit_mixed},
+    {"ask + give back, statement: ns a pair", can_ask, prepare_empty, visit_statement},
+    {"resize up: ns", can_ask, prepare_resize, visit_up},
+    {"resize down: ns", can_ask, prepare_resize, visit_down},
+    {"write 16 bytes (source: memcpy): ns", can_write, prepare_write, visit_write_16},
+    {"write 200 bytes (source: memcpy): ns", can_write, prepare_write, visit_write_200},
+    {"view_size: ns", can_write, prepare_write, visit_view},
+    {"roll call, 0.1 % live (C: a loop with ctz): µs", can_roll, prepare_roll_1, visit_roll},
+    {"roll call, 10 % live (C: a loop with ctz): µs", can_roll, prepare_roll_100, visit_roll},
+    {"roll call, 90 % live (C: a loop with ctz): µs", can_roll, prepare_roll_900, visit_roll},
+    {"format (C: memset and a loop): µs", can_roll, prepare_format, visit_format},
 };
 
 enum { TASKS = sizeof tasks / sizeof *tasks };
-static double ratios[TASKS][MOST_VARIANTS];
+static struct ratio ratios[TASKS][MOST_VARIANTS];
 
-/* One table of all ratios. */
+/* One table of all ratios, with those of the quiet rounds in brackets. */
 static void print_ratios(void)
 {
-    printf("\n| library / it |");
+    printf("\n| library / it (in quiet rounds) |");
     for (size_t v = 1; v < variant_count; v++)
         printf(" %s |", variants[v]->name);
     printf("\n|---|");
@@ -368,7 +426,7 @@ static void print_ratios(void)
     for (size_t i = 0; i < TASKS; i++) {
         printf("\n| %s |", tasks[i].title);
         for (size_t v = 1; v < variant_count; v++)
-            tasks[i].can(variants[v]) ? printf(" %.2f |", ratios[i][v]) : printf(" |");
+            tasks[i].can(variants[v]) ? printf(" %.2f (%.2f) |", ratios[i][v].all, ratios[i][v].quiet) : printf(" |");
     }
     printf("\n");
 }
@@ -381,6 +439,9 @@ int main(int argc, char **argv)
         fprintf(stderr, "usage: measure [ROUNDS], at most %d\n", MOST_ROUNDS);
         return 2;
     }
+    times = mmap(NULL, MOST_VARIANTS * sizeof *times, PROT_READ | PROT_WRITE, MAP_SHARED | MAP_ANONYMOUS, -1, 0);
+    if (times == MAP_FAILED)
+        fail("mmap", "no memory for the times");
     find_variants();
     make_traces();
     for (size_t i = 0; i < TASKS; i++)

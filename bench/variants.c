@@ -6,6 +6,7 @@
 
 #include <dlfcn.h>
 #include <stdbool.h>
+#include <stdio.h>
 #include <stdlib.h>
 #include <string.h>
 
@@ -164,13 +165,18 @@ static const struct variant loop = {"the loop alone", no_heap, TRACES(loop), WRI
 const struct variant *variants[MOST_VARIANTS] = {&library, &checks_in_c, &source};
 size_t variant_count = 3;
 
+static void add(bool found, const struct variant *v)
+{
+    if (found)
+        variants[variant_count++] = v;
+    else
+        fprintf(stderr, "bench: %s cannot be loaded and is left out\n", v->name);
+}
+
 void find_variants(void)
 {
-    if (find_calls(&glibc_calls, NULL, "malloc", "free", "realloc"))
-        variants[variant_count++] = &glibc;
-    if (find_calls(&mimalloc_calls, "libmimalloc.so.2", "mi_malloc", "mi_free", "mi_realloc"))
-        variants[variant_count++] = &mimalloc;
-    if (find_calls(&jemalloc_calls, "libjemalloc.so.2", "malloc", "free", "realloc"))
-        variants[variant_count++] = &jemalloc;
-    variants[variant_count++] = &loop;
+    add(find_calls(&glibc_calls, NULL, "malloc", "free", "realloc"), &glibc);
+    add(find_calls(&mimalloc_calls, "libmimalloc.so.2", "mi_malloc", "mi_free", "mi_realloc"), &mimalloc);
+    add(find_calls(&jemalloc_calls, "libjemalloc.so.2", "malloc", "free", "realloc"), &jemalloc);
+    add(true, &loop);
 }

@@ -89,14 +89,15 @@ static struct call random_call(void)
     return c;
 }
 
-/* A value that a word of the books could be mistaken for holding. */
+/* A value that a damaged word may hold: near a bound, a block start, a link, or a start past the last block of one of the few sizes. */
 static uint32_t odd_word(void)
 {
-    static const uint32_t odd[] = {0, 0, 1, 2, 3, 48, 56, 505, 506, 507, 4088, 4096, 65535, UINT32_MAX};
-    switch (below(4)) {
+    static const uint32_t odd[] = {0, 0, 1, 2, 3, 48, 56, 505, 506, 507, 4088, 4096, 65535, UINT32_MAX}, past[] = {4096, 4080, 4048, 4008, 3632};
+    switch (below(5)) {
     case 0: return (uint32_t)(arenas * pools) + below(2);
     case 1: return 48 + 8 * below(506);
     case 2: return below((uint32_t)(arenas * pools) + 1);
+    case 3: return past[below(sizeof past / sizeof *past)];
     default: return odd[below(sizeof odd / sizeof *odd)];
     }
 }
@@ -109,7 +110,7 @@ static void damage(void)
     switch (below(4)) {
     case 0:
         at = 8 * below((uint32_t)(arenas * pools));
-        library.map[at + below(8) % (1 + below(8))] ^= (uint64_t)1 << below(64);
+        library.map[at + below(1 + below(8))] ^= (uint64_t)1 << below(64);
         memcpy(checks.map, library.map, sizeof library.map);
         break;
     case 1:
@@ -175,7 +176,7 @@ static void note(const struct call *c, heskavern_answer a)
         held[held_count++] = a.value;
 }
 
-/* Calls on one heap. Half of the heaps are damaged now and then; after some calls on a damaged heap it is made anew. */
+/* Up to 400 calls on one heap. Half of the heaps are damaged now and then. */
 static bool compare(unsigned long *calls)
 {
     fresh();
