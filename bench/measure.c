@@ -344,8 +344,7 @@ static void print_row(size_t v, struct ratio *ratio)
            ratio->all, ratio->quiet);
 }
 
-/* A visit with the stack moved by another amount in each round: where the stack stands, and with it which of its words share the low twelve bits
- * of their addresses with the books, would otherwise be one throw of the dice for the whole run. */
+/* A visit with the stack moved by another amount in each round: should it matter where the stack stands, one place does not decide the run. */
 static double visit_shifted(const struct task *t, const struct variant *v, size_t round)
 {
     volatile uint8_t shift[1 + 272 * round % 4096];
@@ -370,7 +369,7 @@ static void run_rounds(const struct task *t, size_t first, size_t end)
     }
 }
 
-/* The same in a child process: its memory is its own, so that where the pages stand is another throw of the dice for every few rounds. */
+/* The same in a child process: should it matter where a process's pages stand, one process does not decide the run. */
 static void run_child(const struct task *t, size_t first, size_t end)
 {
     int status;
