@@ -1,0 +1,550 @@
+/* 01 read once more, in C: every check at every call, each step decided before it is written. Nothing is proved of it; bench/verify.c holds it to
+ * the library's answers. Its times say what the checks themselves cost. */
+#include "checks.h"
+
+#include <stdbool.h>
+#include <string.h>
+
+/* Everything is inlined into the calls, so that the struct of the buffers costs nothing. */
+#define INLINE static inline __attribute__((always_inline))
+
+enum { POOL_BYTES = 4096, FIRST_BLOCK = 48, ALIGNMENT = 8, LARGEST = 512, LAST_CLASS = 63, NO_CLASS = 65535 };
+enum { USABLE_HEAD = 2, UNUSED_HEAD = 3, CLASS_HEADS = 4, RECORDS = 72, RECORD = 8 };
+enum { NO_BLOCK = 512 };    /* no pool has so many blocks */
+
+struct arena {
+    uint32_t open, mark, free_pools, freed_head, next, previous, zero[2];
+};
+
+struct pool {
+    uint32_t count, freeblock, next, previous, class, nextoffset, maxnextoffset, zero;
+};
+
+/* The lent buffers, and where the records stand in the books. */
+struct heap {
+    uint8_t *memory;
+    uint32_t *books;
+    uint64_t *map;
+    struct arena *arena;
+    struct pool *pool;
+    uint32_t arenas, pools, all;
+};
+
+INLINE heskavern_answer answer(uint32_t number, uint32_t value)
+{
+    heskavern_answer a = {number, value};
+    return a;
+}
+
+/* ---- the tests that the calls begin with */
+
+/* 1 or 2, for given numbers of arenas and pools. */
+INLINE uint32_t fit_number(size_t memory_bytes, size_t books_words, size_t map_words, size_t arenas, size_t pools)
+{
+    if (arenas < 1 || arenas > 16 || pools < 2 || pools > 64)
+        return HESKAVERN_OUT_OF_RANGE;
+    if (memory_bytes != HESKAVERN_MEMORY_BYTES(arenas, pools) || books_words != HESKAVERN_BOOKS_WORDS(arenas, pools)
+        || map_words != HESKAVERN_MAP_WORDS(arenas, pools))
+        return HESKAVERN_NOT_EXACT;
+    return HESKAVERN_DONE;
+}
+
+/* 1 or 2, for the numbers that the books hold. Where there is neither, the heap can be used. */
+INLINE uint32_t open_heap(struct heap *h, const uint8_t *memory, size_t memory_bytes, const uint32_t *books, size_t books_words,
+                                 const uint64_t *map, size_t map_words)
+{
+    if (books_words < 2)
+        return HESKAVERN_NOT_EXACT;
+    uint32_t number = fit_number(memory_bytes, books_words, map_words, books[0], books[1]);
+    if (number != HESKAVERN_DONE)
+        return number;
+    h->memory = (uint8_t *)memory;
+    h->books = (uint32_t *)books;
+    h->map = (uint64_t *)map;
+    h->arenas = books[0];
+    h->pools = books[1];
+    h->all = h->arenas * h->pools;
+    h->arena = (struct arena *)(h->books + RECORDS);
+    h->pool = (struct pool *)(h->books + RECORDS + RECORD * h->arenas);
+    return HESKAVERN_DONE;
+}
+
+INLINE uint32_t size_of(uint32_t class)
+{
+    return ALIGNMENT * (class + 1);
+}
+
+/* Which block starts at this place of a pool, or NO_BLOCK. */
+INLINE uint32_t block_at(uint32_t size, uint32_t place)
+{
+    if (place < FIRST_BLOCK || place > POOL_BYTES - size)
+        return NO_BLOCK;
+    uint32_t k = (place - FIRST_BLOCK) / size;
+    return k * size == place - FIRST_BLOCK ? k : NO_BLOCK;
+}
+
+INLINE uint64_t *map_word(const struct heap *h, uint32_t p, uint32_t k)
+{
+    return &h->map[8 * p + k / 64];
+}
+
+INLINE bool is_set(const struct heap *h, uint32_t p, uint32_t k)
+{
+    return *map_word(h, p, k) >> k % 64 & 1;
+}
+
+/* Which block of its pool is live at this offset, or NO_BLOCK. */
+INLINE uint32_t live_at(const struct heap *h, size_t offset)
+{
+    if (offset >= (size_t)h->all * POOL_BYTES)
+        return NO_BLOCK;
+    uint32_t p = (uint32_t)(offset / POOL_BYTES), class = h->pool[p].class;
+    if (class > LAST_CLASS)
+        return NO_BLOCK;
+    uint32_t k = block_at(size_of(class), offset % POOL_BYTES);
+    return k != NO_BLOCK && is_set(h, p, k) ? k : NO_BLOCK;
+}
+
+/* ---- links and lists */
+
+INLINE uint32_t get_link(const uint8_t *b)
+{
+    return b[0] | (uint32_t)b[1] << 8 | (uint32_t)b[2] << 16 | (uint32_t)b[3] << 24;
+}
+
+INLINE void put_link(uint8_t *b, uint32_t link)
+{
+    b[0] = (uint8_t)link;
+    b[1] = (uint8_t)(link >> 8);
+    b[2] = (uint8_t)(link >> 16);
+    b[3] = (uint8_t)(link >> 24);
+}
+
+INLINE uint8_t *place_in(const struct heap *h, uint32_t p, uint32_t place)
+{
+    return h->memory + (size_t)POOL_BYTES * p + place;
+}
+
+/* Member n, whose next word is links[8n] and whose previous word comes after it, leaves the list of this head. */
+INLINE void leave(uint32_t *links, uint32_t *head, uint32_t n)
+{
+    uint32_t *own = links + RECORD * n, next = own[0], previous = own[1];
+    if (previous == 0)
+        *head = next;
+    else
+        links[RECORD * (previous - 1)] = next;
+    if (next != 0)
+        links[RECORD * (next - 1) + 1] = previous;
+    own[0] = 0;
+    own[1] = 0;
+}
+
+INLINE void join(uint32_t *links, uint32_t *head, uint32_t n)
+{
+    uint32_t *own = links + RECORD * n, old = *head;
+    own[0] = old;
+    own[1] = 0;
+    if (old != 0)
+        links[RECORD * (old - 1) + 1] = n + 1;
+    *head = n + 1;
+}
+
+INLINE bool pool_may_leave(const struct heap *h, uint32_t p)
+{
+    return h->pool[p].next <= h->all && h->pool[p].previous <= h->all;
+}
+
+INLINE bool arena_may_leave(const struct heap *h, uint32_t a)
+{
+    return h->arena[a].next <= h->arenas && h->arena[a].previous <= h->arenas;
+}
+
+/* ---- ask */
+
+/* Which block starts at this place of pool p and is not live, or NO_BLOCK. */
+INLINE uint32_t spare_at(const struct heap *h, uint32_t p, uint32_t size, uint32_t place)
+{
+    uint32_t k = block_at(size, place);
+    return k != NO_BLOCK && !is_set(h, p, k) ? k : NO_BLOCK;
+}
+
+INLINE heskavern_answer hand_out(const struct heap *h, uint32_t p, uint32_t place, uint32_t k)
+{
+    *map_word(h, p, k) |= (uint64_t)1 << k % 64;
+    return answer(HESKAVERN_DONE, POOL_BYTES * p + place);
+}
+
+/* From pool p, the front one of its class list. */
+INLINE heskavern_answer ask_listed(const struct heap *h, uint32_t class, uint32_t size, uint32_t p)
+{
+    struct pool *pool = &h->pool[p];
+    if (pool->class != class || pool->maxnextoffset != POOL_BYTES - size || pool->count > 505)
+        return answer(HESKAVERN_DAMAGED, 0);
+    uint32_t place = pool->freeblock, k = spare_at(h, p, size, place);
+    if (k == NO_BLOCK)
+        return answer(HESKAVERN_DAMAGED, 0);
+    uint32_t link = get_link(place_in(h, p, place));
+    if (link != 0) {
+        if (spare_at(h, p, size, link) == NO_BLOCK)
+            return answer(HESKAVERN_DAMAGED, 0);
+        pool->count++;
+        pool->freeblock = link;
+    } else if (pool->nextoffset <= pool->maxnextoffset) {
+        uint32_t following = pool->nextoffset;
+        if (spare_at(h, p, size, following) == NO_BLOCK)
+            return answer(HESKAVERN_DAMAGED, 0);
+        pool->count++;
+        pool->freeblock = following;
+        pool->nextoffset = following + size;
+        put_link(place_in(h, p, following), 0);
+    } else {
+        if (!pool_may_leave(h, p))
+            return answer(HESKAVERN_DAMAGED, 0);
+        pool->count++;
+        pool->freeblock = 0;
+        leave(&h->pool->next, &h->books[CLASS_HEADS + class], p);
+    }
+    return hand_out(h, p, place, k);
+}
+
+/* Pool p, taken from arena a, goes alone on the class list. */
+INLINE void list_alone(const struct heap *h, uint32_t class, uint32_t a, uint32_t p)
+{
+    if (--h->arena[a].free_pools == 0)
+        leave(&h->arena->next, &h->books[USABLE_HEAD], a);
+    h->books[CLASS_HEADS + class] = p + 1;
+    h->pool[p].next = 0;
+    h->pool[p].previous = 0;
+    h->pool[p].count = 1;
+}
+
+INLINE heskavern_answer set_class(const struct heap *h, uint32_t class, uint32_t size, uint32_t p)
+{
+    struct pool *pool = &h->pool[p];
+    pool->class = class;
+    pool->nextoffset = FIRST_BLOCK + 2 * size;
+    pool->maxnextoffset = POOL_BYTES - size;
+    pool->freeblock = FIRST_BLOCK + size;
+    put_link(place_in(h, p, FIRST_BLOCK + size), 0);
+    return hand_out(h, p, FIRST_BLOCK, 0);
+}
+
+INLINE bool can_be_set(const struct heap *h, uint32_t p)
+{
+    return (*map_word(h, p, 0) & 3) == 0;
+}
+
+INLINE bool can_give_pool(const struct heap *h, uint32_t a)
+{
+    uint32_t free = h->arena[a].free_pools;
+    return free >= 1 && free <= h->pools && (free != 1 || arena_may_leave(h, a));
+}
+
+/* From pool p, the first freed one of arena a. */
+INLINE heskavern_answer ask_freed(const struct heap *h, uint32_t class, uint32_t size, uint32_t a, uint32_t p)
+{
+    struct pool *pool = &h->pool[p];
+    uint32_t place = pool->freeblock, k = NO_BLOCK, link = 0;
+    bool again = pool->class == class;
+    if (pool->next > h->all || !can_give_pool(h, a))
+        return answer(HESKAVERN_DAMAGED, 0);
+    if (again) {
+        k = spare_at(h, p, size, place);
+        if (k == NO_BLOCK)
+            return answer(HESKAVERN_DAMAGED, 0);
+        link = get_link(place_in(h, p, place));
+        if (link != 0 && spare_at(h, p, size, link) == NO_BLOCK)
+            return answer(HESKAVERN_DAMAGED, 0);
+    } else if (!can_be_set(h, p)) {
+        return answer(HESKAVERN_DAMAGED, 0);
+    }
+    h->arena[a].freed_head = pool->next;
+    list_alone(h, class, a, p);
+    if (!again)
+        return set_class(h, class, size, p);
+    pool->freeblock = link;
+    return hand_out(h, p, place, k);
+}
+
+/* From the pool at the mark of arena a, whose words have been tested. */
+INLINE heskavern_answer carve(const struct heap *h, uint32_t class, uint32_t size, uint32_t a, uint32_t p)
+{
+    h->arena[a].mark++;
+    list_alone(h, class, a, p);
+    return set_class(h, class, size, p);
+}
+
+INLINE heskavern_answer ask_usable(const struct heap *h, uint32_t class, uint32_t size, uint32_t a)
+{
+    uint32_t first = h->arena[a].freed_head, mark = h->arena[a].mark;
+    if (first > h->all)
+        return answer(HESKAVERN_DAMAGED, 0);
+    if (first != 0)
+        return ask_freed(h, class, size, a, first - 1);
+    if (mark >= h->pools || !can_give_pool(h, a) || !can_be_set(h, a * h->pools + mark))
+        return answer(HESKAVERN_DAMAGED, 0);
+    return carve(h, class, size, a, a * h->pools + mark);
+}
+
+/* From arena a, the first unused one, where none is usable. */
+INLINE heskavern_answer ask_unused(const struct heap *h, uint32_t class, uint32_t size, uint32_t a)
+{
+    struct arena *arena = &h->arena[a];
+    if (!arena_may_leave(h, a) || !can_be_set(h, a * h->pools))
+        return answer(HESKAVERN_DAMAGED, 0);
+    leave(&h->arena->next, &h->books[UNUSED_HEAD], a);
+    join(&h->arena->next, &h->books[USABLE_HEAD], a);
+    arena->open = 1;
+    arena->mark = 0;
+    arena->freed_head = 0;
+    arena->free_pools = h->pools;
+    return carve(h, class, size, a, a * h->pools);
+}
+
+INLINE heskavern_answer ask_unlisted(const struct heap *h, uint32_t class, uint32_t size)
+{
+    uint32_t usable = h->books[USABLE_HEAD], unused = h->books[UNUSED_HEAD];
+    if (usable > h->arenas)
+        return answer(HESKAVERN_DAMAGED, 0);
+    if (usable != 0)
+        return ask_usable(h, class, size, usable - 1);
+    if (unused == 0)
+        return answer(HESKAVERN_NO_ROOM, 0);
+    if (unused > h->arenas)
+        return answer(HESKAVERN_DAMAGED, 0);
+    return ask_unused(h, class, size, unused - 1);
+}
+
+INLINE heskavern_answer ask_step(const struct heap *h, size_t n)
+{
+    uint32_t class = (uint32_t)(n - 1) / ALIGNMENT, size = size_of(class), front = h->books[CLASS_HEADS + class];
+    if (front == 0)
+        return ask_unlisted(h, class, size);
+    if (front > h->all)
+        return answer(HESKAVERN_DAMAGED, 0);
+    return ask_listed(h, class, size, front - 1);
+}
+
+/* ---- give back */
+
+/* The block at this place goes to the front of its pool's freed blocks. */
+INLINE void put_back(const struct heap *h, uint32_t p, uint32_t place, uint32_t k)
+{
+    *map_word(h, p, k) &= ~((uint64_t)1 << k % 64);
+    put_link(place_in(h, p, place), h->pool[p].freeblock);
+    h->pool[p].freeblock = place;
+    h->pool[p].count--;
+}
+
+/* What an emptied pool and its arena ask of the books. */
+INLINE bool may_empty(const struct heap *h, uint32_t a, uint32_t p)
+{
+    uint32_t free = h->arena[a].free_pools;
+    if (!pool_may_leave(h, p) || h->arena[a].freed_head > h->all || free > h->pools - 1)
+        return false;
+    if (free + 1 == h->pools)
+        return arena_may_leave(h, a) && h->books[UNUSED_HEAD] <= h->arenas;
+    return free != 0 || h->books[USABLE_HEAD] <= h->arenas;
+}
+
+/* Pool p, at count 0, goes to the freed pools of arena a, which may then be released or newly usable. */
+INLINE void empty_pool(const struct heap *h, uint32_t class, uint32_t a, uint32_t p)
+{
+    struct arena *arena = &h->arena[a];
+    leave(&h->pool->next, &h->books[CLASS_HEADS + class], p);
+    h->pool[p].next = arena->freed_head;
+    arena->freed_head = p + 1;
+    arena->free_pools++;
+    if (arena->free_pools == h->pools) {
+        leave(&h->arena->next, &h->books[USABLE_HEAD], a);
+        memset(arena, 0, sizeof *arena);
+        join(&h->arena->next, &h->books[UNUSED_HEAD], a);
+    } else if (arena->free_pools == 1) {
+        join(&h->arena->next, &h->books[USABLE_HEAD], a);
+    }
+}
+
+/* Block k of its pool is live at this offset. */
+INLINE uint32_t back_step(const struct heap *h, size_t offset, uint32_t k)
+{
+    uint32_t p = (uint32_t)(offset / POOL_BYTES), place = offset % POOL_BYTES;
+    struct pool *pool = &h->pool[p];
+    uint32_t class = pool->class, free = pool->freeblock, count = pool->count;
+    if (count < 1 || count > 506)
+        return HESKAVERN_DAMAGED;
+    if (free == 0) {
+        if (h->books[CLASS_HEADS + class] > h->all)
+            return HESKAVERN_DAMAGED;
+        put_back(h, p, place, k);
+        join(&h->pool->next, &h->books[CLASS_HEADS + class], p);
+        return HESKAVERN_DONE;
+    }
+    if (block_at(size_of(class), free) == NO_BLOCK)
+        return HESKAVERN_DAMAGED;
+    if (count == 1) {
+        uint32_t a = p / h->pools;
+        if (!may_empty(h, a, p))
+            return HESKAVERN_DAMAGED;
+        put_back(h, p, place, k);
+        empty_pool(h, class, a, p);
+        return HESKAVERN_DONE;
+    }
+    put_back(h, p, place, k);
+    return HESKAVERN_DONE;
+}
+
+/* ---- roll call */
+
+/* The live blocks among 64w to 64w + 63 of pool p, where a pool has so many blocks. */
+INLINE uint64_t live_word(const struct heap *h, uint32_t p, uint32_t w, uint32_t blocks)
+{
+    uint64_t word = h->map[8 * p + w];
+    return blocks - 64 * w < 64 ? word & (((uint64_t)1 << (blocks - 64 * w)) - 1) : word;
+}
+
+INLINE uint32_t count_live(const struct heap *h)
+{
+    uint32_t live = 0;
+    for (uint32_t p = 0; p < h->all; p++) {
+        if (h->pool[p].class > LAST_CLASS)
+            continue;
+        uint32_t blocks = (POOL_BYTES - FIRST_BLOCK) / size_of(h->pool[p].class);
+        for (uint32_t w = 0; 64 * w < blocks; w++) {
+            uint64_t word = live_word(h, p, w, blocks);
+            if (word != 0)
+                live += (uint32_t)__builtin_popcountll(word);
+        }
+    }
+    return live;
+}
+
+INLINE void put_roll(const struct heap *h, uint32_t *roll)
+{
+    for (uint32_t p = 0; p < h->all; p++) {
+        if (h->pool[p].class > LAST_CLASS)
+            continue;
+        uint32_t size = size_of(h->pool[p].class), blocks = (POOL_BYTES - FIRST_BLOCK) / size;
+        for (uint32_t w = 0; 64 * w < blocks; w++) {
+            for (uint64_t word = live_word(h, p, w, blocks); word != 0; word &= word - 1) {
+                uint32_t k = 64 * w + (uint32_t)__builtin_ctzll(word);
+                *roll++ = POOL_BYTES * p + FIRST_BLOCK + k * size;
+                *roll++ = size;
+            }
+        }
+    }
+}
+
+/* ---- the calls */
+
+heskavern_answer checks_format(const uint8_t *memory, size_t memory_bytes, uint32_t *books, size_t books_words, uint64_t *map, size_t map_words,
+                               size_t arenas, size_t pools)
+{
+    uint32_t number = fit_number(memory_bytes, books_words, map_words, arenas, pools);
+    if (number != HESKAVERN_DONE)
+        return answer(number, 0);
+    (void)memory;
+    memset(books, 0, books_words * sizeof *books);
+    memset(map, 0, map_words * sizeof *map);
+    books[0] = (uint32_t)arenas;
+    books[1] = (uint32_t)pools;
+    books[UNUSED_HEAD] = 1;
+    struct arena *arena = (struct arena *)(books + RECORDS);
+    struct pool *pool = (struct pool *)(books + RECORDS + RECORD * arenas);
+    for (uint32_t a = 0; a < arenas; a++) {
+        arena[a].next = a + 1 < arenas ? a + 2 : 0;
+        arena[a].previous = a;
+    }
+    for (uint32_t p = 0; p < arenas * pools; p++)
+        pool[p].class = NO_CLASS;
+    return answer(HESKAVERN_DONE, 0);
+}
+
+heskavern_answer checks_ask(uint8_t *memory, size_t memory_bytes, uint32_t *books, size_t books_words, uint64_t *map, size_t map_words, size_t size)
+{
+    struct heap h;
+    uint32_t number = open_heap(&h, memory, memory_bytes, books, books_words, map, map_words);
+    if (number != HESKAVERN_DONE)
+        return answer(number, 0);
+    if (size < 1 || size > LARGEST)
+        return answer(HESKAVERN_BAD_SIZE, 0);
+    return ask_step(&h, size);
+}
+
+heskavern_answer checks_give_back(uint8_t *memory, size_t memory_bytes, uint32_t *books, size_t books_words, uint64_t *map, size_t map_words,
+                                  size_t offset)
+{
+    struct heap h;
+    uint32_t number = open_heap(&h, memory, memory_bytes, books, books_words, map, map_words);
+    if (number != HESKAVERN_DONE)
+        return answer(number, 0);
+    uint32_t k = live_at(&h, offset);
+    if (k == NO_BLOCK)
+        return answer(HESKAVERN_NOT_LIVE, 0);
+    number = back_step(&h, offset, k);
+    return answer(number, number == HESKAVERN_DONE ? (uint32_t)offset : 0);
+}
+
+heskavern_answer checks_resize(uint8_t *memory, size_t memory_bytes, uint32_t *books, size_t books_words, uint64_t *map, size_t map_words,
+                               size_t offset, size_t size)
+{
+    struct heap h;
+    uint32_t number = open_heap(&h, memory, memory_bytes, books, books_words, map, map_words);
+    if (number != HESKAVERN_DONE)
+        return answer(number, 0);
+    if (size < 1 || size > LARGEST)
+        return answer(HESKAVERN_BAD_SIZE, 0);
+    if (live_at(&h, offset) == NO_BLOCK)
+        return answer(HESKAVERN_NOT_LIVE, 0);
+    size_t old = size_of(h.pool[offset / POOL_BYTES].class);
+    if (size <= old && 4 * size > 3 * old)
+        return answer(HESKAVERN_DONE, (uint32_t)offset);
+    heskavern_answer asked = ask_step(&h, size);
+    if (asked.number != HESKAVERN_DONE)
+        return asked;
+    memcpy(memory + asked.value, memory + offset, size < old ? size : old);
+    uint32_t k = live_at(&h, offset);
+    if (k == NO_BLOCK || back_step(&h, offset, k) != HESKAVERN_DONE)
+        return answer(HESKAVERN_DAMAGED, asked.value);
+    return asked;
+}
+
+heskavern_answer checks_view_size(const uint8_t *memory, size_t memory_bytes, const uint32_t *books, size_t books_words, const uint64_t *map,
+                                  size_t map_words, size_t offset)
+{
+    struct heap h;
+    uint32_t number = open_heap(&h, memory, memory_bytes, books, books_words, map, map_words);
+    if (number != HESKAVERN_DONE)
+        return answer(number, 0);
+    if (live_at(&h, offset) == NO_BLOCK)
+        return answer(HESKAVERN_NOT_LIVE, 0);
+    return answer(HESKAVERN_DONE, size_of(h.pool[offset / POOL_BYTES].class));
+}
+
+heskavern_answer checks_write(uint8_t *memory, size_t memory_bytes, const uint32_t *books, size_t books_words, const uint64_t *map, size_t map_words,
+                              size_t offset, const void *text, size_t text_bytes)
+{
+    struct heap h;
+    uint32_t number = open_heap(&h, memory, memory_bytes, books, books_words, map, map_words);
+    if (number != HESKAVERN_DONE)
+        return answer(number, 0);
+    if (live_at(&h, offset) == NO_BLOCK)
+        return answer(HESKAVERN_NOT_LIVE, 0);
+    if (text_bytes > size_of(h.pool[offset / POOL_BYTES].class))
+        return answer(HESKAVERN_DOES_NOT_FIT, 0);
+    memcpy(memory + offset, text, text_bytes);
+    return answer(HESKAVERN_DONE, (uint32_t)offset);
+}
+
+heskavern_answer checks_roll_call(const uint8_t *memory, size_t memory_bytes, const uint32_t *books, size_t books_words, const uint64_t *map,
+                                  size_t map_words, uint32_t *roll, size_t roll_words)
+{
+    struct heap h;
+    uint32_t number = open_heap(&h, memory, memory_bytes, books, books_words, map, map_words);
+    if (number != HESKAVERN_DONE)
+        return answer(number, 0);
+    uint32_t live = count_live(&h);
+    if (roll_words < 2 * (size_t)live)
+        return answer(HESKAVERN_DOES_NOT_FIT, 0);
+    put_roll(&h, roll);
+    return answer(HESKAVERN_DONE, live);
+}

@@ -1,0 +1,182 @@
+/* The allocators that are compared. */
+#include "variants.h"
+
+#include "checks.h"
+#include "pymalloc.h"
+
+#include <dlfcn.h>
+#include <stdbool.h>
+#include <stdio.h>
+#include <stdlib.h>
+#include <string.h>
+
+/* The parts of a variant's row. */
+#define TRACES(v) \
+    .fill = v##_fill_trace, .drain = v##_drain_trace, .mixed = v##_mixed_trace, .statement = v##_statement_trace, .resize = v##_resize_trace
+#define WRITE_TRACES(v) .write = v##_write_trace, .view_size = v##_view_trace
+#define WITH_PLACES(v) .place = v##_place_of_slot
+
+/* ---- this library, and the same checks in C */
+
+#define THIS(name) library_##name
+#define CALL(name) heskavern_##name
+#include "checked.h"
+static const struct variant library = {
+    "this library", library_fresh, TRACES(library), WRITE_TRACES(library), WITH_PLACES(library), .roll_call = heskavern_roll_call,
+    .format = heskavern_format};
+
+#define THIS(name) checks_in_c_##name
+#define CALL(name) checks_##name
+#include "checked.h"
+static const struct variant checks_in_c = {
+    "the same checks in C", checks_in_c_fresh, TRACES(checks_in_c), WRITE_TRACES(checks_in_c), WITH_PLACES(checks_in_c), .roll_call = checks_roll_call,
+    .format = checks_format};
+
+/* ---- the program written from the source, which trusts its caller: to write is to copy */
+
+static struct pymalloc source_heap;
+static _Alignas(POOL_SIZE) uint8_t source_memory[HESKAVERN_MEMORY_BYTES(ARENAS, POOLS)];
+
+#define THIS(name) source_##name
+#define BLOCK uint8_t *
+#define WRITES
+#define PLACES
+
+static void source_fresh(void)
+{
+    pymalloc_format(&source_heap, source_memory, ARENAS, POOLS);
+}
+
+static inline BLOCK source_ask(size_t size, unsigned *refused)
+{
+    BLOCK p = pymalloc_ask(&source_heap, size);
+    *refused |= p == NULL;
+    return p;
+}
+
+static inline void source_give_back(BLOCK p, unsigned *refused)
+{
+    (void)refused;
+    pymalloc_give_back(&source_heap, p);
+}
+
+static inline BLOCK source_resize(BLOCK p, size_t size, unsigned *refused)
+{
+    p = pymalloc_resize(&source_heap, p, size);
+    *refused |= p == NULL;
+    return p;
+}
+
+static inline void source_write(BLOCK p, const uint8_t *text, size_t bytes, unsigned *refused)
+{
+    (void)refused;
+    memcpy(p, text, bytes);
+}
+
+static inline uint32_t source_view_size(BLOCK p, unsigned *refused)
+{
+    (void)refused;
+    return pymalloc_size(p);
+}
+
+static inline uint32_t source_place(BLOCK p)
+{
+    return (uint32_t)(p - source_memory);
+}
+
+#include "traces.h"
+static const struct variant source = {"the program from the source", source_fresh, TRACES(source), WRITE_TRACES(source), WITH_PLACES(source)};
+
+/* ---- the system's allocators */
+
+struct system_calls {
+    void *(*ask)(size_t);
+    void (*give_back)(void *);
+    void *(*resize)(void *, size_t);
+};
+
+static void no_heap(void)
+{
+}
+
+#define THIS(name) glibc_##name
+#include "system.h"
+static const struct variant glibc = {"glibc", no_heap, TRACES(glibc)};
+
+#define THIS(name) mimalloc_##name
+#include "system.h"
+static const struct variant mimalloc = {"mimalloc", no_heap, TRACES(mimalloc)};
+
+#define THIS(name) jemalloc_##name
+#include "system.h"
+static const struct variant jemalloc = {"jemalloc", no_heap, TRACES(jemalloc)};
+
+/* Finds an allocator's calls in the program's own libraries (library NULL) or in one that is loaded beside them. */
+static bool find_calls(struct system_calls *calls, const char *library, const char *ask, const char *give_back, const char *resize)
+{
+    void *handle = dlopen(library, RTLD_NOW | RTLD_LOCAL);
+    if (handle == NULL)
+        return false;
+    *(void **)&calls->ask = dlsym(handle, ask);
+    *(void **)&calls->give_back = dlsym(handle, give_back);
+    *(void **)&calls->resize = dlsym(handle, resize);
+    return calls->ask != NULL && calls->give_back != NULL && calls->resize != NULL;
+}
+
+/* ---- the loop alone */
+
+#define THIS(name) loop_##name
+#define BLOCK uint32_t
+#define WRITES
+#define NOTHING(x) \
+    nothing(library_memory, sizeof library_memory, library_books, HESKAVERN_BOOKS_WORDS(ARENAS, POOLS), library_map, HESKAVERN_MAP_WORDS(ARENAS, POOLS), x)
+
+static inline BLOCK loop_ask(size_t size, unsigned *refused)
+{
+    return library_value(NOTHING(size), refused);
+}
+
+static inline void loop_give_back(BLOCK block, unsigned *refused)
+{
+    library_value(NOTHING(block), refused);
+}
+
+static inline BLOCK loop_resize(BLOCK block, size_t size, unsigned *refused)
+{
+    return library_value(NOTHING(block + size), refused);
+}
+
+static inline void loop_write(BLOCK block, const uint8_t *text, size_t bytes, unsigned *refused)
+{
+    (void)text, (void)bytes;
+    library_value(NOTHING(block), refused);
+}
+
+static inline uint32_t loop_view_size(BLOCK block, unsigned *refused)
+{
+    return library_value(NOTHING(block), refused);
+}
+
+#include "traces.h"
+static const struct variant loop = {"the loop alone", no_heap, TRACES(loop), WRITE_TRACES(loop)};
+
+/* ---- all of them */
+
+const struct variant *variants[MOST_VARIANTS] = {&library, &checks_in_c, &source};
+size_t variant_count = 3;
+
+static void add(bool found, const struct variant *v)
+{
+    if (found)
+        variants[variant_count++] = v;
+    else
+        fprintf(stderr, "bench: %s cannot be loaded and is left out\n", v->name);
+}
+
+void find_variants(void)
+{
+    add(find_calls(&glibc_calls, NULL, "malloc", "free", "realloc"), &glibc);
+    add(find_calls(&mimalloc_calls, "libmimalloc.so.2", "mi_malloc", "mi_free", "mi_realloc"), &mimalloc);
+    add(find_calls(&jemalloc_calls, "libjemalloc.so.2", "malloc", "free", "realloc"), &jemalloc);
+    add(true, &loop);
+}

@@ -1,0 +1,41 @@
+/* The allocators that are compared, each with the same traces run over it. */
+#ifndef VARIANTS_H
+#define VARIANTS_H
+
+#include "heskavern.h"
+
+enum { ARENAS = 16, POOLS = 64, SLOTS = 2000, MOST_VARIANTS = 7 };
+
+/* A slot holds a block of this variant. A trace is made of such steps, each for one slot. */
+struct step {
+    uint16_t slot, size;
+};
+
+/* Each trace gives 0 where every call in it was done. A variant has NULL for what it cannot do. */
+struct variant {
+    const char *name;
+    void (*fresh)(void);                                                            /* an empty heap */
+    unsigned (*fill)(const struct step *steps, size_t n);                           /* asks */
+    unsigned (*drain)(const struct step *steps, size_t n);                          /* give-backs */
+    unsigned (*mixed)(const struct step *steps, size_t n);                          /* gives back what the slot holds, then asks */
+    unsigned (*statement)(const struct step *steps, const uint16_t *runs, size_t n);    /* asks in runs, gives each run back in reverse */
+    unsigned (*resize)(const struct step *steps, size_t n);
+    unsigned (*write)(const struct step *steps, size_t n, const uint8_t *text, size_t bytes);
+    unsigned (*view_size)(const struct step *steps, size_t n, uint64_t *sum);       /* adds up the sizes */
+    uint32_t (*place)(size_t slot);                                                 /* the offset of the slot's block */
+    heskavern_answer (*roll_call)(const uint8_t *, size_t, const uint32_t *, size_t, const uint64_t *, size_t, uint32_t *, size_t);
+    heskavern_answer (*format)(const uint8_t *, size_t, uint32_t *, size_t, uint64_t *, size_t, size_t, size_t);
+};
+
+/* All variants that this machine has; the library is the first. */
+extern const struct variant *variants[MOST_VARIANTS];
+extern size_t variant_count;
+
+/* Takes what a call takes and does nothing. */
+heskavern_answer nothing(const uint8_t *memory, size_t memory_bytes, const uint32_t *books, size_t books_words, const uint64_t *map,
+                         size_t map_words, size_t x);
+
+/* Looks for the allocators that are linked at run time. */
+void find_variants(void);
+
+#endif
