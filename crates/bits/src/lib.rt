@@ -1,7 +1,9 @@
-// The live map: a 64-bit word for each 64 blocks of a pool, eight words for each pool, and one block's bit by shift and mask.
+// The live map: a 64-bit word for each 64 blocks of a pool, eight words for each pool. One block's bit goes by shift and mask, the live blocks of a
+// word by a count of ones.
 ghost use mathlib.Core.Path.{_≡_};
 ghost use Prim.Native.Nat.{_+_, _*_, _<_, _≤_};
 ghost use lib.ListN.{length};
+ghost use lib.Count.{onesIn};
 ghost use Rattle.rules.specs.Books.{isSet, putMapBit};
 
 // Block k of the pool is live.
@@ -29,4 +31,16 @@ pub fn clear_bit(map: &mut [u64], pool: usize, k: usize)
 {
     let word = 8 * pool + k / 64;
     map[word] &= !(1 << (k % 64));
+}
+
+// How many of the first n blocks of a map word are live. The bits past them are shifted out. A word with no live block is passed over, since a
+// count of ones is a dozen instructions where the machine has none for it.
+pub fn count_live(word: u64, n: usize) -> usize
+    requires { ⌜ (1 ≤ n) × (n ≤ 64) ⌝ }
+    ensures { λ r. ⌜ r ≡ onesIn n word ⌝ }
+{
+    if word == 0 {
+        return 0;
+    }
+    u64::count_ones(word << (64 - n)) as usize
 }

@@ -1,4 +1,4 @@
--- Loops over 0 to n that store a list, a part of it each turn, or count its words: what is left of the list at each turn.
+-- Loops that store a list, a part of it each turn, or count its words: what is left of the list at each turn.
 -- Assumes nothing.
 use mathlib.Core.Path.{_≡_, refl, sym, ap, ap₂, _∙_}
 use mathlib.Core.List.{List, [], _∷_, _++_}
@@ -6,11 +6,11 @@ use mathlib.Core.Logic.{_⊎_, inl, inr}
 use Prim.Native.Nat.{ℕ, zero, suc, _+_, _-_, _≤_, _<_}
 use native.Mathlib.Numerals.{add-one}
 use native.Mathlib.Omega.{arith}
-use lib.ListN.{length, getD, drop, length-append}
+use lib.ListN.{length, getD, set, drop, length-append}
 use lib.Seq.{sets, length-sets, drop-cons, drop-length}
 use Rattle.loops.specs.Sets.{sets-append, sets-other}
 
--- `all` comes in n parts: at turn i the rest is that turn's part and the rest of the next
+-- `all` comes in n parts, for a loop over 0 to n: at turn i the rest is that turn's part and the rest of the next
 pub record Parts (all : List ℕ) (n : ℕ) (rest part : ℕ → List ℕ) : Type 0 where
   pub first : rest 0 ≡ all
   pub more : (i : ℕ) → i < n → rest i ≡ part i ++ rest (i + 1)
@@ -46,6 +46,31 @@ pub record Left (x₀ : List ℕ) (at : ℕ) (all x : List ℕ) (j : ℕ) (left 
   pub place : j + length left ≡ at + length all
   pub long : length x ≡ length x₀
 
+-- nothing is stored yet
+pub unstored : (x : List ℕ) (at : ℕ) (all : List ℕ) → Left x at all x at all
+unstored x at all = record { same = refl; place = refl; long = refl }
+
+module _ {x₀ all x left : List ℕ} {at j : ℕ} (l : Left x₀ at all x j left) where
+  -- a part of what is left is stored
+  pub store : {part rest y : List ℕ} {k : ℕ} → left ≡ part ++ rest → Stored x j part y k → Left x₀ at all y k rest
+  store {part} {rest} e s = record {
+    same =
+        ap₂ (λ (z : List ℕ) (p : ℕ). sets z p rest) (s .same) (s .place)
+        ∙ sym (sets-append x j part rest)
+        ∙ ap (sets x j) (sym e)
+        ∙ l .same;
+    place = omega (arith, ap length e, length-append part rest, l .place, s .place);
+    long = ap length (s .same) ∙ length-sets x j part ∙ l .long;
+  }
+
+  -- nothing is left, so all is stored
+  pub finish : left ≡ [] → Stored x₀ at all x j
+  finish e = record { same = sym (ap (sets x j) e) ∙ l .same; place = omega (arith, ap length e, l .place) }
+
+-- two words are stored
+pub two : (x : List ℕ) (j u v : ℕ) → Stored x j (u ∷ v ∷ []) (set (set x j u) (j + 1) v) (j + 2)
+two x j u v = record { same = rw add-one; place = refl }
+
 module _ {all : List ℕ} {n : ℕ} {rest part : ℕ → List ℕ} (parts : Parts all n rest part) where
   -- a turn leaves so many words fewer
   pub fewer : (i : ℕ) → i < n → length (rest i) ≡ length (part i) + length (rest (i + 1))
@@ -66,21 +91,11 @@ module _ {all : List ℕ} {n : ℕ} {rest part : ℕ → List ℕ} (parts : Part
   -- a turn stores its part
   pub turn : {x₀ x y : List ℕ} {at j k : ℕ} (i : ℕ) → i < n
       → Left x₀ at all x j (rest i) → Stored x j (part i) y k → Left x₀ at all y k (rest (i + 1))
-  turn {x = x} {j = j} i h l s = record {
-    same =
-        ap₂ (λ (z : List ℕ) (p : ℕ). sets z p (rest (i + 1))) (s .same) (s .place)
-        ∙ sym (sets-append x j (part i) (rest (i + 1)))
-        ∙ ap (sets x j) (sym (parts .more i h))
-        ∙ l .same;
-    place = omega (arith, fewer i h, l .place, s .place);
-    long = ap length (s .same) ∙ length-sets x j (part i) ∙ l .long;
-  }
+  turn i h l = store l (parts .more i h)
 
   -- all is stored
   pub done : {x₀ x : List ℕ} {at j : ℕ} (i : ℕ) → i ≡ n → Left x₀ at all x j (rest i) → Stored x₀ at all x j
-  done {x = x} {j = j} i e l =
-      let z = none-left i e in
-      record { same = sym (ap (sets x j) z) ∙ l .same; place = omega (arith, ap length z, l .place) }
+  done i e l = finish l (none-left i e)
 
 -- a place outside the run holds what it held
 pub untouched : {x₀ all x left : List ℕ} {at j : ℕ} → Left x₀ at all x j left → at ≤ j

@@ -3,4 +3,5 @@ pub mod Sets
 pub mod Left
 pub mod Fresh
 pub mod Copy
+pub mod Word
 pub mod Roll

@@ -1,8 +1,8 @@
--- The roll as the parts that its loops store, and how long it can be.
+-- The roll, pool by pool, and how long it can be.
 -- Assumes nothing.
 use mathlib.Core.Path.{_≡_, refl, sym, ap, _∙_}
 use mathlib.Core.Bool.{Bool, true, false}
-use mathlib.Core.List.{List, [], _∷_}
+use mathlib.Core.List.{List, [], _∷_, _++_}
 use Prim.Native.Nat.{ℕ, zero, suc, _+_, _*_, _-_, _/_, _≤_, _<_}
 use native.Mathlib.Nat.{div-mul-le-self, mul-le-mul, mul-le-mul-right, suc-mul}
 use native.Mathlib.Omega.{arith}
@@ -23,41 +23,16 @@ pub record Stands (A p : ℕ) (b m : List ℕ) : Type 0 where
   pub map : 8 * p + 8 ≤ length m
 
 -- ---- a pool's blocks, of size s
--- block k's own words
-abbrev pub rollBlock : List ℕ → ℕ → ℕ → ℕ → List ℕ
-rollBlock m p s k = if isSet m p k then offsetOf p (startOf s k) ∷ s ∷ [] else []
-
--- a live block has its offset and its size there, any other nothing
-pub live-block : (m : List ℕ) (p s k : ℕ) → isSet m p k ≡ true → rollBlock m p s k ≡ offsetOf p (startOf s k) ∷ s ∷ []
-live-block m p s k e = rw e
-
-pub no-block : (m : List ℕ) (p s k : ℕ) → isSet m p k ≡ false → rollBlock m p s k ≡ []
-no-block m p s k e = rw e
-
--- the pool's words, block by block
-pub block-parts : (m : List ℕ) (p s n : ℕ)
-    → Parts (rollBlocks m p s 0 n) n (λ k. rollBlocks m p s k (n - k)) (λ k. rollBlock m p s k)
-unfolding rollBlocks
-block-parts m p s = counted (rollBlocks m p s) (λ k n. rollBlock m p s k) (λ k. refl) (λ k n. refl)
-
--- two words for each block at most
-length-block : (m : List ℕ) (p s k : ℕ) → length (rollBlock m p s k) ≤ 2
-length-block m p s k = go (isSet m p k)
-  where
-    go : (t : Bool) → length (if t then offsetOf p (startOf s k) ∷ s ∷ [] else []) ≤ 2
-    go true = omega arith
-    go false = omega arith
-
+-- two words for each at most
 pub length-blocks : (m : List ℕ) (p s k n : ℕ) → length (rollBlocks m p s k n) ≤ 2 * n
 unfolding rollBlocks
 length-blocks m p s k zero = omega arith
-length-blocks m p s k (suc n) =
-    omega (
-      arith,
-      length-append (rollBlock m p s k) (rollBlocks m p s (suc k) n),
-      length-block m p s k,
-      length-blocks m p s (suc k) n,
-    )
+length-blocks m p s k (suc n) = go (isSet m p k) (length-blocks m p s (suc k) n)
+  where
+    go : (t : Bool) → length (rollBlocks m p s (suc k) n) ≤ 2 * n
+        → length ((if t then offsetOf p (startOf s k) ∷ s ∷ [] else []) ++ rollBlocks m p s (suc k) n) ≤ 2 * suc n
+    go true h = omega arith
+    go false h = omega arith
 
 -- a block lies in its pool
 pub block-inside : (s k : ℕ) → k < capacity s → k * s ≤ 4048

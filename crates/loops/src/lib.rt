@@ -15,7 +15,8 @@ ghost use Rattle.rules.specs.Blocks.{capacity};
 ghost use Rattle.rules.specs.View.{rollBlocks, rollPool, rollPools};
 ghost use Rattle.loops.specs.Left.{Stored};
 ghost use Rattle.loops.specs.Fresh.{nextOf};
-ghost use Rattle.loops.specs.Roll.{Stands, rollBlock};
+ghost use Rattle.loops.specs.Word.{inWord, rollWord};
+ghost use Rattle.loops.specs.Roll.{Stands};
 ghost use Rattle.loops.specs.Copy.{Apart};
 
 // ---- format
@@ -110,6 +111,18 @@ pub fn copy_within(memory: &mut [u8], from: usize, to: usize, n: usize)
 
 // ---- roll call
 
+// How many of a pool's blocks have their bits in word i of its map.
+fn in_word(blocks: usize, i: usize) -> usize
+    requires { ⌜ 64 * i < blocks ⌝ }
+    ensures { λ r. ⌜ r ≡ inWord blocks i ⌝ }
+{
+    let left = blocks - 64 * i;
+    if left < 64 {
+        return left;
+    }
+    64
+}
+
 // How many roll words the live blocks of the pool take, where its blocks have the size.
 fn count_blocks(map: &[u64], pool: usize, size: usize) -> usize
     requires { ⌜ (8 * pool + 8 ≤ length (now map)) × (8 ≤ size) ⌝ }
@@ -117,10 +130,8 @@ fn count_blocks(map: &[u64], pool: usize, size: usize) -> usize
 {
     let blocks = 4048 / size;
     let mut words: usize = 0;
-    for k in 0..blocks {
-        if bits::is_set(map, pool, k) {
-            words += 2;
-        }
+    for i in 0..(blocks + 63) / 64 {
+        words += 2 * bits::count_live(map[8 * pool + i], in_word(blocks, i));
     }
     words
 }
@@ -149,18 +160,25 @@ pub fn count_words(books: &[u32], map: &[u64], arenas: usize, n: usize) -> usize
     words
 }
 
-// Offset and size of block k of the pool, where it is live, from roll word `at` on: the place after them.
-fn roll_block(map: &[u64], pool: usize, size: usize, k: usize, roll: &mut [u32], at: usize) -> usize
-    requires { ⌜ (8 * pool + 8 ≤ length (now map)) × (pool < 1024) × (8 ≤ size) × (size ≤ 512) × (k < capacity size)
-        × (at + length (rollBlock (now map) pool size k) ≤ length (now roll)) ⌝ }
-    ensures { λ r. ⌜ Stored (now (roll .entry)) at (rollBlock (now (map .entry)) pool size k) (now (roll .exit)) r ⌝ }
+// Offset and size of each live block among the first n of a map word, whose first block is at `first`, from roll word `at` on: the place after
+// them. It goes from set bit to set bit, lowest first; bits past the n blocks are in no roll.
+fn roll_word(word: u64, first: usize, size: usize, n: usize, roll: &mut [u32], at: usize) -> usize
+    requires { ⌜ (first < 4096 * 1024) × (size ≤ 512) × (n ≤ 64) × (at + length (rollWord word first size n) ≤ length (now roll)) ⌝ }
+    ensures { λ r. ⌜ Stored (now (roll .entry)) at (rollWord word first size n) (now (roll .exit)) r ⌝ }
 {
-    if !bits::is_set(map, pool, k) {
-        return at;
+    let mut left = word;
+    let mut place = at;
+    while left != 0 {
+        let k = u64::trailing_zeros(left) as usize;
+        if k >= n {
+            return place;
+        }
+        roll[place] = (first + k * size) as u32;
+        roll[place + 1] = size as u32;
+        place += 2;
+        left &= left - 1;
     }
-    roll[at] = (4096 * pool + (48 + k * size)) as u32;
-    roll[at + 1] = size as u32;
-    at + 2
+    place
 }
 
 // Offset and size of each live block of the pool, where its blocks have the size, from roll word `at` on: the place after them.
@@ -171,8 +189,10 @@ fn roll_blocks(map: &[u64], pool: usize, size: usize, roll: &mut [u32], at: usiz
 {
     let blocks = 4048 / size;
     let mut place = at;
-    for k in 0..blocks {
-        place = roll_block(map, pool, size, k, roll, place);
+    for i in 0..(blocks + 63) / 64 {
+        let word = map[8 * pool + i];
+        let first = 4096 * pool + (48 + 64 * i * size);
+        place = roll_word(word, first, size, in_word(blocks, i), roll, place);
     }
     place
 }

@@ -1,64 +1,97 @@
--- `loops::count_blocks` counts the words: at turn k those of the blocks from block k on are left.
+-- `loops::count_blocks` counts the words: at turn i those of the map words from word i on are left.
 -- Assumes nothing.
-use mathlib.Core.Path.{_≡_, sym, ap, _∙_}
-use mathlib.Core.Logic.{⊎-elim}
-use Prim.Native.Nat.{_+_, _-_, _≤_}
+use mathlib.Core.Path.{_≡_, ap}
+use Prim.Native.Nat.{_+_, _*_, _-_, _≤_}
 use native.Mathlib.Omega.{arith}
 use lib.ListN.{length}
-use Rattle.rules.specs.Blocks.{capacity}
+use Rattle.rules.specs.Books.{at, offsetOf}
+use Rattle.rules.specs.Blocks.{startOf, capacity}
 use Rattle.rules.specs.View.{rollBlocks}
-use Rattle.loops.specs.Left.{fewer, none-left}
 use Rattle.books.specs.Starts.{capacity-le}
-use Rattle.loops.specs.Roll.{block-parts, live-block, no-block, length-blocks}
+use Rattle.loops.specs.Left.{fewer, none-left}
+use Rattle.loops.specs.Word.{inWord, length-word, word-parts}
+use Rattle.loops.specs.Roll.{length-blocks}
 use Rattle.loops.proofs.count_blocks.Statement.{statement}
 use Rattle.loops.proofs.count_blocks.Tie as tie
 
 abbrev Inv-loop : tie.InvT-loop
-Inv-loop map pool size blocks words₀ k₀ words k =
-    (words + length (rollBlocks map pool size k (blocks - k)) ≡ length (rollBlocks map pool size 0 blocks)) × (k ≤ blocks)
+Inv-loop map pool size blocks words₀ i₀ i-end words i =
+    (words + length (rollBlocks map pool size (64 * i) (blocks - 64 * i)) ≡ length (rollBlocks map pool size 0 blocks)) × (i ≤ i-end)
 
 abbrev μ-loop : tie.MeasureT-loop
-μ-loop map pool size blocks words₀ k₀ words k = blocks - k
+μ-loop map pool size blocks words₀ i₀ i-end words i = i-end - i
 
 div-blocks : tie.Need-div-blocks Inv-loop μ-loop
 div-blocks c = omega arith
 
+add-i-end : tie.Need-add-i-end Inv-loop μ-loop
+add-i-end c = omega (arith, capacity-le (c .before .args .size) (omega arith))
+
 loop-holds : tie.Need-loop-holds Inv-loop μ-loop
 loop-holds c =
     let a = c .before .args in
-    (omega (arith, ap length (block-parts (a .map .now) (a .pool) (a .size) (capacity (a .size)) .first)), omega arith)
+    (omega (arith, ap length (word-parts (a .map .now) (a .pool) (a .size) (capacity (a .size)) .first)), omega arith)
 
-is-set-requires : tie.Need-is-set-requires Inv-loop μ-loop
-is-set-requires c κs = omega (arith, capacity-le (c .before .before .before .args .size) (omega arith))
+mul-count-live : tie.Need-mul-count-live Inv-loop μ-loop
+mul-count-live c = omega arith
+
+add-count-live : tie.Need-add-count-live Inv-loop μ-loop
+add-count-live c = omega (arith, capacity-le (c .before .before .before .args .size) (omega arith))
+
+mul-count-live-2 : tie.Need-mul-count-live-2 Inv-loop μ-loop
+mul-count-live-2 c = omega (arith, capacity-le (c .before .before .before .args .size) (omega arith))
+
+shared-slice-read-count-live : tie.Need-shared-slice-read-count-live Inv-loop μ-loop
+shared-slice-read-count-live c = omega (arith, capacity-le (c .before .before .before .before .args .size) (omega arith))
+
+in-word-requires : tie.Need-in-word-requires Inv-loop μ-loop
+in-word-requires c κs = omega arith
+
+count-live-requires : tie.Need-count-live-requires Inv-loop μ-loop
+count-live-requires c κs = omega (arith, c .in-word .ensures)
+
+-- a turn counts two words for each live block of word i
+counted : (c : tie.After-count-live Inv-loop μ-loop)
+    → let a = c .before .before .before .before .before .before .args in
+    let i = c .before .before .before .before .loop .i in
+    let n = capacity (a .size) in
+    length (rollBlocks (a .map .now) (a .pool) (a .size) (64 * i) (n - 64 * i))
+    ≡ 2 * c .count-live .result + length (rollBlocks (a .map .now) (a .pool) (a .size) (64 * (i + 1)) (n - 64 * (i + 1)))
+counted c =
+    let a = c .before .before .before .before .before .before .args in
+    let i = c .before .before .before .before .loop .i in
+    let n = capacity (a .size) in
+    let live = rw (c .before .in-word .ensures) at (c .count-live .ensures) in
+    omega (
+      arith,
+      live,
+      length-word (at (a .map .now) (8 * a .pool + i)) (offsetOf (a .pool) (startOf (a .size) (64 * i))) (a .size) (inWord n i),
+      fewer (word-parts (a .map .now) (a .pool) (a .size) n) i (omega arith),
+    )
+
+mul-words : tie.Need-mul-words Inv-loop μ-loop
+mul-words c =
+    let a = c .before .before .before .before .before .before .args in
+    omega (arith, counted c, length-blocks (a .map .now) (a .pool) (a .size) 0 (capacity (a .size)), capacity-le (a .size) (omega arith))
 
 add-words : tie.Need-add-words Inv-loop μ-loop
 add-words c =
-    let a = c .before .before .before .before .before .args in
-    omega (arith, length-blocks (a .map .now) (a .pool) (a .size) 0 (capacity (a .size)), capacity-le (a .size) (omega arith))
+    let a = c .before .before .before .before .before .before .args in
+    omega (arith, counted c, length-blocks (a .map .now) (a .pool) (a .size) 0 (capacity (a .size)), capacity-le (a .size) (omega arith))
 
-add-k : tie.Need-add-k Inv-loop μ-loop
-add-k c = omega (arith, capacity-le (c .before .before .before .before .before .args .size) (omega arith))
+add-i : tie.Need-add-i Inv-loop μ-loop
+add-i c = omega (arith, capacity-le (c .before .before .before .before .before .before .args .size) (omega arith))
 
 loop-less : tie.Need-loop-less Inv-loop μ-loop
 loop-less c = omega arith
 
 loop-again : tie.Need-loop-again Inv-loop μ-loop
-loop-again c =
-    let p = c .before .before .before .loop in
-    let a = c .before .before .before .before .before .args in
-    let m = a .map .now in
-    let f = fewer (block-parts m (a .pool) (a .size) (capacity (a .size))) (p .k) (omega arith) in
-    let bit = sym (c .before .is-set .ensures) in
-    ⊎-elim
-    (λ w. omega (arith, ap length (live-block m (a .pool) (a .size) (p .k) (bit ∙ w .0 .taken))))
-    (λ w. omega (arith, ap length (no-block m (a .pool) (a .size) (p .k) (bit ∙ w .0 .left))))
-    (c .if1 .came)
+loop-again c = omega (arith, counted c)
 
 returns : tie.Need-returns Inv-loop μ-loop
 returns c =
-    let p = c .before .loop in
     let a = c .before .before .before .args in
-    omega (arith, ap length (none-left (block-parts (a .map .now) (a .pool) (a .size) (capacity (a .size))) (p .k) (omega arith)))
+    omega (arith, ap length (none-left (word-parts (a .map .now) (a .pool) (a .size) (capacity (a .size))) (c .before .loop .i) (omega arith)))
 
 pub count-blocks-spec : {M : Type 1} → statement M
 count-blocks-spec =
@@ -67,10 +100,17 @@ count-blocks-spec =
     Inv-loop
     μ-loop
     div-blocks
+    add-i-end
     loop-holds
-    is-set-requires
+    mul-count-live
+    add-count-live
+    mul-count-live-2
+    shared-slice-read-count-live
+    in-word-requires
+    count-live-requires
+    mul-words
     add-words
-    add-k
+    add-i
     loop-less
     loop-again
     returns)

@@ -1,49 +1,92 @@
--- `loops::roll_blocks` stores the words of the live blocks: at turn k those of the blocks from block k on are left.
+-- `loops::roll_blocks` stores the words of the live blocks: at turn i those of the map words from word i on are left.
 -- Assumes nothing.
 use mathlib.Core.Path.{refl}
-use Prim.Native.Nat.{_-_, _≤_}
+use Prim.Native.Nat.{_*_, _-_, _≤_, _<_}
 use native.Mathlib.Omega.{arith}
 use Rattle.rules.specs.Blocks.{capacity}
 use Rattle.rules.specs.View.{rollBlocks}
-use Rattle.loops.specs.Left.{Left, fewer, begin, turn, done}
 use Rattle.books.specs.Starts.{capacity-le}
-use Rattle.loops.specs.Roll.{block-parts}
+use Rattle.loops.specs.Left.{Left, fewer, begin, turn, done}
+use Rattle.loops.specs.Word.{word-parts}
+use Rattle.loops.specs.Roll.{block-inside}
 use Rattle.loops.proofs.roll_blocks.Statement.{statement}
 use Rattle.loops.proofs.roll_blocks.Tie as tie
 
 abbrev Inv-loop : tie.InvT-loop
-Inv-loop map pool size roll₀ at blocks place₀ k₀ roll place k =
-    Left roll₀ at (rollBlocks map pool size 0 blocks) roll place (rollBlocks map pool size k (blocks - k)) × (k ≤ blocks)
+Inv-loop map pool size roll₀ at blocks place₀ i₀ i-end roll place i =
+    Left roll₀ at (rollBlocks map pool size 0 blocks) roll place (rollBlocks map pool size (64 * i) (blocks - 64 * i)) × (i ≤ i-end)
 
 abbrev μ-loop : tie.MeasureT-loop
-μ-loop map pool size roll₀ at blocks place₀ k₀ roll place k = blocks - k
+μ-loop map pool size roll₀ at blocks place₀ i₀ i-end roll place i = i-end - i
 
 div-blocks : tie.Need-div-blocks Inv-loop μ-loop
 div-blocks c = omega arith
 
+add-i-end : tie.Need-add-i-end Inv-loop μ-loop
+add-i-end c = omega (arith, capacity-le (c .before .before .args .size) (omega arith))
+
 loop-holds : tie.Need-loop-holds Inv-loop μ-loop
 loop-holds c =
     let a = c .before .before .args in
-    (begin (block-parts (a .map .now) (a .pool) (a .size) (capacity (a .size))) _ (a .at) _ refl, omega arith)
+    (begin (word-parts (a .map .now) (a .pool) (a .size) (capacity (a .size))) _ (a .at) _ refl, omega arith)
 
-roll-block-requires : tie.Need-roll-block-requires Inv-loop μ-loop
-roll-block-requires c κs =
-    let a = c .before .before .before .before .before .args in
-    let f = fewer (block-parts (a .map .now) (a .pool) (a .size) (capacity (a .size))) (c .before .before .loop .k) (omega arith) in
-    omega arith
+-- word i is one of the pool's eight, and its first block lies in the pool
+inside : (c : tie.In-loop Inv-loop μ-loop)
+    → (c .before .loop .i < 8) × (64 * c .before .loop .i * c .before .before .before .before .args .size ≤ 4048)
+inside c =
+    let s = c .before .before .before .before .args .size in
+    (omega (arith, capacity-le s (omega arith)), block-inside s (64 * c .before .loop .i) (omega arith))
 
-add-k : tie.Need-add-k Inv-loop μ-loop
-add-k c = omega (arith, capacity-le (c .before .before .before .before .before .before .before .before .args .size) (omega arith))
+mul-word : tie.Need-mul-word Inv-loop μ-loop
+mul-word c = omega arith
+
+add-word : tie.Need-add-word Inv-loop μ-loop
+add-word c = omega (arith, inside c)
+
+mul-word-2 : tie.Need-mul-word-2 Inv-loop μ-loop
+mul-word-2 c = omega (arith, inside c)
+
+shared-slice-read-word : tie.Need-shared-slice-read-word Inv-loop μ-loop
+shared-slice-read-word c = omega (arith, inside (c .before))
+
+mul-first : tie.Need-mul-first Inv-loop μ-loop
+mul-first c = omega arith
+
+mul-first-2 : tie.Need-mul-first-2 Inv-loop μ-loop
+mul-first-2 c = omega (arith, inside (c .before))
+
+mul-first-3 : tie.Need-mul-first-3 Inv-loop μ-loop
+mul-first-3 c = omega (arith, inside (c .before))
+
+add-first : tie.Need-add-first Inv-loop μ-loop
+add-first c = omega (arith, inside (c .before))
+
+add-first-2 : tie.Need-add-first-2 Inv-loop μ-loop
+add-first-2 c = omega (arith, inside (c .before))
+
+in-word-requires : tie.Need-in-word-requires Inv-loop μ-loop
+in-word-requires c κs = omega arith
+
+roll-word-requires : tie.Need-roll-word-requires Inv-loop μ-loop
+roll-word-requires c κs =
+    let a = c .before .before .before .before .before .before .before .args in
+    let p = c .before .before .before .before .loop in
+    let f = fewer (word-parts (a .map .now) (a .pool) (a .size) (capacity (a .size))) (p .i) (omega arith) in
+    rw (c .before .in-word .ensures)
+    (omega (arith, inside (c .before .before .before)), omega arith, omega arith, omega (arith, p .inv .0 .place, p .inv .0 .long))
+
+add-i : tie.Need-add-i Inv-loop μ-loop
+add-i c = omega (arith, inside (c .before .before .before .before .before .before))
 
 loop-less : tie.Need-loop-less Inv-loop μ-loop
 loop-less c = omega arith
 
 loop-again : tie.Need-loop-again Inv-loop μ-loop
 loop-again c =
-    let p = c .before .before .before .before .before .loop in
-    let a = c .before .before .before .before .before .before .before .before .args in (
-      turn (block-parts (a .map .now) (a .pool) (a .size) (capacity (a .size))) (p .k) (omega arith) (p .inv .0)
-          (c .before .before .roll-block .ensures),
+    let a = c .before .before .before .before .before .before .before .before .before .before .args in
+    let p = c .before .before .before .before .before .before .before .loop in
+    let stored = rw (c .before .before .before .before .in-word .ensures) at (c .before .before .roll-word .ensures) in (
+      turn (word-parts (a .map .now) (a .pool) (a .size) (capacity (a .size))) (p .i) (omega arith) (p .inv .0) stored,
       omega arith,
     )
 
@@ -52,9 +95,9 @@ same-length c = c .before .loop .inv .0 .long
 
 returns : tie.Need-returns Inv-loop μ-loop
 returns c =
-    let p = c .before .loop in
     let a = c .before .before .before .before .args in
-    done (block-parts (a .map .now) (a .pool) (a .size) (capacity (a .size))) (p .k) (omega arith) (p .inv .0)
+    let p = c .before .loop in
+    done (word-parts (a .map .now) (a .pool) (a .size) (capacity (a .size))) (p .i) (omega arith) (p .inv .0)
 
 pub roll-blocks-spec : {M : Type 1} → statement M
 roll-blocks-spec =
@@ -63,9 +106,20 @@ roll-blocks-spec =
     Inv-loop
     μ-loop
     div-blocks
+    add-i-end
     loop-holds
-    roll-block-requires
-    add-k
+    mul-word
+    add-word
+    mul-word-2
+    shared-slice-read-word
+    mul-first
+    mul-first-2
+    mul-first-3
+    add-first
+    add-first-2
+    in-word-requires
+    roll-word-requires
+    add-i
     loop-less
     loop-again
     same-length
