@@ -13,7 +13,7 @@ use lib.Seq.{sets, take-all, take-append-le, drop-append-le, drop-drop, length-s
 use borrow.Author.Tests.{lt-ltb, ne-eqb}
 use Rattle.rules.specs.Say.{if_then_else_}
 use Rattle.rules.specs.Books.{Heap}
-use Rattle.rules.specs.Outcome.{Outcome, heapOf, passing}
+use Rattle.rules.specs.Outcome.{Outcome, passing}
 use Rattle.rules.specs.Numbers.{inOrder, shapeNumber, roomNumber, format, ask, giveBack, resize, blockSize}
 use Rattle.rules.specs.Replay.{opOf, sizeIn, offsetIn, wellMade, Replied, replied, refusedRecord, called, calledFor, replayCall, replayRecord, replayRecords, replay}
 use Rattle.loops.specs.Sets.{sets-append, sets-front}
@@ -21,7 +21,7 @@ use Rattle.steps.specs.Passing.{stopped, passed}
 use Rattle.heap.specs.Order.{too-little, enough}
 use Rattle.records.specs.declared.Replayed.{Replayed}
 use Rattle.records.specs.Calls.{Kept, none-written, kept-on, Fair, ask-fair, back-fair, resize-fair}
-use Rattle.records.specs.Replies.{Whole, right-shape, passed-over}
+use Rattle.records.specs.Replies.{passed-over}
 
 -- ---- what a piece answers
 -- the heap after k whole records
@@ -228,27 +228,26 @@ module _ (h : Heap) (input output : List ℕ) where
         passed (λ k. k) _ (shapeNumber h) e ∙ too-little (length replies) (length output) (omega (arith, replies-long)) in
         ap (λ (k : ℕ). pieceOf k 0 output h) (sym seven) ∙ sym (stopped (λ k. pieceOf k 0 output h) _ _ (λ z. omega arith))
 
-    -- the replies are stored
-    pub all-done : 16 * recordsIn (length input) ≤ length output → (out : List ℕ) (g : Heap)
-        → out ≡ sets output 0 (turns (recordsIn (length input)) h input .reply) → g ≡ turns (recordsIn (length input)) h input .heap
-        → pieceOf 0 (16 * recordsIn (length input)) out g ≡ replayPiece h input output
-    unfolding replayPiece
-    all-done l out g f t =
-        let go : inOrder (shapeNumber h) 0 0 (roomNumber (length replies) (length output)) ≡ 0 =
-        passed (λ k. k) _ (shapeNumber h) e ∙ enough (length replies) (length output) (omega (arith, replies-long)) in
-        let stands : out ≡ replies ++ drop (length replies) output =
-        f ∙ ap (λ (x : Replied). sets output 0 (x .reply)) (replies-are h input) ∙ sets-front output replies (omega (arith, replies-long)) in
-        let after : g ≡ heapAfter (length input / 16) h input = t ∙ ap (λ (x : Replied). x .heap) (replies-are h input) in
-        ap₂ (λ (o : List ℕ) (x : Heap). pieceOf 0 (16 * recordsIn (length input)) o x) stands after
-        ∙ ap (λ (n : ℕ). pieceOf 0 n (replies ++ drop (length replies) output) (heapAfter (length input / 16) h input)) (sym replies-long)
-        ∙ sym (passed (λ k. pieceOf k 0 output h) _ _ go)
+    -- room enough
+    module _ (l : 16 * recordsIn (length input) ≤ length output) where
+      pub piece-done : replayPiece h input output
+          ≡ pieceOf 0 (length replies) (replies ++ drop (length replies) output) (heapAfter (length input / 16) h input)
+      unfolding replayPiece
+      piece-done =
+          passed (λ k. pieceOf k 0 output h) _ _
+          (passed (λ k. k) _ (shapeNumber h) e ∙ enough (length replies) (length output) (omega (arith, replies-long)))
 
--- a heap of the right shape, and room enough: the piece is done
-pub piece-done : (m b k input output : List ℕ) → Whole m b k → 16 * recordsIn (length input) ≤ length output
-    → let h = heapOf m b k in
-    replayPiece h input output
-    ≡ pieceOf 0 (16 * recordsIn (length input)) (sets output 0 (turns (recordsIn (length input)) h input .reply)) (turns (recordsIn (length input)) h input .heap)
-piece-done m b k input output w l = sym (all-done (heapOf m b k) input output (right-shape m b k w) l _ _ refl refl)
+      -- the loop is done
+      pub all-done : (out : List ℕ) (g : Heap)
+          → out ≡ sets output 0 (turns (recordsIn (length input)) h input .reply) → g ≡ turns (recordsIn (length input)) h input .heap
+          → pieceOf 0 (16 * recordsIn (length input)) out g ≡ replayPiece h input output
+      all-done out g f t =
+          let stands : out ≡ replies ++ drop (length replies) output =
+          f ∙ ap (λ (x : Replied). sets output 0 (x .reply)) (replies-are h input) ∙ sets-front output replies (omega (arith, replies-long)) in
+          let after : g ≡ heapAfter (length input / 16) h input = t ∙ ap (λ (x : Replied). x .heap) (replies-are h input) in
+          ap₂ (λ (o : List ℕ) (x : Heap). pieceOf 0 (16 * recordsIn (length input)) o x) stands after
+          ∙ ap (λ (n : ℕ). pieceOf 0 n (replies ++ drop (length replies) output) (heapAfter (length input / 16) h input)) (sym replies-long)
+          ∙ sym piece-done
 
 -- the part of the bytes l where record i stands
 pub part-is : (l : List ℕ) (i to : ℕ) → to ≡ 16 * i + min 16 (length l - 16 * i) → take (to - 16 * i) (drop (16 * i) l) ≡ recordAt i l

@@ -1,0 +1,2 @@
+-- What the program's functions promise each other.
+pub mod Turns
