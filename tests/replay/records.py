@@ -55,7 +55,7 @@ def program():
     if named:
         command = [os.path.abspath(named)]
     else:
-        command = [os.path.join(TOP, 'replay'), '--raw', '/dev/stdin']
+        command = [os.path.join(TOP, 'replay'), '--raw', '-']
     if not os.access(command[0], os.X_OK):
         sys.exit(f'no replay program at {command[0]}: build it, or name one in HESKAVERN_REPLAY')
     return command
