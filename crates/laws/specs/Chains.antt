@@ -14,7 +14,7 @@ use lib.Seq.{getD-set-same, getD-set-other, lt-length-set}
 use borrow.Author.Tests.{eq-eqb, ne-eqb}
 use Rattle.rules.specs.Books.{at, offsetOf}
 use Rattle.rules.specs.Blocks.{startOf, capacity, linkAt, putLink}
-use Rattle.laws.specs.Update.{to, to-same, to-other}
+use Rattle.laws.specs.Update.{clash, to, to-same, to-other}
 use Rattle.laws.specs.Rows.{All, Not, Once, all-map}
 use Rattle.laws.specs.Plain.{howMany}
 use Rattle.laws.specs.Counting.{many-same, many-more, many-all, many-cut}
@@ -85,9 +85,6 @@ not-among k (j ∷ js) e = go (ℕ-discrete k j) (not-among k js)
   where
     go : Dec (k ≡ j) → (among k js ≡ false → Not k js) → (k ≢ j) × Not k js
     go (yes q) h = absurd (clash (sym (ap (λ (t : Bool). t || among k js) (eq-eqb k j q)) ∙ e))
-      where
-        clash : _≡_ {A = Bool} true false → ⊥
-        clash t = let y : _≡_ {A = ℕ} 0 1 = cc in omega arith
     go (no q) h = (q, h (sym (ap (λ (t : Bool). t || among k js) (ne-eqb k j q)) ∙ e))
 
 -- ---- the chain in memory: from the link l exactly the blocks ks of pool n are met, and then 0
@@ -137,10 +134,7 @@ module _ {s n : ℕ} {m : List ℕ} {free next : ℕ} {live : ℕ → Bool} {cha
   live-below k e = go (decLe virgin k)
     where
       go : Dec (virgin ≤ k) → k < virgin
-      go (yes q) = absurd (clash (sym (B .rest k q) ∙ e))
-        where
-          clash : _≡_ {A = Bool} false true → ⊥
-          clash t = let y : _≡_ {A = ℕ} 0 1 = cc in omega arith
+      go (yes q) = absurd (clash (sym e ∙ B .rest k q))
       go (no q) = omega arith
 
   pub live-off : (k : ℕ) → live k ≡ true → Not k chain

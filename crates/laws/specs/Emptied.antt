@@ -22,7 +22,7 @@ use Rattle.rules.specs.GiveBack.{planBack, emptying, afterBack}
 use Rattle.bits.specs.Map.{length-put}
 use Rattle.books.specs.Starts.{start-is}
 use Rattle.books.specs.Known.{in-range}
-use Rattle.laws.specs.Update.{to, to-same, to-other}
+use Rattle.laws.specs.Update.{clash, to, to-same, to-other}
 use Rattle.laws.specs.Rows.{All, erase, Seg, Split, split, head-in, next-in, prev-in}
 use Rattle.laws.specs.Linked.{Doubly, Singly, Stack}
 use Rattle.laws.specs.Families.{Family, inside}
@@ -32,7 +32,7 @@ use Rattle.laws.specs.Counting.{many-more, many-le, all-many, none-many}
 use Rattle.laws.specs.Sizes.{Aligned, capacity-high, capacity-low}
 use Rattle.laws.specs.Chains.{Blocks, live-below}
 use Rattle.laws.specs.Sound.{home, base, Sound, InClass}
-use Rattle.laws.specs.Held.{Says, Held, held, sound, in-class, freed-is, use-class, clash, opened, arena-low, home-listed, home-freed, home-away, base-usable, base-spent, base-unused}
+use Rattle.laws.specs.Held.{Says, Held, held, sound, in-class, freed-is, use-class, opened, arena-low, home-listed, home-freed, home-away, base-usable, base-spent, base-unused}
 use Rattle.laws.specs.Step.{Aside, ListsAfter, HomesAfter, count-same, home-same, homes-same, stepped}
 use Rattle.laws.specs.Paths.{quiet-link, Backed, backed}
 use Rattle.laws.specs.GiveBack.{b, I, c-low, cap-high, j-low, some, count-is, free-is, tested, b₂, m₂, U₂, K₂, count₂, free₂, pools₂, bytes₂, live-p, count-after, dead-after, in-class-after, bits′, link-low, back-stays, back-joins}

@@ -17,6 +17,7 @@ use Rattle.rules.specs.Books.{at, inRange, memoryLength, mapLength, bit, isSet,
 use Rattle.rules.specs.Format.{freshArenas, freshPools, freshBooks}
 use Rattle.rules.specs.Outcome.{heapOf}
 use Rattle.books.specs.Known.{in-range}
+use Rattle.laws.specs.Update.{clash}
 use Rattle.laws.specs.Rows.{All, Once, In, Seg}
 use Rattle.laws.specs.Linked.{Doubly}
 use Rattle.laws.specs.Families.{At}
@@ -25,7 +26,7 @@ use Rattle.laws.specs.Plain.{count, from, fresh}
 use Rattle.laws.specs.Counting.{many-none}
 use Rattle.laws.specs.Sizes.{Aligned}
 use Rattle.laws.specs.Sound.{home, base, arenaRows, Sound}
-use Rattle.laws.specs.Held.{Says, viewOf, home-away, base-unused, clash, sound}
+use Rattle.laws.specs.Held.{Says, viewOf, home-away, base-unused, sound}
 
 -- ---- the records
 -- word w of record a, in a list of records of eight words
@@ -173,9 +174,6 @@ module _ (A P : ℕ) (low : 1 ≤ A) where
 module _ (al A P : ℕ) (L : Aligned al) (m : List ℕ) (range : inRange A P ≡ true) (bytes : length m ≡ memoryLength A P) where
   arenas-low : 1 ≤ A
   arenas-low = in-range A P range .0
-
-  pools-low : 2 ≤ P
-  pools-low = in-range A P range .2
 
   no-live : (n : ℕ) → count (fresh A) n ≡ 0
   no-live n = many-none (λ j. false) 512 (λ j _. refl)

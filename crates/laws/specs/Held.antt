@@ -15,6 +15,7 @@ use Rattle.rules.specs.Say.{if_then_else_}
 use Rattle.rules.specs.Books.{Heap, at, inRange, exact, memoryLength, booksLength, mapLength, isSet, usableHead, unusedHead, classHead, openWord, freedHead, arenaWord, arena, poolWord, pool}
 use Rattle.rules.specs.Blocks.{sizeOf, lastClass, capacity}
 use Rattle.books.specs.Known.{Shaped, shaped, in-range}
+use Rattle.laws.specs.Update.{clash}
 use Rattle.laws.specs.Rows.{All}
 use Rattle.laws.specs.Linked.{Stack}
 use Rattle.laws.specs.Families.{At, Family, alike, doubly-stay, singly-stay}
@@ -26,9 +27,6 @@ use Rattle.laws.specs.Chains.{live-below}
 use Rattle.laws.specs.Sound.{home, base, arenaRows, Shape, Carved, BitSet, Lists, InClass, PoolRule, Sound}
 
 -- ---- where a pool and an arena belong
-pub clash : _≡_ {A = Bool} true false → ⊥
-clash t = let y : _≡_ {A = ℕ} 0 1 = cc in omega arith
-
 module _ (al P : ℕ) (r : Plain) (n : ℕ) where
   -- a pool with live and spare blocks; a full one; a freed one; one that is not carved
   pub home-listed : 1 ≤ count r n → count r n < capacity (sizeOf al (r .class n)) → home al P r n ≡ classHead (r .class n)

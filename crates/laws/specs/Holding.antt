@@ -15,12 +15,12 @@ use Rattle.rules.specs.Blocks.{sizeOf, lastClass, startOf, blockNo, capacity, c
 use Rattle.rules.specs.View.{part}
 use Rattle.books.specs.Starts.{start-is, number-is}
 use Rattle.books.specs.Known.{live-is}
-use Rattle.laws.specs.Update.{to}
+use Rattle.laws.specs.Update.{clash, to}
 use Rattle.laws.specs.Plain.{Plain}
 use Rattle.laws.specs.Sizes.{Aligned, size-low, capacity-high}
 use Rattle.laws.specs.Chains.{block-ends, live-below}
 use Rattle.laws.specs.Sound.{Sound}
-use Rattle.laws.specs.Held.{held, in-class, clash}
+use Rattle.laws.specs.Held.{held, in-class}
 use Rattle.laws.specs.Paths.{Quiet, Hand}
 use Rattle.laws.specs.Bytes.{part-long, part-same}
 

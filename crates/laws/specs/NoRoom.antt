@@ -20,12 +20,13 @@ use Rattle.rules.specs.Ask.{askAnswer}
 use Rattle.rules.specs.Outcome.{Outcome}
 use Rattle.rules.specs.Numbers.{ask}
 use Rattle.books.specs.Known.{in-range}
+use Rattle.laws.specs.Update.{clash}
 use Rattle.laws.specs.Plain.{Plain, count, inUse, free, front, rest, planAsk as plainAsk, afterAsk as plainAfterAsk, fromListed}
 use Rattle.laws.specs.Counting.{Passes, many-has, none-many}
 use Rattle.laws.specs.Sizes.{Aligned, has-class, capacity-high, class-low}
 use Rattle.laws.specs.Chains.{room, among}
 use Rattle.laws.specs.Sound.{Sound, InClass}
-use Rattle.laws.specs.Held.{held, Says, in-class, home-listed, base-unused, base-usable, arena-low, clash}
+use Rattle.laws.specs.Held.{held, Says, in-class, home-listed, base-unused, base-usable, arena-low}
 use Rattle.laws.specs.Paths.{Hand}
 use Rattle.laws.specs.Holding.{holding, live-rows, rows-live, pool-is, block-live, block-pool, holding-more, holding-none}
 use Rattle.laws.specs.History.{Full}
@@ -79,9 +80,6 @@ module _ {al A P : ℕ} {h : Heap} {r : Plain} (L : Aligned al) (S : Sound al A 
     all-used : (p : ℕ) → p < A * P → 1 ≤ count r p
     all-used p l = ltb-true 0 (count r p) (not-false (inUse r p) (subst (λ (x : ℕ). not (inUse r x) ≡ false) (div-add-mod' p P) (none-many (λ i. not (inUse r (p / P * P + i))) P no-free (p % P) (mod-lt p (omega (arith, pools-low))))))
       where
-        a : ℕ
-        a = p / P
-
         la : p / P < A
         la = arena-low A P p pools-low l
 

@@ -18,14 +18,14 @@ use Rattle.rules.specs.Blocks.{sizeOf, lastClass, startOf, capacity, putLink}
 use Rattle.rules.specs.Ask.{planAsk, afterAsk, askAnswer}
 use Rattle.rules.specs.GiveBack.{planBack, afterBack}
 use Rattle.books.specs.Known.{in-range}
-use Rattle.laws.specs.Update.{to, to-same, to-other}
+use Rattle.laws.specs.Update.{clash, to, to-same, to-other}
 use Rattle.laws.specs.Plain.{Plain, count, inUse, carved, free, howMany, planAsk as plainAsk, afterAsk as plainAfterAsk, planBack as plainBack, afterBack as plainAfterBack}
 use Rattle.laws.specs.Counting.{many-same, many-more, many-has}
 use Rattle.laws.specs.Sizes.{Aligned, size-low}
 use Rattle.laws.specs.Chains.{Off, block-ends, blocks-apart, put-link-other, length-link, live-below}
 use Rattle.laws.specs.Books.{View}
 use Rattle.laws.specs.Sound.{home, base, Sound}
-use Rattle.laws.specs.Held.{Says, opened, clash, arena-low, in-class}
+use Rattle.laws.specs.Held.{Says, opened, arena-low, in-class}
 use Rattle.laws.specs.Step.{Aside, PoolAfter, ListsAfter, BytesAfter, count-same, base-same, homes-same, stepped}
 
 -- ---- memory: no byte of a live block of the rows r, and none of a pool's first 48, is touched
@@ -48,9 +48,6 @@ quiet-link {al} {A} {P} {U} {m} {m₀} {k} {r} L F p j v c l dead =
       live-bytes = λ n i d ln on u. put-link-other m o v _ (off n i d ln on u (ℕ-discrete n p) (ℕ-discrete i j));
     }
   where
-    s : ℕ
-    s = sizeOf al (r .class p)
-
     o : ℕ
     o = offsetOf p (startOf (sizeOf al (r .class p)) j)
 

@@ -22,7 +22,7 @@ use Rattle.rules.specs.Lists.{nextAt, previousAt, leave, join, arenaLinks}
 use Rattle.rules.specs.Ask.{planAsk, spare, fromUsable, fromFreed, fromMark, fromUnused, setAnew, takeAgain, sameClass, takeFrom, afterAsk, askAnswer}
 use Rattle.books.specs.Starts.{start-is, number-is, first-block, second-block}
 use Rattle.books.specs.Known.{in-range}
-use Rattle.laws.specs.Update.{to, to-same, to-other}
+use Rattle.laws.specs.Update.{clash, to, to-same, to-other}
 use Rattle.laws.specs.Rows.{All, erase, erase-front}
 use Rattle.laws.specs.Linked.{Stack}
 use Rattle.laws.specs.Families.{At, inside}
@@ -32,7 +32,7 @@ use Rattle.laws.specs.Counting.{many-none, many-all, many-le}
 use Rattle.laws.specs.Sizes.{Aligned, size-low, size-high, capacity-high, capacity-low, class-low}
 use Rattle.laws.specs.Chains.{Blocks}
 use Rattle.laws.specs.Sound.{home, base, Sound, InClass, PoolRule}
-use Rattle.laws.specs.Held.{Says, Held, held, use-class, freed-is, usable-is, unused-is, clash, home-freed, home-away}
+use Rattle.laws.specs.Held.{Says, Held, held, use-class, freed-is, usable-is, unused-is, home-freed, home-away}
 use Rattle.laws.specs.Paths.{quiet-same, Hand, Asked, asked}
 use Rattle.laws.specs.Emptied.{member-links, put-zero}
 use Rattle.laws.specs.AskListed.{ask-listed}

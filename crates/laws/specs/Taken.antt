@@ -51,9 +51,6 @@ spentBooks a b =
 pub spend-is : (al A P c a : ℕ) (x : Heap) → spend al A P c a x ≡ heapOf (x .memory) (spentBooks a (x .books)) (x .map)
 spend-is al A P c a x = go (none? (at (put (arenaWord freePools a) (at (x .books) (arenaWord freePools a) - 1) (x .books)) (arenaWord freePools a)))
   where
-    b₂ : List ℕ
-    b₂ = put (arenaWord freePools a) (at (x .books) (arenaWord freePools a) - 1) (x .books)
-
     go : (t : Bool) → only t (arenaLeaves usableHead a) (heapOf (x .memory) (put (arenaWord freePools a) (at (x .books) (arenaWord freePools a) - 1) (x .books)) (x .map))
         ≡ heapOf (x .memory) (only t (leave arenaLinks usableHead a) (put (arenaWord freePools a) (at (x .books) (arenaWord freePools a) - 1) (x .books))) (x .map)
     go true = refl

@@ -21,11 +21,10 @@ use Rattle.rules.specs.Ask.{askAnswer, afterAsk}
 use Rattle.rules.specs.Resize.{keeps}
 use Rattle.rules.specs.Numbers.{fitNumber, format, ask, giveBack, resize, viewSize, write, rollCall, roomNumber, sizeNumber, sizedOf, blockSize, rollOf, rollOutcome}
 use Rattle.books.specs.Known.{shaped}
-use Rattle.laws.specs.Update.{to, to-cong}
+use Rattle.laws.specs.Update.{clash, to, to-cong}
 use Rattle.laws.specs.Plain.{Plain, fresh, planAsk as plainAsk}
 use Rattle.laws.specs.Sizes.{Aligned}
 use Rattle.laws.specs.Sound.{Sound}
-use Rattle.laws.specs.Held.{clash}
 use Rattle.laws.specs.Fresh.{fresh-sound}
 use Rattle.laws.specs.Bytes.{Outside, text-part, byte-part, sets-off}
 use Rattle.laws.specs.Holding.{LiveAt, holding, live-rows, class-is, in-memory, holding-live, holding-long, holding-some, dead-holding, Leaves}

@@ -1,11 +1,17 @@
--- A function with one value changed: how the plain heap writes.
+-- A function with one value changed: how the plain heap writes. And what no two values are at once.
 -- Assumes nothing.
 use mathlib.Core.Path.{_≡_, ap}
 use mathlib.Core.Logic.{_≢_}
+use mathlib.Core.Bool.{Bool, true, false}
 use Prim.Native.Nat.{ℕ}
+use native.Mathlib.Omega.{arith}
 use lib.Dec.{eqb}
 use borrow.Author.Tests.{eq-eqb, ne-eqb}
 use Rattle.rules.specs.Say.{if_then_else_}
+
+-- a test does not both hold and fail
+pub clash : _≡_ {A = Bool} true false → ⊥
+clash t = let y : _≡_ {A = ℕ} 0 1 = cc in omega arith
 
 module _ {A : Type 0} where
   -- f with v at n
