@@ -1,0 +1,350 @@
+// Runs 01's "Cases on each side", a line for each: the calls of the case in order, with what each answered.
+use books::words::FREEBLOCK;
+use books::words::MAXNEXTOFFSET;
+use books::words::NEXTOFFSET;
+use books::words::RECORDS;
+use libc::STDOUT_FILENO;
+use plans::words::index;
+
+// ---- printing
+
+fn text(s: &[u8]) {
+    io::write_all(STDOUT_FILENO, s);
+}
+
+fn number(n: usize) {
+    io::print_decimal(STDOUT_FILENO, n as u64);
+}
+
+// What a call answered: the number of a refusal, or the offset or count of one that is done.
+fn answered(refusal: u32, done: u32) {
+    if refusal != 0 {
+        text(b" -> refused with ");
+        number(index(refusal));
+        return;
+    }
+    text(b" -> ");
+    number(index(done));
+}
+
+// ---- the calls, each with its arguments and its answer
+
+fn format(name: &[u8], memory: &[u8], books: &mut [u32], map: &mut [u64], pools: usize) {
+    let a = heap::format(memory, books, map, 1, pools);
+    text(name);
+    text(b": format 1 by ");
+    number(pools);
+    answered(a.number, a.offset);
+}
+
+fn ask(memory: &mut [u8], books: &mut [u32], map: &mut [u64], size: usize) {
+    let a = heap::ask(memory, books, map, size);
+    text(b"; ask ");
+    number(size);
+    answered(a.number, a.offset);
+}
+
+fn give_back(memory: &mut [u8], books: &mut [u32], map: &mut [u64], offset: usize) {
+    let a = heap::give_back(memory, books, map, offset);
+    text(b"; give back ");
+    number(offset);
+    answered(a.number, a.offset);
+}
+
+fn resize(memory: &mut [u8], books: &mut [u32], map: &mut [u64], offset: usize, size: usize) {
+    let a = heap::resize(memory, books, map, offset, size);
+    text(b"; resize ");
+    number(offset);
+    text(b" to ");
+    number(size);
+    answered(a.number, a.offset);
+}
+
+fn write(memory: &mut [u8], books: &[u32], map: &[u64], offset: usize, bytes: &[u8]) {
+    let a = heap::write(memory, books, map, offset, bytes);
+    text(b"; write ");
+    number(bytes.len());
+    text(b" bytes to ");
+    number(offset);
+    answered(a.number, a.offset);
+}
+
+fn size(memory: &[u8], books: &[u32], map: &[u64], offset: usize) {
+    let s = heap::view_size(memory, books, map, offset);
+    text(b"; size at ");
+    number(offset);
+    answered(s.number, s.size);
+}
+
+// How long the view is, and its first n bytes, where it has as many.
+fn view(memory: &[u8], books: &[u32], map: &[u64], offset: usize, n: usize) {
+    let block = heap::view(memory, books, map, offset);
+    text(b"; view of ");
+    number(offset);
+    text(b", ");
+    number(block.len());
+    text(b" bytes");
+    if n <= block.len() {
+        text(b": ");
+        text(&block[..n]);
+    }
+}
+
+fn after_blank(n: usize) {
+    text(b" ");
+    number(n);
+}
+
+fn print_words(words: &[u32]) {
+    for i in 0..words.len() {
+        after_blank(index(words[i]));
+    }
+}
+
+// A roll call over the words, and all of them as it leaves them.
+fn roll_call(memory: &[u8], books: &[u32], map: &[u64], words: &mut [u32]) {
+    let r = heap::roll_call(memory, books, map, words);
+    text(b"; roll call into ");
+    number(words.len());
+    text(b" words");
+    answered(r.number, r.count);
+    text(b" [");
+    print_words(words);
+    text(b" ]");
+}
+
+// So many asks: how many of them were served.
+fn served(memory: &mut [u8], books: &mut [u32], map: &mut [u64], size: usize, n: usize) -> usize {
+    let mut done: usize = 0;
+    for _ in 0..n {
+        let a = heap::ask(memory, books, map, size);
+        if a.number == 0 {
+            done += 1;
+        }
+    }
+    done
+}
+
+fn asks(memory: &mut [u8], books: &mut [u32], map: &mut [u64], size: usize, n: usize) {
+    let done = served(memory, books, map, size, n);
+    text(b"; ");
+    number(n);
+    text(b" asks of ");
+    number(size);
+    text(b", served ");
+    number(done);
+}
+
+// The word at that place, after its name.
+fn word(books: &[u32], name: &[u8], at: usize) {
+    if at < books.len() {
+        text(name);
+        number(index(books[at]));
+    }
+}
+
+// Pool 0's record, in books of one arena.
+fn pool(books: &[u32]) {
+    text(b"; pool 0:");
+    word(books, b" freeblock ", RECORDS + 8 + FREEBLOCK);
+    word(books, b", nextoffset ", RECORDS + 8 + NEXTOFFSET);
+    word(books, b", maxnextoffset ", RECORDS + 8 + MAXNEXTOFFSET);
+}
+
+// ---- K1 to K10, in a fresh heap of one arena of 16 pools
+
+type Memory = [u8; 65536];
+
+type Books = [u32; 208];
+
+type Map = [u64; 128];
+
+fn k1(memory: &mut Memory, books: &mut Books, map: &mut Map) {
+    format(b"K1", memory, books, map, 16);
+    ask(memory, books, map, 1);
+    pool(books);
+    text(b"\n");
+}
+
+fn k2(memory: &mut Memory, books: &mut Books, map: &mut Map) {
+    format(b"K2", memory, books, map, 16);
+    ask(memory, books, map, 1);
+    ask(memory, books, map, 8);
+    pool(books);
+    text(b"\n");
+}
+
+fn k3(memory: &mut Memory, books: &mut Books, map: &mut Map) {
+    format(b"K3", memory, books, map, 16);
+    ask(memory, books, map, 1);
+    ask(memory, books, map, 1);
+    give_back(memory, books, map, 48);
+    ask(memory, books, map, 8);
+    text(b"\n");
+}
+
+fn k4(memory: &mut Memory, books: &mut Books, map: &mut Map) {
+    format(b"K4", memory, books, map, 16);
+    ask(memory, books, map, 8);
+    ask(memory, books, map, 9);
+    text(b"\n");
+}
+
+fn k5(memory: &mut Memory, books: &mut Books, map: &mut Map) {
+    format(b"K5", memory, books, map, 16);
+    ask(memory, books, map, 1);
+    ask(memory, books, map, 1);
+    ask(memory, books, map, 9);
+    give_back(memory, books, map, 48);
+    give_back(memory, books, map, 56);
+    ask(memory, books, map, 8);
+    text(b"\n");
+}
+
+fn k6(memory: &mut Memory, books: &mut Books, map: &mut Map) {
+    format(b"K6", memory, books, map, 16);
+    ask(memory, books, map, 1);
+    ask(memory, books, map, 9);
+    give_back(memory, books, map, 48);
+    ask(memory, books, map, 17);
+    text(b"\n");
+}
+
+fn k7(memory: &mut Memory, books: &mut Books, map: &mut Map) {
+    format(b"K7", memory, books, map, 16);
+    ask(memory, books, map, 0);
+    ask(memory, books, map, 513);
+    ask(memory, books, map, 512);
+    pool(books);
+    text(b"\n");
+}
+
+fn k8(memory: &mut Memory, books: &mut Books, map: &mut Map) {
+    format(b"K8", memory, books, map, 16);
+    ask(memory, books, map, 100);
+    size(memory, books, map, 48);
+    resize(memory, books, map, 48, 79);
+    resize(memory, books, map, 48, 78);
+    text(b"\n");
+}
+
+fn k9(memory: &mut Memory, books: &mut Books, map: &mut Map) {
+    format(b"K9", memory, books, map, 16);
+    ask(memory, books, map, 8);
+    resize(memory, books, map, 48, 6);
+    resize(memory, books, map, 56, 7);
+    text(b"\n");
+}
+
+fn k10(memory: &mut Memory, books: &mut Books, map: &mut Map) {
+    format(b"K10", memory, books, map, 16);
+    ask(memory, books, map, 1);
+    give_back(memory, books, map, 52);
+    give_back(memory, books, map, 0);
+    give_back(memory, books, map, 65536);
+    give_back(memory, books, map, 48);
+    give_back(memory, books, map, 48);
+    text(b"\n");
+}
+
+// ---- the other cases
+
+// 104 bytes are carried over to a block that holds 105.
+fn carries(memory: &mut Memory, books: &mut Books, map: &mut Map) {
+    let letters =
+        b"abcdefghijklmnopqrstuvwxyzabcdefghijklmnopqrstuvwxyzabcdefghijklmnopqrstuvwxyzabcdefghijklmnopqrstuvwxyz";
+    format(b"Resize", memory, books, map, 16);
+    ask(memory, books, map, 104);
+    write(memory, books, map, 48, letters);
+    resize(memory, books, map, 48, 104);
+    resize(memory, books, map, 48, 105);
+    size(memory, books, map, 4144);
+    view(memory, books, map, 4144, 104);
+    text(b"\n");
+}
+
+fn dead(memory: &mut Memory, books: &mut Books, map: &mut Map) {
+    format(b"Dead offset", memory, books, map, 16);
+    resize(memory, books, map, 48, 0);
+    resize(memory, books, map, 48, 1);
+    size(memory, books, map, 48);
+    view(memory, books, map, 48, 1);
+    text(b"\n");
+}
+
+// A text that does not fit and a roll with a word too few are refused and write nothing; a roll leaves the words after it.
+fn rolls(memory: &mut Memory, books: &mut Books, map: &mut Map) {
+    let mut none: [u32; 0] = [];
+    let mut few: [u32; 3] = [9; 3];
+    let mut exact: [u32; 4] = [9; 4];
+    let mut more: [u32; 6] = [9; 6];
+    format(b"Roll call", memory, books, map, 16);
+    roll_call(memory, books, map, &mut none);
+    ask(memory, books, map, 8);
+    ask(memory, books, map, 9);
+    write(memory, books, map, 48, b"overdrawn");
+    write(memory, books, map, 48, b"owed");
+    view(memory, books, map, 48, 4);
+    roll_call(memory, books, map, &mut few);
+    roll_call(memory, books, map, &mut exact);
+    roll_call(memory, books, map, &mut more);
+    text(b"\n");
+}
+
+// The 506th ask gives 4,088, the 507th 4,144, the 1,012th 8,184, the 1,013th is refused; a block given back is served again.
+fn fill_by_8(memory: &mut [u8; 8192], books: &mut [u32; 96], map: &mut [u64; 16]) {
+    format(b"Asks of 8", memory, books, map, 2);
+    asks(memory, books, map, 8, 505);
+    ask(memory, books, map, 8);
+    ask(memory, books, map, 8);
+    asks(memory, books, map, 8, 504);
+    ask(memory, books, map, 8);
+    ask(memory, books, map, 8);
+    give_back(memory, books, map, 840);
+    ask(memory, books, map, 8);
+    text(b"\n");
+}
+
+// The 7th ask gives 3,120, the 15th is refused.
+fn fill_by_512(memory: &mut [u8; 8192], books: &mut [u32; 96], map: &mut [u64; 16]) {
+    format(b"Asks of 512", memory, books, map, 2);
+    asks(memory, books, map, 512, 6);
+    ask(memory, books, map, 512);
+    asks(memory, books, map, 512, 7);
+    ask(memory, books, map, 512);
+    text(b"\n");
+}
+
+// The cases of P = 16.
+fn of_16_pools() {
+    let mut memory = [0u8; 65536];
+    let mut books = [0u32; 208];
+    let mut map = [0u64; 128];
+    k1(&mut memory, &mut books, &mut map);
+    k2(&mut memory, &mut books, &mut map);
+    k3(&mut memory, &mut books, &mut map);
+    k4(&mut memory, &mut books, &mut map);
+    k5(&mut memory, &mut books, &mut map);
+    k6(&mut memory, &mut books, &mut map);
+    k7(&mut memory, &mut books, &mut map);
+    k8(&mut memory, &mut books, &mut map);
+    k9(&mut memory, &mut books, &mut map);
+    k10(&mut memory, &mut books, &mut map);
+    carries(&mut memory, &mut books, &mut map);
+    dead(&mut memory, &mut books, &mut map);
+    rolls(&mut memory, &mut books, &mut map);
+}
+
+// The cases of P = 2.
+fn of_2_pools() {
+    let mut memory = [0u8; 8192];
+    let mut books = [0u32; 96];
+    let mut map = [0u64; 16];
+    fill_by_8(&mut memory, &mut books, &mut map);
+    fill_by_512(&mut memory, &mut books, &mut map);
+}
+
+fn main() {
+    of_16_pools();
+    of_2_pools();
+}
