@@ -15,8 +15,9 @@ use plans::words::word;
 use rules::Answer;
 use rules::Rolled;
 use rules::Sized;
+use steps::answers::answer;
+use steps::answers::refuse;
 use steps::hand_out::ask_step;
-use steps::hand_out::refuse;
 use steps::moves::resize_step;
 use steps::put_back::back_step;
 ghost use mathlib.Core.Path.{_≡_};
@@ -99,7 +100,7 @@ pub fn ask(memory: &mut [u8], books: &mut [u32], map: &mut [u64], size: usize) -
     }
     let arenas = word(books, 0);
     let pools = word(books, 1);
-    ask_step(memory, books, map, arenas, pools, size)
+    answer(ask_step(memory, books, map, arenas, pools, size))
 }
 
 // Resize.

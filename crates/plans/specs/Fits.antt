@@ -51,15 +51,25 @@ pub record Listed (A P s c : ℕ) (b m : List ℕ) (p f : ℕ) : Type 0 where
   pub class : pool A b class p ≡ c
   pub count : pool A b count p ≤ 505
 
--- the numbers of a path for class c, of blocks of size s, in books b and map m of A arenas of P pools
+-- the numbers of a path that takes a new pool, for class c, of blocks of size s, in books b and map m of A arenas of P pools
+abbrev pub FitsNew : ℕ → ℕ → ℕ → ℕ → List ℕ → List ℕ → AskPlan → Type 0
+FitsNew A P s c b m NoRoom = Unit
+FitsNew A P s c b m Damaged = Unit
+FitsNew A P s c b m (Follow p f l) = ⊥
+FitsNew A P s c b m (Ready p f n) = ⊥
+FitsNew A P s c b m (Last p f) = ⊥
+FitsNew A P s c b m (Again a p f l) = FitsSource A P b (Freed a) p × Spare A P s m p f × (pool A b class p ≡ c) × (l ≤ 4096)
+FitsNew A P s c b m (Anew src p) = FitsSource A P b src p × Spare A P s m p 48
+
+-- and of any path
 abbrev pub FitsAsk : ℕ → ℕ → ℕ → ℕ → List ℕ → List ℕ → AskPlan → Type 0
 FitsAsk A P s c b m NoRoom = Unit
 FitsAsk A P s c b m Damaged = Unit
 FitsAsk A P s c b m (Follow p f l) = Listed A P s c b m p f × Start s l
 FitsAsk A P s c b m (Ready p f n) = Listed A P s c b m p f × (n ≡ pool A b nextoffset p) × Start s n
 FitsAsk A P s c b m (Last p f) = Listed A P s c b m p f × Links (A * P) (poolLinks A) p b
-FitsAsk A P s c b m (Again a p f l) = FitsSource A P b (Freed a) p × Spare A P s m p f × (pool A b class p ≡ c) × (l ≤ 4096)
-FitsAsk A P s c b m (Anew src p) = FitsSource A P b src p × Spare A P s m p 48
+FitsAsk A P s c b m (Again a p f l) = FitsNew A P s c b m (Again a p f l)
+FitsAsk A P s c b m (Anew src p) = FitsNew A P s c b m (Anew src p)
 
 -- ---- what holds after a choice, and after a rule that keeps the path from the answer `damaged`
 module _ {X : Type 0} (F : X → Type 0) where
@@ -83,6 +93,12 @@ links most base n b e = record {
   previous = leb-true (at b (previousAt base n)) most (both (leb (at b (nextAt base n)) most) (leb (at b (previousAt base n)) most) e .1);
 }
 
+-- the path where the class list is empty: it takes a new pool
+abbrev pub planNew : ℕ → ℕ → ℕ → Heap → ℕ → AskPlan
+planNew al A P h c =
+    frontOf (at (h .books) usableHead) A (fromUsable al A P h c)
+    (frontOf (at (h .books) unusedHead) A (fromUnused al A P h c) NoRoom)
+
 -- ---- the path, from its ends to its beginning
 module _ (al A P : ℕ) (h : Heap) (c : ℕ) (low : 8 ≤ sizeOf al c) where
   abbrev s : ℕ
@@ -96,6 +112,9 @@ module _ (al A P : ℕ) (h : Heap) (c : ℕ) (low : 8 ≤ sizeOf al c) where
 
   abbrev F : AskPlan → Type 0
   F = FitsAsk A P s c b m
+
+  abbrev N : AskPlan → Type 0
+  N = FitsNew A P s c b m
 
   spared : (p f : ℕ) → p < A * P → spare al A P h c p f ≡ true → Spare A P s m p f
   spared p f there e =
@@ -138,32 +157,32 @@ module _ (al A P : ℕ) (h : Heap) (c : ℕ) (low : 8 ≤ sizeOf al c) where
       (λ _. after F (leb (pool A b count p) 505) _ _ tt
       (λ few. fits-freeblock p there (eqb-true _ c class) (leb-true _ 505 few))))
 
-  fits-anew : (src : Source) (p : ℕ) → p < A * P → FitsSource A P b src p → F (setAnew al A P h c src p)
+  fits-anew : (src : Source) (p : ℕ) → p < A * P → FitsSource A P b src p → N (setAnew al A P h c src p)
   unfolding setAnew
   fits-anew src p there source =
-      after F (spare al A P h c p 48) _ _ tt
-      (λ first. after F (spare al A P h c p (48 + s)) _ _ tt (λ _. (source, spared p 48 there first)))
+      after N (spare al A P h c p 48) _ _ tt
+      (λ first. after N (spare al A P h c p (48 + s)) _ _ tt (λ _. (source, spared p 48 there first)))
 
-  fits-same : (a p : ℕ) → p < A * P → pool A b class p ≡ c → FitsSource A P b (Freed a) p → F (sameClass al A P h c a p)
+  fits-same : (a p : ℕ) → p < A * P → pool A b class p ≡ c → FitsSource A P b (Freed a) p → N (sameClass al A P h c a p)
   unfolding sameClass
   fits-same a p there class source =
-      after F (spare al A P h c p (pool A b freeblock p)) _ _ tt
-      (λ block. after F (none? (linkIn al A P h c p) || spare al A P h c p (linkIn al A P h c p)) _ _ tt
+      after N (spare al A P h c p (pool A b freeblock p)) _ _ tt
+      (λ block. after N (none? (linkIn al A P h c p) || spare al A P h c p (linkIn al A P h c p)) _ _ tt
       (λ link. (source, spared p _ there block, class, linked-low p _ there link)))
 
-  fits-again : (a p : ℕ) → p < A * P → FitsSource A P b (Freed a) p → F (takeAgain al A P h c a p)
+  fits-again : (a p : ℕ) → p < A * P → FitsSource A P b (Freed a) p → N (takeAgain al A P h c a p)
   unfolding takeAgain
   fits-again a p there source =
-      either F (eqb (pool A b class p) c) _ _
+      either N (eqb (pool A b class p) c) _ _
       (λ class. fits-same a p there (eqb-true _ c class) source)
       (λ _. fits-anew (Freed a) p there source)
 
   -- an arena that gives a pool
-  fits-counted : (a : ℕ) (rest : AskPlan) → a < A → (Gives A P a b → F rest) → F (counted al A P h c a rest)
+  fits-counted : (a : ℕ) (rest : AskPlan) → a < A → (Gives A P a b → N rest) → N (counted al A P h c a rest)
   fits-counted a rest there f =
       let free = arena b freePools a in
-      after F (leb 1 free && leb free P) _ _ tt
-      (λ ranged. after F (not (eqb free 1) || mayLeave A arenaLinks a b) _ _ tt
+      after N (leb 1 free && leb free P) _ _ tt
+      (λ ranged. after N (not (eqb free 1) || mayLeave A arenaLinks a b) _ _ tt
       (λ leaves. f record {
         there = there;
         some = leb-true 1 free (both (leb 1 free) (leb free P) ranged .0);
@@ -171,33 +190,42 @@ module _ (al A P : ℕ) (h : Heap) (c : ℕ) (low : 8 ≤ sizeOf al c) where
         links = λ e. links A arenaLinks a b (rw (eq-eqb free 1 e) at leaves);
       }))
 
-  fits-mark : (a : ℕ) → a < A → F (fromMark al A P h c a)
+  fits-mark : (a : ℕ) → a < A → N (fromMark al A P h c a)
   unfolding fromMark
   fits-mark a there =
-      after F (ltb (arena b carveMark a) P) _ _ tt
+      after N (ltb (arena b carveMark a) P) _ _ tt
       (λ below. fits-counted a _ there
       (λ gives. fits-anew (Carved a) _ (omega (arith, ltb-true (arena b carveMark a) P below, mul-le-mul-right P there)) (gives, refl, ltb-true _ P below)))
 
-  fits-freed : (a p : ℕ) → a < A → p < A * P → F (fromFreed al A P h c a p)
+  fits-freed : (a p : ℕ) → a < A → p < A * P → N (fromFreed al A P h c a p)
   unfolding fromFreed
   fits-freed a p there pool-there =
-      after F (leb (pool A b poolNext p) (A * P)) _ _ tt
+      after N (leb (pool A b poolNext p) (A * P)) _ _ tt
       (λ next. fits-counted a _ there (λ gives. fits-again a p pool-there (gives, leb-true _ (A * P) next)))
 
-  fits-usable : (a : ℕ) → a < A → F (fromUsable al A P h c a)
+  fits-usable : (a : ℕ) → a < A → N (fromUsable al A P h c a)
   unfolding fromUsable
   fits-usable a there =
-      front F (arena b freedHead a) (A * P) (fromFreed al A P h c a) (fromMark al A P h c a) tt (λ p l. fits-freed a p there l) (λ _. fits-mark a there)
+      front N (arena b freedHead a) (A * P) (fromFreed al A P h c a) (fromMark al A P h c a) tt (λ p l. fits-freed a p there l) (λ _. fits-mark a there)
 
-  fits-unused : (a : ℕ) → a < A → 1 ≤ P → at b usableHead ≡ 0 → F (fromUnused al A P h c a)
+  fits-unused : (a : ℕ) → a < A → 1 ≤ P → at b usableHead ≡ 0 → N (fromUnused al A P h c a)
   unfolding fromUnused
   fits-unused a there some empty =
-      after F (mayLeave A arenaLinks a b) _ _ tt
+      after N (mayLeave A arenaLinks a b) _ _ tt
       (λ leaves. fits-anew (Opened a) (a * P) (omega (arith, mul-le-mul-right P there)) (there, refl, links A arenaLinks a b leaves, empty))
+
+  pub fits-new : 1 ≤ P → N (planNew al A P h c)
+  fits-new some =
+      front N (at b usableHead) A (fromUsable al A P h c) _ tt fits-usable
+      (λ empty. front N (at b unusedHead) A (fromUnused al A P h c) _ tt (λ a l. fits-unused a l some empty) (λ _. tt))
+
+  -- what is known of a new pool's path is known of the path
+  any : (q : AskPlan) → N q → F q
+  any NoRoom t = tt
+  any Damaged t = tt
+  any (Again a p f l) t = t
+  any (Anew src p) t = t
 
   pub fits-ask : 1 ≤ P → F (planAsk al A P h c)
   unfolding planAsk
-  fits-ask some =
-      front F (at b (classHead c)) (A * P) (fromListed al A P h c) _ tt fits-listed
-      (λ _. front F (at b usableHead) A (fromUsable al A P h c) _ tt fits-usable
-      (λ empty. front F (at b unusedHead) A (fromUnused al A P h c) _ tt (λ a l. fits-unused a l some empty) (λ _. tt)))
+  fits-ask some = front F (at b (classHead c)) (A * P) (fromListed al A P h c) _ tt fits-listed (λ _. any (planNew al A P h c) (fits-new some))

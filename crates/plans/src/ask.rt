@@ -1,4 +1,4 @@
-// The path of an ask, decided from the heap before it: a function for each part of the rules' path, under the same name.
+// The path of an ask whose class list is empty, decided from the heap before it: a function for each part of the rules' path, under the same name.
 use crate::words::arena_word;
 use crate::words::index;
 use crate::words::may_leave;
@@ -8,18 +8,13 @@ use bits::is_set;
 use books::blocks::block_no;
 use books::blocks::is_start;
 use books::links::link_at;
-use books::lists::pool_links;
 use books::words::ARENA_LINKS;
 use books::words::CARVE_MARK;
 use books::words::CLASS;
-use books::words::CLASS_HEADS;
-use books::words::COUNT;
 use books::words::FREE_POOLS;
 use books::words::FREEBLOCK;
 use books::words::FREED_HEAD;
-use books::words::MAXNEXTOFFSET;
 use books::words::NEXT;
-use books::words::NEXTOFFSET;
 use books::words::UNUSED_HEAD;
 use books::words::USABLE_HEAD;
 use rules::AskPlan;
@@ -30,13 +25,14 @@ ghost use Prim.Native.Nat.{_+_, _*_, _<_, _≤_};
 ghost use lib.Dec.{leb, eqb};
 ghost use lib.ListN.{length};
 ghost use Rattle.rules.specs.Say.{if_then_else_};
-ghost use Rattle.rules.specs.Books.{at, isSet, none?, usableHead, unusedHead, freePools, arena};
+ghost use Rattle.rules.specs.Books.{at, isSet, none?, unusedHead, freePools, arena};
 ghost use Rattle.rules.specs.Blocks.{sizeOf, isStart, blockNo};
 ghost use Rattle.rules.specs.Lists.{mayLeave, arenaLinks};
 ghost use Rattle.rules.specs.Outcome.{heapOf};
-ghost use Rattle.rules.specs.Ask.{_⇛_, noLink, fromFreeblock, fromListed, setAnew, sameClass, takeAgain, counted, fromMark, fromFreed, frontOf, fromUsable, fromUnused, planAsk};
+ghost use Rattle.rules.specs.Ask.{_⇛_, setAnew, sameClass, takeAgain, counted, fromMark, fromFreed, frontOf, fromUsable, fromUnused};
 ghost use Rattle.books.specs.Known.{Shaped};
 ghost use Rattle.plans.specs.Class.{Range, Class};
+ghost use Rattle.plans.specs.Fits.{planNew};
 
 // A rule of number 6 that a used word keeps, and the rest of the path.
 fn keeps(rule: bool, rest: AskPlan) -> AskPlan
@@ -46,7 +42,7 @@ fn keeps(rule: bool, rest: AskPlan) -> AskPlan
 }
 
 // f is a block start of pool p, and the block is not live.
-fn spare(map: &[u64], p: usize, size: usize, f: usize) -> bool
+pub fn spare(map: &[u64], p: usize, size: usize, f: usize) -> bool
     requires { ⌜ (8 ≤ size) × (size ≤ 512) × (8 * p + 8 ≤ length (now map)) ⌝ }
     ensures { λ r. ⌜ r ≡ (isStart size f && not (isSet (now (map .entry)) p (blockNo size f))) ⌝ }
 {
@@ -62,102 +58,6 @@ fn follows(map: &[u64], p: usize, size: usize, l: usize) -> bool
     ensures { λ r. ⌜ r ≡ (none? l || (isStart size l && not (isSet (now (map .entry)) p (blockNo size l)))) ⌝ }
 {
     (l == 0) | spare(map, p, size, l)
-}
-
-// Pool p is listed, and its freeblock has no link.
-fn no_link(
-    memory: &[u8],
-    books: &[u32],
-    map: &[u64],
-    arenas: usize,
-    pools: usize,
-    class: usize,
-    size: usize,
-    p: usize,
-) -> AskPlan
-    requires { ⌜ Shaped arenas pools (length (now memory)) (length (now books)) (length (now map)) × Class class size × (p < arenas * pools) ⌝ }
-    ensures { λ r. ⌜ r ≡ noLink 8 arenas pools (heapOf (now (memory .entry)) (now (books .entry)) (now (map .entry))) class p ⌝ }
-{
-    let f = pool_word(books, arenas, FREEBLOCK, p);
-    let m = pool_word(books, arenas, NEXTOFFSET, p);
-    if m <= pool_word(books, arenas, MAXNEXTOFFSET, p) {
-        return keeps(spare(map, p, size, m), AskPlan::Ready(p, f, m));
-    }
-    keeps(
-        may_leave(books, arenas * pools, pool_links(arenas), p),
-        AskPlan::Last(p, f),
-    )
-}
-
-// The block at f of the listed pool p is spare, and l is its link.
-fn from_link(
-    memory: &[u8],
-    books: &[u32],
-    map: &[u64],
-    arenas: usize,
-    pools: usize,
-    class: usize,
-    size: usize,
-    p: usize,
-    f: usize,
-    l: usize,
-) -> AskPlan
-    requires { ⌜ Shaped arenas pools (length (now memory)) (length (now books)) (length (now map)) × Class class size × (p < arenas * pools) ⌝ }
-    ensures { λ r. ⌜ r ≡ ((none? l || (isStart size l && not (isSet (now (map .entry)) p (blockNo size l))))
-        ⇛ (if none? l then noLink 8 arenas pools (heapOf (now (memory .entry)) (now (books .entry)) (now (map .entry))) class p else AskPlan.Follow p f l)) ⌝ }
-{
-    if l == 0 {
-        return no_link(memory, books, map, arenas, pools, class, size, p);
-    }
-    keeps(spare(map, p, size, l), AskPlan::Follow(p, f, l))
-}
-
-// The freeblock of the listed pool p.
-fn from_freeblock(
-    memory: &[u8],
-    books: &[u32],
-    map: &[u64],
-    arenas: usize,
-    pools: usize,
-    class: usize,
-    size: usize,
-    p: usize,
-) -> AskPlan
-    requires { ⌜ Shaped arenas pools (length (now memory)) (length (now books)) (length (now map)) × Class class size × (p < arenas * pools) ⌝ }
-    ensures { λ r. ⌜ r ≡ fromFreeblock 8 arenas pools (heapOf (now (memory .entry)) (now (books .entry)) (now (map .entry))) class p ⌝ }
-{
-    let f = pool_word(books, arenas, FREEBLOCK, p);
-    if spare(map, p, size, f) {
-        let l = index(link_at(memory, 4096 * p + f));
-        return from_link(memory, books, map, arenas, pools, class, size, p, f, l);
-    }
-    AskPlan::Damaged
-}
-
-// The front pool p of the class list.
-fn from_listed(
-    memory: &[u8],
-    books: &[u32],
-    map: &[u64],
-    arenas: usize,
-    pools: usize,
-    class: usize,
-    size: usize,
-    p: usize,
-) -> AskPlan
-    requires { ⌜ Shaped arenas pools (length (now memory)) (length (now books)) (length (now map)) × Class class size × (p < arenas * pools) ⌝ }
-    ensures { λ r. ⌜ r ≡ fromListed 8 arenas pools (heapOf (now (memory .entry)) (now (books .entry)) (now (map .entry))) class p ⌝ }
-{
-    if pool_word(books, arenas, CLASS, p) != class {
-        return AskPlan::Damaged;
-    }
-    if pool_word(books, arenas, MAXNEXTOFFSET, p) != 4096 - size {
-        return AskPlan::Damaged;
-    }
-    if 505 < pool_word(books, arenas, COUNT, p) {
-        return AskPlan::Damaged;
-    }
-    from_freeblock(memory, books, map, arenas, pools, class, size, p)
 }
 
 // Pool p is set to the class: its blocks 0 and 1 are spare.
@@ -365,8 +265,8 @@ fn plan_unused(
     AskPlan::Damaged
 }
 
-// The class list is empty.
-fn plan_usable(
+// The class list is empty: a new pool is taken.
+pub fn plan_new(
     memory: &[u8],
     books: &[u32],
     map: &[u64],
@@ -376,10 +276,7 @@ fn plan_usable(
     size: usize,
 ) -> AskPlan
     requires { ⌜ Shaped arenas pools (length (now memory)) (length (now books)) (length (now map)) × Class class size ⌝ }
-    ensures { λ r. ⌜ r ≡ frontOf (at (now (books .entry)) usableHead) arenas
-        (fromUsable 8 arenas pools (heapOf (now (memory .entry)) (now (books .entry)) (now (map .entry))) class)
-        (frontOf (at (now (books .entry)) unusedHead) arenas
-        (fromUnused 8 arenas pools (heapOf (now (memory .entry)) (now (books .entry)) (now (map .entry))) class) AskPlan.NoRoom) ⌝ }
+    ensures { λ r. ⌜ r ≡ planNew 8 arenas pools (heapOf (now (memory .entry)) (now (books .entry)) (now (map .entry))) class ⌝ }
 {
     let l = word(books, USABLE_HEAD);
     if l == 0 {
@@ -387,29 +284,6 @@ fn plan_usable(
     }
     if l <= arenas {
         return from_usable(memory, books, map, arenas, pools, class, size, l - 1);
-    }
-    AskPlan::Damaged
-}
-
-// The path of an ask for this class.
-pub fn plan_ask(
-    memory: &[u8],
-    books: &[u32],
-    map: &[u64],
-    arenas: usize,
-    pools: usize,
-    class: usize,
-    size: usize,
-) -> AskPlan
-    requires { ⌜ Shaped arenas pools (length (now memory)) (length (now books)) (length (now map)) × Class class size ⌝ }
-    ensures { λ r. ⌜ r ≡ planAsk 8 arenas pools (heapOf (now (memory .entry)) (now (books .entry)) (now (map .entry))) class ⌝ }
-{
-    let l = word(books, CLASS_HEADS + class);
-    if l == 0 {
-        return plan_usable(memory, books, map, arenas, pools, class, size);
-    }
-    if l <= arenas * pools {
-        return from_listed(memory, books, map, arenas, pools, class, size, l - 1);
     }
     AskPlan::Damaged
 }

@@ -8,8 +8,7 @@ use Prim.Native.Nat.{ℕ, _+_, _*_, _-_, _≤_, _<_}
 use native.Mathlib.Omega.{arith}
 use lib.ListN.{length, length-set}
 use lib.Seq.{getD-set-same, getD-set-other}
-use borrow.Author.Tests.{eq-eqb, ne-eqb}
-use Rattle.rules.specs.declared.Answer.{Answer}
+use borrow.Author.Tests.{eq-eqb, ne-eqb, le-ltb}
 use Rattle.rules.specs.declared.Source.{Source}
 use Rattle.rules.specs.declared.Source.the-variants.{Freed, Carved, Opened}
 use Rattle.rules.specs.Say.{_▷_}
@@ -22,6 +21,7 @@ use Rattle.books.specs.Lists.{pool-leaves, leave-keeps, length-leaveBy, length-
 use Rattle.books.specs.Records.{poolAt, putPool, taken, take-stored, other-word}
 use Rattle.books.specs.Starts.{Start, start-is}
 use Rattle.plans.specs.Fits.{Links, Gives, FitsSource}
+use Rattle.steps.specs.Answers.{answered}
 
 -- the books b′ are what the change f of a heap makes of the books b, whatever its memory and map hold
 pub record Writes (f : Heap → Heap) (b b′ : List ℕ) : Type 0 where
@@ -36,11 +36,11 @@ pub with-link : (g : List ℕ → List ℕ) (m m′ b k : List ℕ) (h : Heap) �
 with-link g m m′ b k h link left = ap (λ (x : List ℕ). heapOf x b k) link ∙ ap (onMemory g) left
 
 -- and last the bit of the block that is handed out, whose offset is the answer
-pub handed : (s p f : ℕ) (h h′ : Heap) (r : Answer) (k : List ℕ) → h ≡ h′ → r ≡ answerOf 0 (offsetOf p f)
+pub handed : (s p f : ℕ) (h h′ : Heap) (r : ℕ) (k : List ℕ) → 48 ≤ f → h ≡ h′ → r ≡ offsetOf p f
     → k ≡ putMapBit p (blockNo s f) 1 (h .map)
-    → outcome r (heapOf (h .memory) (h .books) k) ≡ outcome (answerOf 0 (offsetOf p f)) (onMap (putMapBit p (blockNo s f) 1) h′)
-handed s p f h h′ r k left answer set =
-    rw (answer, set) (ap (λ (x : Heap). outcome (answerOf 0 (offsetOf p f)) (onMap (putMapBit p (blockNo s f) 1) x)) left)
+    → outcome (answered r) (heapOf (h .memory) (h .books) k) ≡ outcome (answerOf 0 (offsetOf p f)) (onMap (putMapBit p (blockNo s f) 1) h′)
+handed s p f h h′ r k low left answer set =
+    rw (answer, set, le-ltb (offsetOf p f) 48 (omega arith)) (ap (λ (x : Heap). outcome (answerOf 0 (offsetOf p f)) (onMap (putMapBit p (blockNo s f) 1) x)) left)
 
 -- ---- what is known of a block and of a listed pool
 -- a start passes the test

@@ -1,14 +1,12 @@
-// The writes of an ask, in the order of the rules: a function for each part of a path.
+// An ask: from its class list, or from a new pool. Here are the writes of a new pool, in the order of the rules: a function for each part of a path.
+use crate::answers::hand_out;
+use crate::listed::ask_listed;
 use crate::lists::leave;
-use bits::set_bit;
-use books::blocks::block_no;
 use books::blocks::class_of;
 use books::blocks::size_of;
 use books::links::put_link;
 use books::lists::join_by;
-use books::lists::leave_by;
 use books::lists::link_to;
-use books::lists::pool_links;
 use books::pool::load_pool;
 use books::pool::store_pool;
 use books::words::ARENA_LINKS;
@@ -23,87 +21,24 @@ use books::words::OPEN;
 use books::words::RECORDS;
 use books::words::UNUSED_HEAD;
 use books::words::USABLE_HEAD;
-use plans::ask::plan_ask;
-use rules::Answer;
+use plans::ask::plan_new;
+use plans::words::word;
 use rules::AskPlan;
 use rules::Source;
 ghost use mathlib.Core.Path.{_≡_};
 ghost use Prim.Native.Nat.{ℕ, _+_, _*_, _<_, _≤_};
 ghost use lib.ListN.{length};
 ghost use Rattle.rules.specs.Say.{_▷_};
-ghost use Rattle.rules.specs.Books.{at, put, onBooks, putMapBit, usableHead, carveMark, freedHead, arenaWord, arena, count, freeblock, poolNext, poolPrevious, class as poolClass, nextoffset, maxnextoffset, poolWord, pool, putWord, rise, linkTo, offsetOf};
-ghost use Rattle.rules.specs.Blocks.{blockNo, putLink, lastStart};
-ghost use Rattle.rules.specs.Lists.{nextAt, previousAt, leave, arenaLinks, poolLinks, poolLeaves};
-ghost use Rattle.rules.specs.Outcome.{heapOf, answerOf, outcome};
+ghost use Rattle.rules.specs.Books.{at, put, onBooks, usableHead, carveMark, freedHead, arenaWord, arena, freeblock, poolNext, class as poolClass, nextoffset, maxnextoffset, poolWord, pool, putWord};
+ghost use Rattle.rules.specs.Blocks.{lastStart};
+ghost use Rattle.rules.specs.Lists.{arenaLinks};
+ghost use Rattle.rules.specs.Outcome.{heapOf, outcome};
 ghost use Rattle.rules.specs.Ask.{carve, takeFrom, arenaOf, spend, alone, asked, askStep};
 ghost use Rattle.books.specs.Known.{Shaped};
-ghost use Rattle.books.specs.Lists.{Within};
-ghost use Rattle.books.specs.Starts.{Start};
 ghost use Rattle.plans.specs.Class.{Class};
-ghost use Rattle.plans.specs.Fits.{Links, FitsSource, FitsAsk};
+ghost use Rattle.plans.specs.Fits.{Links, FitsSource, FitsNew};
+ghost use Rattle.steps.specs.Answers.{answered};
 ghost use Rattle.steps.specs.HandOut.{Writes, opened, Spends};
-
-// A refusal: the number, and offset 0.
-pub fn refuse(number: u32) -> Answer
-    ensures { λ r. ⌜ r ≡ answerOf number 0 ⌝ }
-{
-    Answer { number, offset: 0 }
-}
-
-// The block at f of pool p becomes live, and its offset is the answer.
-fn hand_out(map: &mut [u64], size: usize, p: usize, f: usize) -> Answer
-    requires { ⌜ (8 ≤ size) × (size ≤ 512) × Start size f × (p < 1024) × (8 * p + 8 ≤ length (now map)) ⌝ }
-    ensures { λ r. ⌜ (r ≡ answerOf 0 (offsetOf p f)) × (now (map .exit) ≡ putMapBit p (blockNo size f) 1 (now (map .entry))) ⌝ }
-{
-    set_bit(map, p, block_no(size, f));
-    Answer {
-        number: 0,
-        offset: (4096 * p + f) as u32,
-    }
-}
-
-// The freeblock of the listed pool p is taken, and its link l follows it.
-fn follow(books: &mut [u32], arenas: usize, p: usize, l: usize)
-    requires { ⌜ (poolWord arenas 8 p ≤ length (now books)) × (pool arenas (now books) count p ≤ 505) × (l ≤ 4096) ⌝ }
-    ensures { λ _. ⌜ Writes (λ h. h ▷ rise (poolWord arenas count p) ▷ putWord (poolWord arenas freeblock p) l)
-        (now (books .entry)) (now (books .exit)) ⌝ }
-{
-    let pool = load_pool(books, arenas, p);
-    store_pool(books, arenas, p, pool.take(l as u32));
-}
-
-// The freeblock of the listed pool p is taken, and the block at nextoffset m follows it.
-fn ready(memory: &mut [u8], books: &mut [u32], arenas: usize, size: usize, p: usize, m: usize)
-    requires { ⌜ (poolWord arenas 8 p ≤ length (now books)) × (pool arenas (now books) count p ≤ 505)
-        × (m ≡ pool arenas (now books) nextoffset p) × (m ≤ 4096) × (size ≤ 512) × (offsetOf p m + 4 ≤ length (now memory)) ⌝ }
-    ensures { λ _. ⌜ Writes (λ h. h ▷ rise (poolWord arenas count p) ▷ putWord (poolWord arenas freeblock p) m
-        ▷ putWord (poolWord arenas nextoffset p) (m + size)) (now (books .entry)) (now (books .exit))
-        × (now (memory .exit) ≡ putLink (offsetOf p m) 0 (now (memory .entry))) ⌝ }
-{
-    let pool = load_pool(books, arenas, p);
-    store_pool(books, arenas, p, pool.expose(size as u32));
-    put_link(memory, 4096 * p + m, 0);
-}
-
-// The freeblock of the listed pool p is taken, and with it the pool is full: it leaves its list.
-fn last(books: &mut [u32], arenas: usize, class: usize, p: usize)
-    requires { ⌜ (arenas ≤ 16) × (class ≤ 63) × (poolWord arenas 8 p ≤ length (now books)) × (pool arenas (now books) count p ≤ 505)
-        × Within (poolLinks arenas) (length (now books)) (pool arenas (now books) poolNext p)
-        × Within (poolLinks arenas) (length (now books)) (pool arenas (now books) poolPrevious p) ⌝ }
-    ensures { λ _. ⌜ Writes (λ h. h ▷ rise (poolWord arenas count p) ▷ putWord (poolWord arenas freeblock p) 0 ▷ poolLeaves arenas class p)
-        (now (books .entry)) (now (books .exit)) ⌝ }
-{
-    let pool = load_pool(books, arenas, p);
-    store_pool(books, arenas, p, pool.take(0));
-    leave_by(
-        books,
-        pool_links(arenas),
-        CLASS_HEADS + class,
-        pool.next,
-        pool.previous,
-        p,
-    );
-}
 
 // The first freed pool p of arena a is taken: the next one becomes the head.
 fn take_freed(books: &mut [u32], arenas: usize, a: usize, p: usize)
@@ -200,8 +135,8 @@ fn list_anew(books: &mut [u32], arenas: usize, class: usize, size: usize, p: usi
     store_pool(books, arenas, p, pool.anew(class as u32, size as u32));
 }
 
-// The writes of a planned path, and its answer.
-pub fn write_ask(
+// The writes of a planned path that takes a new pool, the class list being empty; and the answer.
+fn write_new(
     memory: &mut [u8],
     books: &mut [u32],
     map: &mut [u64],
@@ -210,27 +145,14 @@ pub fn write_ask(
     class: usize,
     size: usize,
     plan: AskPlan,
-) -> Answer
+) -> u32
     requires { ⌜ Shaped arenas pools (length (now memory)) (length (now books)) (length (now map)) × Class class size
-        × FitsAsk arenas pools size class (now books) (now map) plan ⌝ }
-    ensures { λ r. ⌜ outcome r (heapOf (now (memory .exit)) (now (books .exit)) (now (map .exit)))
+        × FitsNew arenas pools size class (now books) (now map) plan ⌝ }
+    ensures { λ r. ⌜ outcome (answered r) (heapOf (now (memory .exit)) (now (books .exit)) (now (map .exit)))
         ≡ asked 8 arenas pools class (heapOf (now (memory .entry)) (now (books .entry)) (now (map .entry))) plan ⌝ }
 {
     match plan {
-        AskPlan::NoRoom => return refuse(4),
-        AskPlan::Damaged => return refuse(6),
-        AskPlan::Follow(p, f, l) => {
-            follow(books, arenas, p, l);
-            return hand_out(map, size, p, f);
-        }
-        AskPlan::Ready(p, f, m) => {
-            ready(memory, books, arenas, size, p, m);
-            return hand_out(map, size, p, f);
-        }
-        AskPlan::Last(p, f) => {
-            last(books, arenas, class, p);
-            return hand_out(map, size, p, f);
-        }
+        AskPlan::NoRoom => return 4,
         AskPlan::Again(a, p, f, l) => {
             take_freed(books, arenas, a, p);
             spend(books, arenas, a);
@@ -245,6 +167,7 @@ pub fn write_ask(
             put_link(memory, 4096 * p + second, 0);
             return hand_out(map, size, p, 48);
         }
+        _ => return 6,
     }
 }
 
@@ -256,13 +179,20 @@ pub fn ask_step(
     arenas: usize,
     pools: usize,
     n: usize,
-) -> Answer
+) -> u32
     requires { ⌜ Shaped arenas pools (length (now memory)) (length (now books)) (length (now map)) × (1 ≤ n) × (n ≤ 512) ⌝ }
-    ensures { λ r. ⌜ outcome r (heapOf (now (memory .exit)) (now (books .exit)) (now (map .exit)))
+    ensures { λ r. ⌜ outcome (answered r) (heapOf (now (memory .exit)) (now (books .exit)) (now (map .exit)))
         ≡ askStep 8 arenas pools (heapOf (now (memory .entry)) (now (books .entry)) (now (map .entry))) n ⌝ }
 {
     let class = class_of(n);
     let size = size_of(class);
-    let plan = plan_ask(memory, books, map, arenas, pools, class, size);
-    write_ask(memory, books, map, arenas, pools, class, size, plan)
+    let l = word(books, CLASS_HEADS + class);
+    if l == 0 {
+        let plan = plan_new(memory, books, map, arenas, pools, class, size);
+        return write_new(memory, books, map, arenas, pools, class, size, plan);
+    }
+    if l <= arenas * pools {
+        return ask_listed(memory, books, map, arenas, pools, class, size, l - 1);
+    }
+    6
 }

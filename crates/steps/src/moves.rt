@@ -1,4 +1,5 @@
 // Resize: the offset is kept, or the block's bytes move to a new block and the old one is given back.
+use crate::answers::answer;
 use crate::hand_out::ask_step;
 use crate::put_back::back_step;
 use books::blocks::class_at;
@@ -94,7 +95,7 @@ pub fn resize_step(
             offset: offset as u32,
         };
     }
-    let asked = ask_step(memory, books, map, arenas, pools, n);
+    let asked = answer(ask_step(memory, books, map, arenas, pools, n));
     if asked.number != 0 {
         return asked;
     }

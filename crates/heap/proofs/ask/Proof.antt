@@ -1,13 +1,14 @@
 -- `heap::ask` meets its contract: it tests and then takes the step.
 -- Assumes nothing.
-use mathlib.Core.Path.{ap₂, _∙_}
+use mathlib.Core.Path.{ap, ap₂, _∙_}
 use Prim.Native.Nat.{ℕ}
 use native.Mathlib.Omega.{arith}
-use borrow.Author.Needs.{needs}
+use Rattle.rules.specs.declared.Answer.{Answer}
 use Rattle.rules.specs.Ask.{askStep}
 use Rattle.rules.specs.Numbers.{ask}
-use Rattle.rules.specs.Outcome.{heapOf}
+use Rattle.rules.specs.Outcome.{heapOf, outcome}
 use Rattle.steps.specs.Passing.{refusal, step}
+use borrow.Author.Needs.{needs}
 use Rattle.heap.proofs.ask.Statement.{statement}
 use Rattle.heap.proofs.ask.Tie as tie
 
@@ -28,16 +29,25 @@ same-length-3 c = search needs
 
 returns : tie.Need-returns
 unfolding ask
-returns c = refusal (heapOf (c .before .before .before .before .before .before .before .before .before .args .memory .now) (c .before .before .before .before .before .before .before .before .before .args .books .now) (c .before .before .before .before .before .before .before .before .before .args .map .now)) _ (c .refuse .result) (c .before .before .size-test .result) _ (c .refuse .ensures) (c .before .before .size-test .ensures .0) (c .before .if1 .taken)
+returns c =
+    let a = c .before .before .before .before .before .before .before .before .before .args in
+    let h = heapOf (a .memory .now) (a .books .now) (a .map .now) in
+    refusal h _ (c .refuse .result) (c .before .before .size-test .result) _ (c .refuse .ensures) (c .before .before .size-test .ensures .0) (c .before .if1 .taken)
 
 word-requires : tie.Need-word-requires
-word-requires c κs = let t = c .before .before .size-test .ensures .1 (c .before .if1 .left) in omega (arith, t .shaped .books)
+word-requires c κs =
+    let t = c .before .before .size-test .ensures .1 (c .before .if1 .left) in omega (arith, t .shaped .books)
 
 word-requires-2 : tie.Need-word-requires-2
-word-requires-2 c κs = let t = c .before .before .before .before .size-test .ensures .1 (c .before .before .before .if1 .left) in omega (arith, t .shaped .books)
+word-requires-2 c κs =
+    let t = c .before .before .before .before .size-test .ensures .1 (c .before .before .before .if1 .left) in omega (arith, t .shaped .books)
 
 ask-step-requires : tie.Need-ask-step-requires
-ask-step-requires c κs = let t = c .before .before .before .before .before .before .before .before .size-test .ensures .1 (c .before .before .before .before .before .before .before .if1 .left) in (rw (c .before .before .before .before .before .word .ensures .0, c .before .before .before .word2 .ensures .0) (t .shaped), t .low, t .high)
+ask-step-requires c κs =
+    let t = c .before .before .before .before .before .before .before .before .size-test .ensures .1 (c .before .before .before .before .before .before .before .if1 .left) in (rw (c .before .before .before .before .before .word .ensures .0, c .before .before .before .word2 .ensures .0) (t .shaped), t .low, t .high)
+
+answer-requires : tie.Need-answer-requires
+answer-requires c κs = search needs
 
 same-length-4 : tie.Need-same-length-4
 same-length-4 c = search needs
@@ -50,9 +60,16 @@ same-length-6 c = search needs
 
 returns-2 : tie.Need-returns-2
 unfolding ask
-returns-2 c = step (heapOf (c .before .before .before .before .before .before .before .before .before .before .before .before .before .before .before .before .before .before .before .before .before .before .args .memory .now) (c .before .before .before .before .before .before .before .before .before .before .before .before .before .before .before .before .before .before .before .before .before .before .args .books .now) (c .before .before .before .before .before .before .before .before .before .before .before .before .before .before .before .before .before .before .before .before .before .before .args .map .now)) _ _ (c .before .before .before .before .before .before .before .before .before .before .before .before .before .before .before .size-test .result) _
-    (c .before .before .before .before .before .before .ask-step .ensures ∙ ap₂ (λ (x y : ℕ). askStep 8 x y (heapOf (c .before .before .before .before .before .before .before .before .before .before .before .before .before .before .before .before .before .before .before .before .before .before .args .memory .now) (c .before .before .before .before .before .before .before .before .before .before .before .before .before .before .before .before .before .before .before .before .before .before .args .books .now) (c .before .before .before .before .before .before .before .before .before .before .before .before .before .before .before .before .before .before .before .before .before .before .args .map .now)) (c .before .before .before .before .before .before .before .before .before .before .before .before .before .before .before .before .before .before .before .before .before .before .args .size)) (c .before .before .before .before .before .before .before .before .before .before .before .before .word .ensures .0) (c .before .before .before .before .before .before .before .before .before .before .word2 .ensures .0))
-    (c .before .before .before .before .before .before .before .before .before .before .before .before .before .before .before .size-test .ensures .0) (c .before .before .before .before .before .before .before .before .before .before .before .before .before .before .if1 .left)
+returns-2 c =
+    let a = c .before .before .before .before .before .before .before .before .before .before .before .before .before .before .before .before .before .before .before .before .before .before .before .args in
+    let h = heapOf (a .memory .now) (a .books .now) (a .map .now) in
+    let after = heapOf (c .before .before .before .before .before .before .before .ask-step .last .0) (c .before .before .before .before .before .before .before .ask-step .last .1 .0) (c .before .before .before .before .before .before .before .ask-step .last .1 .1 .0) in
+    step h _ _ (c .before .before .before .before .before .before .before .before .before .before .before .before .before .before .before .before .size-test .result) _
+    (ap (λ (x : Answer). outcome x after) (c .answer .ensures)
+    ∙ c .before .before .before .before .before .before .before .ask-step .ensures
+    ∙ ap₂ (λ (x y : ℕ). askStep 8 x y h (a .size)) (c .before .before .before .before .before .before .before .before .before .before .before .before .before .word .ensures .0) (c .before .before .before .before .before .before .before .before .before .before .before .word2 .ensures .0))
+    (c .before .before .before .before .before .before .before .before .before .before .before .before .before .before .before .before .size-test .ensures .0)
+    (c .before .before .before .before .before .before .before .before .before .before .before .before .before .before .before .if1 .left)
 
 pub ask-spec : {M : Type 1} → statement M
 ask-spec =
@@ -67,6 +84,7 @@ ask-spec =
     word-requires
     word-requires-2
     ask-step-requires
+    answer-requires
     same-length-4
     same-length-5
     same-length-6

@@ -17,6 +17,12 @@ returns-2 : tie.Need-returns-2
 unfolding isStart
 returns-2 c = simp (le-leb _ _ (c .before .if1 .left), lt-leb _ _ (c .if2 .taken))
 
+cast-result : tie.Need-cast-result
+cast-result c = search needs
+
+cast-result-2 : tie.Need-cast-result-2
+cast-result-2 c = search needs
+
 rem-result : tie.Need-rem-result
 rem-result c = search needs
 
@@ -25,4 +31,5 @@ unfolding isStart
 returns-3 c = simp (le-leb _ _ (c .before .if1 .left), le-leb _ _ (c .if2 .left))
 
 pub is-start-spec : {M : Type 1} → statement M
-is-start-spec = tie.close (tie.spec sub-last returns returns-2 rem-result returns-3)
+is-start-spec =
+    tie.close (tie.spec sub-last returns returns-2 cast-result cast-result-2 rem-result returns-3)

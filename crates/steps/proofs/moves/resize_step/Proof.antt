@@ -3,11 +3,12 @@
 use mathlib.Core.Path.{_≡_, sym, ap, _∙_}
 use Prim.Native.Nat.{ℕ, min}
 use native.Mathlib.Omega.{arith}
-use borrow.Author.Needs.{needs}
+use Rattle.rules.specs.declared.Answer.{Answer}
 use Rattle.rules.specs.Blocks.{sizeOf, sizeAt}
-use Rattle.rules.specs.Outcome.{Outcome, heapOf}
+use Rattle.rules.specs.Outcome.{Outcome, heapOf, outcome}
 use Rattle.rules.specs.Resize.{keeps, copy, giveOld, halfDone, moved}
 use Rattle.steps.specs.Moves.{Moves, moves-apart, resize-kept, resize-moved, moved-refused, moved-done}
+use borrow.Author.Needs.{needs}
 use Rattle.steps.proofs.moves.resize_step.Statement.{statement}
 use Rattle.steps.proofs.moves.resize_step.Tie as tie
 
@@ -30,10 +31,17 @@ same-length : tie.Need-same-length
 same-length c = search needs
 
 returns : tie.Need-returns
-returns c = let h = heapOf (c .before .before .before .before .before .before .before .args .memory .now) (c .before .before .before .before .before .before .before .args .books .now) (c .before .before .before .before .before .before .before .args .map .now) in let s : c .before .size-of .result ≡ sizeAt 8 (c .before .before .before .before .before .before .before .args .arenas) (c .before .before .before .before .before .before .before .args .books .now) (c .before .before .before .before .before .before .before .args .offset) = c .before .size-of .ensures .0 ∙ ap (sizeOf 8) (c .before .before .class-at .ensures) in resize-kept 8 (c .before .before .before .before .before .before .before .args .arenas) (c .before .before .before .before .before .before .before .args .pools) h (c .before .before .before .before .before .before .before .args .offset) (c .before .before .before .before .before .before .before .args .n) (ap (λ (x : ℕ). keeps x (c .before .before .before .before .before .before .before .args .n)) (sym s) ∙ c .if1 .taken)
+returns c =
+    let a = c .before .before .before .before .before .before .before .args in
+    let h = heapOf (a .memory .now) (a .books .now) (a .map .now) in
+    let s : c .before .size-of .result ≡ sizeAt 8 (a .arenas) (a .books .now) (a .offset) = c .before .size-of .ensures .0 ∙ ap (sizeOf 8) (c .before .before .class-at .ensures) in
+    resize-kept 8 (a .arenas) (a .pools) h (a .offset) (a .n) (ap (λ (x : ℕ). keeps x (a .n)) (sym s) ∙ c .if1 .taken)
 
 ask-step-requires : tie.Need-ask-step-requires
 ask-step-requires c κs = search needs
+
+answer-requires : tie.Need-answer-requires
+answer-requires c κs = search needs
 
 same-length-2 : tie.Need-same-length-2
 same-length-2 c = search needs
@@ -45,7 +53,14 @@ same-length-4 : tie.Need-same-length-4
 same-length-4 c = search needs
 
 returns-2 : tie.Need-returns-2
-returns-2 c = let h = heapOf (c .before .before .before .before .before .before .before .before .before .before .before .before .before .before .before .before .before .before .before .args .memory .now) (c .before .before .before .before .before .before .before .before .before .before .before .before .before .before .before .before .before .before .before .args .books .now) (c .before .before .before .before .before .before .before .before .before .before .before .before .before .before .before .before .before .before .before .args .map .now) in let s : c .before .before .before .before .before .before .before .before .before .before .before .before .before .size-of .result ≡ sizeAt 8 (c .before .before .before .before .before .before .before .before .before .before .before .before .before .before .before .before .before .before .before .args .arenas) (c .before .before .before .before .before .before .before .before .before .before .before .before .before .before .before .before .before .before .before .args .books .now) (c .before .before .before .before .before .before .before .before .before .before .before .before .before .before .before .before .before .before .before .args .offset) = c .before .before .before .before .before .before .before .before .before .before .before .before .before .size-of .ensures .0 ∙ ap (sizeOf 8) (c .before .before .before .before .before .before .before .before .before .before .before .before .before .before .class-at .ensures) in moved-refused 8 (c .before .before .before .before .before .before .before .before .before .before .before .before .before .before .before .before .before .before .before .args .arenas) (c .before .before .before .before .before .before .before .before .before .before .before .before .before .before .before .before .before .before .before .args .pools) (c .before .before .before .before .before .before .before .before .before .before .before .before .before .before .before .before .before .before .before .args .offset) (min (c .before .before .before .before .before .before .before .before .before .before .before .before .before .before .before .before .before .before .before .args .n) (sizeAt 8 (c .before .before .before .before .before .before .before .before .before .before .before .before .before .before .before .before .before .before .before .args .arenas) (c .before .before .before .before .before .before .before .before .before .before .before .before .before .before .before .before .before .before .before .args .books .now) (c .before .before .before .before .before .before .before .before .before .before .before .before .before .before .before .before .before .before .before .args .offset))) (c .before .before .before .before .before .before .before .before .ask-step .result) (heapOf (c .before .before .before .before .before .before .before .before .ask-step .last .0) (c .before .before .before .before .before .before .before .before .ask-step .last .1 .0) (c .before .before .before .before .before .before .before .before .ask-step .last .1 .1 .0)) (c .if2 .taken) ∙ ap (moved 8 (c .before .before .before .before .before .before .before .before .before .before .before .before .before .before .before .before .before .before .before .args .arenas) (c .before .before .before .before .before .before .before .before .before .before .before .before .before .before .before .before .before .before .before .args .pools) (c .before .before .before .before .before .before .before .before .before .before .before .before .before .before .before .before .before .before .before .args .offset) (min (c .before .before .before .before .before .before .before .before .before .before .before .before .before .before .before .before .before .before .before .args .n) (sizeAt 8 (c .before .before .before .before .before .before .before .before .before .before .before .before .before .before .before .before .before .before .before .args .arenas) (c .before .before .before .before .before .before .before .before .before .before .before .before .before .before .before .before .before .before .before .args .books .now) (c .before .before .before .before .before .before .before .before .before .before .before .before .before .before .before .before .before .before .before .args .offset)))) (c .before .before .before .before .before .before .before .before .ask-step .ensures) ∙ resize-moved 8 (c .before .before .before .before .before .before .before .before .before .before .before .before .before .before .before .before .before .before .before .args .arenas) (c .before .before .before .before .before .before .before .before .before .before .before .before .before .before .before .before .before .before .before .args .pools) h (c .before .before .before .before .before .before .before .before .before .before .before .before .before .before .before .before .before .before .before .args .offset) (c .before .before .before .before .before .before .before .before .before .before .before .before .before .before .before .before .before .before .before .args .n) (ap (λ (x : ℕ). keeps x (c .before .before .before .before .before .before .before .before .before .before .before .before .before .before .before .before .before .before .before .args .n)) (sym s) ∙ c .before .before .before .before .before .before .before .before .before .before .before .before .if1 .left)
+returns-2 c =
+    let a = c .before .before .before .before .before .before .before .before .before .before .before .before .before .before .before .before .before .before .before .before .args in
+    let h = heapOf (a .memory .now) (a .books .now) (a .map .now) in
+    let s : c .before .before .before .before .before .before .before .before .before .before .before .before .before .before .size-of .result ≡ sizeAt 8 (a .arenas) (a .books .now) (a .offset) = c .before .before .before .before .before .before .before .before .before .before .before .before .before .before .size-of .ensures .0 ∙ ap (sizeOf 8) (c .before .before .before .before .before .before .before .before .before .before .before .before .before .before .before .class-at .ensures) in
+    let after = heapOf (c .before .before .before .before .before .before .before .before .before .ask-step .last .0) (c .before .before .before .before .before .before .before .before .before .ask-step .last .1 .0) (c .before .before .before .before .before .before .before .before .before .ask-step .last .1 .1 .0) in
+    let asked = ap (λ (x : Answer). outcome x after) (c .before .before .answer .ensures) ∙ c .before .before .before .before .before .before .before .before .before .ask-step .ensures in
+    let k = min (a .n) (sizeAt 8 (a .arenas) (a .books .now) (a .offset)) in
+    moved-refused 8 (a .arenas) (a .pools) (a .offset) k (c .before .before .answer .result) after (c .if2 .taken) ∙ ap (moved 8 (a .arenas) (a .pools) (a .offset) k) asked ∙ resize-moved 8 (a .arenas) (a .pools) h (a .offset) (a .n) (ap (λ (x : ℕ). keeps x (a .n)) (sym s) ∙ c .before .before .before .before .before .before .before .before .before .before .before .before .before .if1 .left)
 
 cast-to : tie.Need-cast-to
 cast-to c = search needs
@@ -54,12 +69,17 @@ least-requires : tie.Need-least-requires
 least-requires c κs = search needs
 
 move-block-requires : tie.Need-move-block-requires
-move-block-requires c κs = let h = heapOf (c .before .before .before .before .before .before .before .before .before .before .before .before .before .before .before .before .before .before .before .before .before .before .before .before .args .memory .now) (c .before .before .before .before .before .before .before .before .before .before .before .before .before .before .before .before .before .before .before .before .before .before .before .before .args .books .now) (c .before .before .before .before .before .before .before .before .before .before .before .before .before .before .before .before .before .before .before .before .before .before .before .before .args .map .now) in let s : c .before .before .before .before .before .before .before .before .before .before .before .before .before .before .before .before .before .before .size-of .result ≡ sizeAt 8 (c .before .before .before .before .before .before .before .before .before .before .before .before .before .before .before .before .before .before .before .before .before .before .before .before .args .arenas) (c .before .before .before .before .before .before .before .before .before .before .before .before .before .before .before .before .before .before .before .before .before .before .before .before .args .books .now) (c .before .before .before .before .before .before .before .before .before .before .before .before .before .before .before .before .before .before .before .before .before .before .before .before .args .offset) = c .before .before .before .before .before .before .before .before .before .before .before .before .before .before .before .before .before .before .size-of .ensures .0 ∙ ap (sizeOf 8) (c .before .before .before .before .before .before .before .before .before .before .before .before .before .before .before .before .before .before .before .class-at .ensures) in
-    let done = ap (λ (x : Outcome). x .answer .number) (c .before .before .before .before .before .before .before .before .before .before .before .before .before .ask-step .ensures) in
-    let place = ap (λ (x : Outcome). x .answer .offset) (c .before .before .before .before .before .before .before .before .before .before .before .before .before .ask-step .ensures) in
-    let v = moves-apart 8 (c .before .before .before .before .before .before .before .before .before .before .before .before .before .before .before .before .before .before .before .before .before .before .before .before .args .arenas) (c .before .before .before .before .before .before .before .before .before .before .before .before .before .before .before .before .before .before .before .before .before .before .before .before .args .pools) h (c .before .before .before .before .before .before .before .before .before .before .before .before .before .before .before .before .before .before .before .before .before .before .before .before .args .offset) (c .before .before .before .before .before .before .before .before .before .before .before .before .before .before .before .before .before .before .before .before .before .before .before .before .args .n) (omega arith) (c .before .before .before .before .before .before .before .before .before .before .before .before .before .before .before .before .before .before .before .before .before .before .before .before .pre .1) (sym done ∙ c .before .before .before .before .before .if2 .left) in
-    let k : c .least .result ≡ (min (c .before .before .before .before .before .before .before .before .before .before .before .before .before .before .before .before .before .before .before .before .before .before .before .before .args .n) (sizeAt 8 (c .before .before .before .before .before .before .before .before .before .before .before .before .before .before .before .before .before .before .before .before .before .before .before .before .args .arenas) (c .before .before .before .before .before .before .before .before .before .before .before .before .before .before .before .before .before .before .before .before .before .before .before .before .args .books .now) (c .before .before .before .before .before .before .before .before .before .before .before .before .before .before .before .before .before .before .before .before .before .before .before .before .args .offset))) = c .least .ensures ∙ ap (min (c .before .before .before .before .before .before .before .before .before .before .before .before .before .before .before .before .before .before .before .before .before .before .before .before .args .n)) s in
-    let w : Moves (c .before .before .before .before .before .before .before .before .before .before .before .before .before .before .before .before .before .before .before .before .before .before .before .before .args .arenas) (c .before .before .before .before .before .before .before .before .before .before .before .before .before .before .before .before .before .before .before .before .before .before .before .before .args .pools) (c .before .before .before .before .before .before .before .before .before .before .before .before .before .before .before .before .before .before .before .before .before .before .before .before .args .offset) (c .before .before .before .before .before .before .before .before .before .before .before .before .before .ask-step .result .offset) (c .least .result) = rw (place, k) v in (
+move-block-requires c κs =
+    let h = heapOf (c .before .before .before .before .before .before .before .before .before .before .before .before .before .before .before .before .before .before .before .before .before .before .before .before .before .args .memory .now) (c .before .before .before .before .before .before .before .before .before .before .before .before .before .before .before .before .before .before .before .before .before .before .before .before .before .args .books .now) (c .before .before .before .before .before .before .before .before .before .before .before .before .before .before .before .before .before .before .before .before .before .before .before .before .before .args .map .now) in
+    let s : c .before .before .before .before .before .before .before .before .before .before .before .before .before .before .before .before .before .before .before .size-of .result ≡ sizeAt 8 (c .before .before .before .before .before .before .before .before .before .before .before .before .before .before .before .before .before .before .before .before .before .before .before .before .before .args .arenas) (c .before .before .before .before .before .before .before .before .before .before .before .before .before .before .before .before .before .before .before .before .before .before .before .before .before .args .books .now) (c .before .before .before .before .before .before .before .before .before .before .before .before .before .before .before .before .before .before .before .before .before .before .before .before .before .args .offset) = c .before .before .before .before .before .before .before .before .before .before .before .before .before .before .before .before .before .before .before .size-of .ensures .0 ∙ ap (sizeOf 8) (c .before .before .before .before .before .before .before .before .before .before .before .before .before .before .before .before .before .before .before .before .class-at .ensures) in
+    let after = heapOf (c .before .before .before .before .before .before .before .before .before .before .before .before .before .before .ask-step .last .0) (c .before .before .before .before .before .before .before .before .before .before .before .before .before .before .ask-step .last .1 .0) (c .before .before .before .before .before .before .before .before .before .before .before .before .before .before .ask-step .last .1 .1 .0) in
+    let asked = ap (λ (x : Answer). outcome x after) (c .before .before .before .before .before .before .before .answer .ensures) ∙ c .before .before .before .before .before .before .before .before .before .before .before .before .before .before .ask-step .ensures in
+    let k = min (c .before .before .before .before .before .before .before .before .before .before .before .before .before .before .before .before .before .before .before .before .before .before .before .before .before .args .n) (sizeAt 8 (c .before .before .before .before .before .before .before .before .before .before .before .before .before .before .before .before .before .before .before .before .before .before .before .before .before .args .arenas) (c .before .before .before .before .before .before .before .before .before .before .before .before .before .before .before .before .before .before .before .before .before .before .before .before .before .args .books .now) (c .before .before .before .before .before .before .before .before .before .before .before .before .before .before .before .before .before .before .before .before .before .before .before .before .before .args .offset)) in
+    let done = ap (λ (x : Outcome). x .answer .number) asked in
+    let place = ap (λ (x : Outcome). x .answer .offset) asked in
+    let v = moves-apart 8 (c .before .before .before .before .before .before .before .before .before .before .before .before .before .before .before .before .before .before .before .before .before .before .before .before .before .args .arenas) (c .before .before .before .before .before .before .before .before .before .before .before .before .before .before .before .before .before .before .before .before .before .before .before .before .before .args .pools) h (c .before .before .before .before .before .before .before .before .before .before .before .before .before .before .before .before .before .before .before .before .before .before .before .before .before .args .offset) (c .before .before .before .before .before .before .before .before .before .before .before .before .before .before .before .before .before .before .before .before .before .before .before .before .before .args .n) (omega arith) (c .before .before .before .before .before .before .before .before .before .before .before .before .before .before .before .before .before .before .before .before .before .before .before .before .before .pre .1) (sym done ∙ c .before .before .before .before .before .if2 .left) in
+    let few : c .least .result ≡ k = c .least .ensures ∙ ap (min (c .before .before .before .before .before .before .before .before .before .before .before .before .before .before .before .before .before .before .before .before .before .before .before .before .before .args .n)) s in
+    let w : Moves (c .before .before .before .before .before .before .before .before .before .before .before .before .before .before .before .before .before .before .before .before .before .before .before .before .before .args .arenas) (c .before .before .before .before .before .before .before .before .before .before .before .before .before .before .before .before .before .before .before .before .before .before .before .before .before .args .pools) (c .before .before .before .before .before .before .before .before .before .before .before .before .before .before .before .before .before .before .before .before .before .before .before .before .before .args .offset) (c .before .before .before .before .before .before .before .answer .result .offset) (c .least .result) = rw (place, few) v in (
       record { arenas-low = omega arith; arenas-high = omega arith; pools-low = omega arith; pools-high = omega arith; all = omega arith; memory = omega arith; books = omega arith; map = omega arith },
       omega (arith, w .old-inside),
       omega (arith, w .new-inside),
@@ -77,10 +97,16 @@ same-length-7 : tie.Need-same-length-7
 same-length-7 c = search needs
 
 returns-3 : tie.Need-returns-3
-returns-3 c = let h = heapOf (c .before .before .before .before .before .before .before .before .before .before .before .before .before .before .before .before .before .before .before .before .before .before .before .before .before .before .before .before .before .before .before .args .memory .now) (c .before .before .before .before .before .before .before .before .before .before .before .before .before .before .before .before .before .before .before .before .before .before .before .before .before .before .before .before .before .before .before .args .books .now) (c .before .before .before .before .before .before .before .before .before .before .before .before .before .before .before .before .before .before .before .before .before .before .before .before .before .before .before .before .before .before .before .args .map .now) in let s : c .before .before .before .before .before .before .before .before .before .before .before .before .before .before .before .before .before .before .before .before .before .before .before .before .before .size-of .result ≡ sizeAt 8 (c .before .before .before .before .before .before .before .before .before .before .before .before .before .before .before .before .before .before .before .before .before .before .before .before .before .before .before .before .before .before .before .args .arenas) (c .before .before .before .before .before .before .before .before .before .before .before .before .before .before .before .before .before .before .before .before .before .before .before .before .before .before .before .before .before .before .before .args .books .now) (c .before .before .before .before .before .before .before .before .before .before .before .before .before .before .before .before .before .before .before .before .before .before .before .before .before .before .before .before .before .before .before .args .offset) = c .before .before .before .before .before .before .before .before .before .before .before .before .before .before .before .before .before .before .before .before .before .before .before .before .before .size-of .ensures .0 ∙ ap (sizeOf 8) (c .before .before .before .before .before .before .before .before .before .before .before .before .before .before .before .before .before .before .before .before .before .before .before .before .before .before .class-at .ensures) in
+returns-3 c =
+    let a = c .before .before .before .before .before .before .before .before .before .before .before .before .before .before .before .before .before .before .before .before .before .before .before .before .before .before .before .before .before .before .before .before .args in
+    let h = heapOf (a .memory .now) (a .books .now) (a .map .now) in
+    let s : c .before .before .before .before .before .before .before .before .before .before .before .before .before .before .before .before .before .before .before .before .before .before .before .before .before .before .size-of .result ≡ sizeAt 8 (a .arenas) (a .books .now) (a .offset) = c .before .before .before .before .before .before .before .before .before .before .before .before .before .before .before .before .before .before .before .before .before .before .before .before .before .before .size-of .ensures .0 ∙ ap (sizeOf 8) (c .before .before .before .before .before .before .before .before .before .before .before .before .before .before .before .before .before .before .before .before .before .before .before .before .before .before .before .class-at .ensures) in
+    let after = heapOf (c .before .before .before .before .before .before .before .before .before .before .before .before .before .before .before .before .before .before .before .before .before .ask-step .last .0) (c .before .before .before .before .before .before .before .before .before .before .before .before .before .before .before .before .before .before .before .before .before .ask-step .last .1 .0) (c .before .before .before .before .before .before .before .before .before .before .before .before .before .before .before .before .before .before .before .before .before .ask-step .last .1 .1 .0) in
+    let asked = ap (λ (x : Answer). outcome x after) (c .before .before .before .before .before .before .before .before .before .before .before .before .before .before .answer .ensures) ∙ c .before .before .before .before .before .before .before .before .before .before .before .before .before .before .before .before .before .before .before .before .before .ask-step .ensures in
+    let k = min (a .n) (sizeAt 8 (a .arenas) (a .books .now) (a .offset)) in
     c .before .before .before .before .before .before .move-block .ensures
-    ∙ ap (λ (k : ℕ). halfDone 8 (c .before .before .before .before .before .before .before .before .before .before .before .before .before .before .before .before .before .before .before .before .before .before .before .before .before .before .before .before .before .before .before .args .arenas) (c .before .before .before .before .before .before .before .before .before .before .before .before .before .before .before .before .before .before .before .before .before .before .before .before .before .before .before .before .before .before .before .args .pools) (c .before .before .before .before .before .before .before .before .before .before .before .before .before .before .before .before .before .before .before .before .ask-step .result .offset) (giveOld 8 (c .before .before .before .before .before .before .before .before .before .before .before .before .before .before .before .before .before .before .before .before .before .before .before .before .before .before .before .before .before .before .before .args .arenas) (c .before .before .before .before .before .before .before .before .before .before .before .before .before .before .before .before .before .before .before .before .before .before .before .before .before .before .before .before .before .before .before .args .pools) (copy (c .before .before .before .before .before .before .before .before .before .before .before .before .before .before .before .before .before .before .before .before .before .before .before .before .before .before .before .before .before .before .before .args .offset) (c .before .before .before .before .before .before .before .before .before .before .before .before .before .before .before .before .before .before .before .before .ask-step .result .offset) k (heapOf (c .before .before .before .before .before .before .before .before .before .before .before .before .before .before .before .before .before .before .before .before .ask-step .last .0) (c .before .before .before .before .before .before .before .before .before .before .before .before .before .before .before .before .before .before .before .before .ask-step .last .1 .0) (c .before .before .before .before .before .before .before .before .before .before .before .before .before .before .before .before .before .before .before .before .ask-step .last .1 .1 .0))) (c .before .before .before .before .before .before .before .before .before .before .before .before .before .before .before .before .before .before .before .before .before .before .before .before .before .before .before .before .before .before .before .args .offset))) (c .before .before .before .before .before .before .before .least .ensures ∙ ap (min (c .before .before .before .before .before .before .before .before .before .before .before .before .before .before .before .before .before .before .before .before .before .before .before .before .before .before .before .before .before .before .before .args .n)) s)
-    ∙ moved-done 8 (c .before .before .before .before .before .before .before .before .before .before .before .before .before .before .before .before .before .before .before .before .before .before .before .before .before .before .before .before .before .before .before .args .arenas) (c .before .before .before .before .before .before .before .before .before .before .before .before .before .before .before .before .before .before .before .before .before .before .before .before .before .before .before .before .before .before .before .args .pools) (c .before .before .before .before .before .before .before .before .before .before .before .before .before .before .before .before .before .before .before .before .before .before .before .before .before .before .before .before .before .before .before .args .offset) (min (c .before .before .before .before .before .before .before .before .before .before .before .before .before .before .before .before .before .before .before .before .before .before .before .before .before .before .before .before .before .before .before .args .n) (sizeAt 8 (c .before .before .before .before .before .before .before .before .before .before .before .before .before .before .before .before .before .before .before .before .before .before .before .before .before .before .before .before .before .before .before .args .arenas) (c .before .before .before .before .before .before .before .before .before .before .before .before .before .before .before .before .before .before .before .before .before .before .before .before .before .before .before .before .before .before .before .args .books .now) (c .before .before .before .before .before .before .before .before .before .before .before .before .before .before .before .before .before .before .before .before .before .before .before .before .before .before .before .before .before .before .before .args .offset))) (c .before .before .before .before .before .before .before .before .before .before .before .before .before .before .before .before .before .before .before .before .ask-step .result) (heapOf (c .before .before .before .before .before .before .before .before .before .before .before .before .before .before .before .before .before .before .before .before .ask-step .last .0) (c .before .before .before .before .before .before .before .before .before .before .before .before .before .before .before .before .before .before .before .before .ask-step .last .1 .0) (c .before .before .before .before .before .before .before .before .before .before .before .before .before .before .before .before .before .before .before .before .ask-step .last .1 .1 .0)) (c .before .before .before .before .before .before .before .before .before .before .before .before .if2 .left) ∙ ap (moved 8 (c .before .before .before .before .before .before .before .before .before .before .before .before .before .before .before .before .before .before .before .before .before .before .before .before .before .before .before .before .before .before .before .args .arenas) (c .before .before .before .before .before .before .before .before .before .before .before .before .before .before .before .before .before .before .before .before .before .before .before .before .before .before .before .before .before .before .before .args .pools) (c .before .before .before .before .before .before .before .before .before .before .before .before .before .before .before .before .before .before .before .before .before .before .before .before .before .before .before .before .before .before .before .args .offset) (min (c .before .before .before .before .before .before .before .before .before .before .before .before .before .before .before .before .before .before .before .before .before .before .before .before .before .before .before .before .before .before .before .args .n) (sizeAt 8 (c .before .before .before .before .before .before .before .before .before .before .before .before .before .before .before .before .before .before .before .before .before .before .before .before .before .before .before .before .before .before .before .args .arenas) (c .before .before .before .before .before .before .before .before .before .before .before .before .before .before .before .before .before .before .before .before .before .before .before .before .before .before .before .before .before .before .before .args .books .now) (c .before .before .before .before .before .before .before .before .before .before .before .before .before .before .before .before .before .before .before .before .before .before .before .before .before .before .before .before .before .before .before .args .offset)))) (c .before .before .before .before .before .before .before .before .before .before .before .before .before .before .before .before .before .before .before .before .ask-step .ensures) ∙ resize-moved 8 (c .before .before .before .before .before .before .before .before .before .before .before .before .before .before .before .before .before .before .before .before .before .before .before .before .before .before .before .before .before .before .before .args .arenas) (c .before .before .before .before .before .before .before .before .before .before .before .before .before .before .before .before .before .before .before .before .before .before .before .before .before .before .before .before .before .before .before .args .pools) h (c .before .before .before .before .before .before .before .before .before .before .before .before .before .before .before .before .before .before .before .before .before .before .before .before .before .before .before .before .before .before .before .args .offset) (c .before .before .before .before .before .before .before .before .before .before .before .before .before .before .before .before .before .before .before .before .before .before .before .before .before .before .before .before .before .before .before .args .n) (ap (λ (x : ℕ). keeps x (c .before .before .before .before .before .before .before .before .before .before .before .before .before .before .before .before .before .before .before .before .before .before .before .before .before .before .before .before .before .before .before .args .n)) (sym s) ∙ c .before .before .before .before .before .before .before .before .before .before .before .before .before .before .before .before .before .before .before .before .before .before .before .before .if1 .left)
+    ∙ ap (λ (n : ℕ). halfDone 8 (a .arenas) (a .pools) (c .before .before .before .before .before .before .before .before .before .before .before .before .before .before .answer .result .offset) (giveOld 8 (a .arenas) (a .pools) (copy (a .offset) (c .before .before .before .before .before .before .before .before .before .before .before .before .before .before .answer .result .offset) n after) (a .offset))) (c .before .before .before .before .before .before .before .least .ensures ∙ ap (min (a .n)) s)
+    ∙ moved-done 8 (a .arenas) (a .pools) (a .offset) k (c .before .before .before .before .before .before .before .before .before .before .before .before .before .before .answer .result) after (c .before .before .before .before .before .before .before .before .before .before .before .before .if2 .left) ∙ ap (moved 8 (a .arenas) (a .pools) (a .offset) k) asked ∙ resize-moved 8 (a .arenas) (a .pools) h (a .offset) (a .n) (ap (λ (x : ℕ). keeps x (a .n)) (sym s) ∙ c .before .before .before .before .before .before .before .before .before .before .before .before .before .before .before .before .before .before .before .before .before .before .before .before .before .if1 .left)
 
 pub resize-step-spec : {M : Type 1} → statement M
 resize-step-spec =
@@ -94,6 +120,7 @@ resize-step-spec =
     same-length
     returns
     ask-step-requires
+    answer-requires
     same-length-2
     same-length-3
     same-length-4

@@ -1,4 +1,4 @@
--- `steps::hand_out::ready` stores the record whose next block was exposed, which writes count, freeblock and nextoffset alone.
+-- `steps::listed::ready` stores the record whose next block was exposed, which writes count, freeblock and nextoffset alone.
 -- Assumes nothing.
 use mathlib.Core.Path.{ap}
 use mathlib.Core.List.{List}
@@ -7,8 +7,8 @@ use native.Mathlib.Omega.{arith}
 use borrow.Author.Needs.{needs}
 use Rattle.rules.specs.Outcome.{heapOf}
 use Rattle.books.specs.Records.{expose-stored}
-use Rattle.steps.proofs.hand_out.ready.Statement.{statement}
-use Rattle.steps.proofs.hand_out.ready.Tie as tie
+use Rattle.steps.proofs.listed.ready.Statement.{statement}
+use Rattle.steps.proofs.listed.ready.Tie as tie
 
 load-pool-requires : tie.Need-load-pool-requires
 load-pool-requires c κs = search needs

@@ -1,4 +1,4 @@
--- `steps::hand_out::last` stores the record, and the pool leaves by the links that it was loaded with.
+-- `steps::listed::last` stores the record, and the pool leaves by the links that it was loaded with.
 -- Assumes nothing.
 use mathlib.Core.Path.{ap}
 use mathlib.Core.List.{List}
@@ -8,8 +8,8 @@ use borrow.Author.Needs.{needs}
 use Rattle.rules.specs.Books.{classHead}
 use Rattle.rules.specs.Outcome.{heapOf}
 use Rattle.steps.specs.HandOut.{taken-leaves}
-use Rattle.steps.proofs.hand_out.last.Statement.{statement}
-use Rattle.steps.proofs.hand_out.last.Tie as tie
+use Rattle.steps.proofs.listed.last.Statement.{statement}
+use Rattle.steps.proofs.listed.last.Tie as tie
 
 load-pool-requires : tie.Need-load-pool-requires
 load-pool-requires c κs = search needs

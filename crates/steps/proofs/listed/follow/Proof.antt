@@ -1,4 +1,4 @@
--- `steps::hand_out::follow` stores the record of which a block was taken, which writes count and freeblock alone.
+-- `steps::listed::follow` stores the record of which a block was taken, which writes count and freeblock alone.
 -- Assumes nothing.
 use mathlib.Core.Path.{ap}
 use mathlib.Core.List.{List}
@@ -6,8 +6,8 @@ use Prim.Native.Nat.{ℕ}
 use borrow.Author.Needs.{needs}
 use Rattle.rules.specs.Outcome.{heapOf}
 use Rattle.books.specs.Records.{take-stored}
-use Rattle.steps.proofs.hand_out.follow.Statement.{statement}
-use Rattle.steps.proofs.hand_out.follow.Tie as tie
+use Rattle.steps.proofs.listed.follow.Statement.{statement}
+use Rattle.steps.proofs.listed.follow.Tie as tie
 
 load-pool-requires : tie.Need-load-pool-requires
 load-pool-requires c κs = search needs

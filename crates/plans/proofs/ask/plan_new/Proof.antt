@@ -1,10 +1,10 @@
--- `plans::ask::plan_usable` meets its contract: it takes the path that the rules take by the usable head: none, one of the arenas, or none of them.
+-- `plans::ask::plan_new` meets its contract: it takes the path that the rules take by the usable head: none, one of the arenas, or none of them.
 -- Assumes nothing.
 use native.Mathlib.Omega.{arith}
 use borrow.Author.Needs.{needs}
 use borrow.Author.Tests.{le-leb, lt-leb, eq-eqb, ne-eqb}
-use Rattle.plans.proofs.ask.plan_usable.Statement.{statement}
-use Rattle.plans.proofs.ask.plan_usable.Tie as tie
+use Rattle.plans.proofs.ask.plan_new.Statement.{statement}
+use Rattle.plans.proofs.ask.plan_new.Tie as tie
 
 word-requires : tie.Need-word-requires
 word-requires c κs = search needs
@@ -27,8 +27,8 @@ returns-2 c = rw (← c .before .before .before .word .ensures .0, ne-eqb (c .be
 returns-3 : tie.Need-returns-3
 returns-3 c = rw (← c .before .before .word .ensures .0, ne-eqb (c .before .before .word .result) 0 (omega arith), lt-leb (c .before .before .word .result) (c .before .before .before .before .before .before .args .arenas) (omega arith))
 
-pub plan-usable-spec : {M : Type 1} → statement M
-plan-usable-spec =
+pub plan-new-spec : {M : Type 1} → statement M
+plan-new-spec =
     tie.close
     (tie.spec
     word-requires
