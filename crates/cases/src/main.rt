@@ -153,6 +153,7 @@ fn pool(books: &[u32]) {
 
 // ---- K1 to K10, in a fresh heap of one arena of 16 pools
 
+// Its memory, books and map: 16 times 4,096 bytes, 72 + 8 + 8 times 16 words, 8 times 16 words.
 type Memory = [u8; 65536];
 
 type Books = [u32; 208];

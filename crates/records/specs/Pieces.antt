@@ -206,7 +206,7 @@ module _ (h : Heap) (input output : List ℕ) where
   abbrev pub replies : List ℕ
   replies = replayRecords 8 (length input / 16) h input
 
-  pub replies-long : length replies ≡ 16 * recordsIn (length input)
+  replies-long : length replies ≡ 16 * recordsIn (length input)
   replies-long =
       sym (ap (λ (x : Replied). length (x .reply)) (replies-are h input)) ∙ turns-long (recordsIn (length input)) h input
 
@@ -259,6 +259,16 @@ part-is l i to e =
     up-to n xs (yes q) = ap (λ (k : ℕ). take k xs) (min-eq-right q) ∙ take-all (length xs) xs (omega arith) ∙ sym (take-all n xs q)
     up-to n xs (no q) = let r : n ≤ length xs = omega arith in ap (λ (k : ℕ). take k xs) (min-eq-left r)
 
+-- ---- a piece of one record, whole or short, gets that record's reply
+pub one-record : (h : Heap) (r : List ℕ) → 0 < length r → length r ≤ 16 → replayRecords 8 (length r / 16) h r ≡ replayRecord 8 h r .reply
+unfolding turns
+one-record h r low high =
+    let one : recordsIn (length r) ≡ 1 = omega arith in
+    sym (ap (λ (x : Replied). x .reply) (replies-are h r))
+    ∙ ap (λ (n : ℕ). turns n h r .reply) one
+    ∙ append-nil (replayRecord 8 h (take 16 r) .reply)
+    ∙ ap (λ (l : List ℕ). replayRecord 8 h l .reply) (take-all 16 r high)
+
 -- ---- a replay in pieces: k records in the bytes xs, and then the rest
 -- the first of one record more
 module _ (k : ℕ) (xs ys : List ℕ) (e : length xs ≡ 16 * suc k) where
@@ -283,17 +293,6 @@ in-pieces (suc k) j h xs ys e =
     ∙ ap₂ (λ (u v : List ℕ). replayRecord 8 h u .reply ++ replayRecords 8 (k + j) (replayRecord 8 h u .heap) v) (first-record k xs ys e) (rest-after k xs ys e)
     ∙ ap (λ (l : List ℕ). r .reply ++ l) (in-pieces k j (r .heap) (drop 16 xs) ys (fewer k xs ys e))
     ∙ sym (append-assoc (r .reply) (replayRecords 8 k (r .heap) (drop 16 xs)) (replayRecords 8 j (heapAfter k (r .heap) (drop 16 xs)) ys))
-
-pub heap-in-pieces : (k j : ℕ) (h : Heap) (xs ys : List ℕ) → length xs ≡ 16 * k → heapAfter (k + j) h (xs ++ ys) ≡ heapAfter j (heapAfter k h xs) ys
-unfolding heapAfter
-heap-in-pieces zero j h [] ys e = let z : 0 + j ≡ j = omega arith in ap (λ (n : ℕ). heapAfter n h ys) z
-heap-in-pieces zero j h (x ∷ xs) ys e = absurd (omega arith)
-heap-in-pieces (suc k) j h xs ys e =
-    let r = replayRecord 8 h (take 16 xs) in
-    let z : suc k + j ≡ suc (k + j) = omega arith in
-    ap (λ (n : ℕ). heapAfter n h (xs ++ ys)) z
-    ∙ ap₂ (λ (u v : List ℕ). heapAfter (k + j) (replayRecord 8 h u .heap) v) (first-record k xs ys e) (rest-after k xs ys e)
-    ∙ heap-in-pieces k j (r .heap) (drop 16 xs) ys (fewer k xs ys e)
 
 -- the pieces ps, each of whole records, and the rest: all of their bytes, and all of their replies
 abbrev pub joined : List (List ℕ) → List ℕ → List ℕ

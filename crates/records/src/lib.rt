@@ -221,13 +221,13 @@ fn put_reply(output: &mut [u8], at: usize, reply: Reply)
 
 // ---- a piece of a replay
 
-// Where the record that starts at `from` ends: sixteen bytes on, or where the input ends.
-fn end_of(from: usize, length: usize) -> usize
-    requires { ⌜ from ≤ length ⌝ }
-    ensures { λ r. ⌜ r ≡ from + min 16 (length - from) ⌝ }
+// Where the record that starts at `from` ends: sixteen bytes on, or where all the input ends.
+fn end_of(from: usize, all: usize) -> usize
+    requires { ⌜ from ≤ all ⌝ }
+    ensures { λ r. ⌜ r ≡ from + min 16 (all - from) ⌝ }
 {
-    if length - from < 16 {
-        return length;
+    if all - from < 16 {
+        return all;
     }
     from + 16
 }

@@ -1,5 +1,6 @@
 // Replays records: standard input to standard output, over a fresh heap of one arena of 16 pools. Whole records are answered as they arrive,
 // however the input comes in pieces; what is left of the last one waits for the next read.
+use books::words::RECORDS;
 use libc::STDIN_FILENO;
 use libc::STDOUT_FILENO;
 use loops::copy_within;
@@ -11,6 +12,17 @@ ghost use Rattle.rules.specs.Outcome.{heapOf};
 ghost use Rattle.records.specs.Replies.{Whole};
 ghost use Rattle.records.specs.Pieces.{recordsIn};
 ghost use Rattle.replay.specs.Turns.{Answered, Lent, NextKept};
+
+// One arena of 16 pools, and the lengths of its three buffers.
+const ARENAS: usize = 1;
+
+const POOLS: usize = 16;
+
+const MEMORY: usize = ARENAS * POOLS * 4096;
+
+const BOOKS: usize = RECORDS + 8 * ARENAS + 8 * ARENAS * POOLS;
+
+const MAP: usize = 8 * ARENAS * POOLS;
 
 // What a turn leaves to do: to read on, after so many bytes of a record that has not arrived whole, or to stop.
 enum Next {
@@ -120,12 +132,13 @@ fn replay_all(
     }
 }
 
+// The lengths are exact, so the format is done: the proof of what `replay_all` requires rests on it.
 fn main() {
-    let mut memory = [0u8; 65536];
-    let mut books = [0u32; 208];
-    let mut map = [0u64; 128];
+    let mut memory = [0u8; MEMORY];
+    let mut books = [0u32; BOOKS];
+    let mut map = [0u64; MAP];
     let mut input = io::large_buffer();
     let mut output = io::large_buffer();
-    heap::format(&memory, &mut books, &mut map, 1, 16);
+    heap::format(&memory, &mut books, &mut map, ARENAS, POOLS);
     replay_all(&mut memory, &mut books, &mut map, &mut input, &mut output);
 }

@@ -3,8 +3,8 @@
 use mathlib.Core.Logic.{⊎-elim}
 use mathlib.Core.Path.{_≡_, refl, _∙_}
 use Prim.Native.Nat.{_-_, _≤_}
-use lib.ListN.{length}
 use native.Mathlib.Omega.{arith}
+use lib.ListN.{length}
 use Rattle.cases.proofs.served.Statement.{statement}
 use Rattle.cases.proofs.served.Tie as tie
 

@@ -3,10 +3,10 @@
 use mathlib.Core.Path.{sym, ap, _∙_}
 use Prim.Native.Nat.{ℕ}
 use borrow.Author.Tests.{lt-ltb, le-ltb, not-true, not-false}
+use borrow.Author.Needs.{needs}
 use Rattle.rules.specs.Replay.{replayRecord}
 use Rattle.records.specs.declared.Reply.{Reply}
 use Rattle.records.specs.Replies.{replyOf, refusalOf, repliedWith, counted, chosen, passed-over}
-use borrow.Author.Needs.{needs}
 use Rattle.records.proofs.answer.Statement.{statement}
 use Rattle.records.proofs.answer.Tie as tie
 

@@ -2,16 +2,13 @@
 -- Assumes nothing.
 use mathlib.Core.Path.{ap, _∙_}
 use Prim.Native.Nat.{ℕ}
+use borrow.Author.Needs.{needs}
 use Rattle.rules.specs.Outcome.{Outcome, heapOf, outcome}
 use Rattle.rules.specs.Numbers.{ask, blockSize}
 use Rattle.rules.specs.Replay.{calledFor}
 use Rattle.records.specs.Calls.{ask-fair}
 use Rattle.records.specs.declared.Reply.{Reply}
 use Rattle.records.specs.Replies.{repliedWith, counted, small-number, still-whole, called-is}
-use Rattle.rules.specs.Outcome.{heapOf}
-use Rattle.rules.specs.Numbers.{ask}
-use Rattle.records.specs.Calls.{ask-fair}
-use borrow.Author.Needs.{needs}
 use Rattle.records.proofs.answer_ask.Statement.{statement}
 use Rattle.records.proofs.answer_ask.Tie as tie
 

@@ -2,9 +2,9 @@
 -- Assumes nothing.
 use mathlib.Core.Path.{_∙_}
 use borrow.Author.Tests.{eq-eqb, ne-eqb}
+use borrow.Author.Needs.{needs}
 use Rattle.rules.specs.Replay.{replayCall}
 use Rattle.records.specs.Replies.{chosen, passed-over}
-use borrow.Author.Needs.{needs}
 use Rattle.records.proofs.answer_call.Statement.{statement}
 use Rattle.records.proofs.answer_call.Tie as tie
 

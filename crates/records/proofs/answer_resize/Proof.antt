@@ -2,13 +2,13 @@
 -- Assumes nothing.
 use mathlib.Core.Path.{ap, ap₂, _∙_}
 use Prim.Native.Nat.{ℕ}
+use borrow.Author.Needs.{needs}
 use Rattle.rules.specs.Outcome.{Outcome, heapOf, outcome}
 use Rattle.rules.specs.Numbers.{resize, blockSize}
 use Rattle.rules.specs.Replay.{calledFor}
 use Rattle.records.specs.Calls.{resize-fair}
 use Rattle.records.specs.declared.Reply.{Reply}
 use Rattle.records.specs.Replies.{repliedWith, counted, small-number, still-whole, called-is}
-use borrow.Author.Needs.{needs}
 use Rattle.records.proofs.answer_resize.Statement.{statement}
 use Rattle.records.proofs.answer_resize.Tie as tie
 

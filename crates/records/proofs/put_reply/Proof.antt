@@ -1,11 +1,11 @@
 -- `records::put_reply` stores the sixteen bytes one after the other.
 -- Assumes nothing.
 use mathlib.Core.Path.{ap, _∙_}
-use Rattle.rules.specs.Blocks.{putLink}
-use Rattle.records.specs.Replies.{put-bytes}
 use native.Mathlib.Omega.{arith}
 use lib.ListN.{length-set}
 use borrow.Author.Needs.{needs}
+use Rattle.rules.specs.Blocks.{putLink}
+use Rattle.records.specs.Replies.{put-bytes}
 use Rattle.records.proofs.put_reply.Statement.{statement}
 use Rattle.records.proofs.put_reply.Tie as tie
 

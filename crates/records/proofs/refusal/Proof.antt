@@ -2,9 +2,9 @@
 -- Assumes nothing.
 use mathlib.Core.Path.{ap}
 use Prim.Native.Nat.{ℕ}
+use borrow.Author.Needs.{needs}
 use Rattle.rules.specs.Replay.{opOf}
 use Rattle.records.specs.Replies.{replyOf}
-use borrow.Author.Needs.{needs}
 use Rattle.records.proofs.refusal.Statement.{statement}
 use Rattle.records.proofs.refusal.Tie as tie
 

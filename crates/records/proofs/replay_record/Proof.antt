@@ -1,12 +1,12 @@
 -- `records::replay_record` answers the part of the input where record i stands, and stores the reply.
 -- Assumes nothing.
 use mathlib.Core.Path.{ap, _∙_}
+use Prim.Native.Nat.{_*_}
 use lib.Seq.{sets}
+use borrow.Author.Needs.{needs}
 use Rattle.rules.specs.Outcome.{heapOf}
 use Rattle.rules.specs.Replay.{Replied, replayRecord}
-use Prim.Native.Nat.{_*_}
 use Rattle.records.specs.Pieces.{part-is}
-use borrow.Author.Needs.{needs}
 use Rattle.records.proofs.replay_record.Statement.{statement}
 use Rattle.records.proofs.replay_record.Tie as tie
 

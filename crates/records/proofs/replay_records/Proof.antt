@@ -2,12 +2,12 @@
 -- Assumes nothing.
 use mathlib.Core.Path.{_≡_, refl, sym, _∙_}
 use Prim.Native.Nat.{_-_, _≤_}
+use native.Mathlib.Omega.{arith}
 use lib.ListN.{length}
 use borrow.Author.Needs.{needs}
 use Rattle.rules.specs.Outcome.{heapOf}
 use Rattle.records.specs.Replies.{Whole, still-whole}
 use Rattle.records.specs.Pieces.{Going, begin, turn, stored, record-sent, recordAt, no-heap, no-room, all-done}
-use native.Mathlib.Omega.{arith}
 use Rattle.records.proofs.replay_records.Statement.{statement}
 use Rattle.records.proofs.replay_records.Tie as tie
 

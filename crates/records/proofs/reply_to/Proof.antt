@@ -1,8 +1,8 @@
 -- `records::reply_to` is a refusal where the call's number is not 0, and otherwise what it answered.
 -- Assumes nothing.
 use mathlib.Core.Path.{sym, _∙_}
-use Rattle.steps.specs.Passing.{stopped, passed}
 use borrow.Author.Needs.{needs}
+use Rattle.steps.specs.Passing.{stopped, passed}
 use Rattle.records.proofs.reply_to.Statement.{statement}
 use Rattle.records.proofs.reply_to.Tie as tie
 

@@ -2,8 +2,8 @@
 -- Assumes nothing.
 use mathlib.Core.Path.{ap, ap₂, _∙_}
 use Prim.Native.Nat.{ℕ, _+_, _*_, _/_, _%_}
-use Rattle.rules.specs.Books.{class, pool}
 use borrow.Author.Needs.{needs}
+use Rattle.rules.specs.Books.{class, pool}
 use Rattle.records.proofs.size_at.Statement.{statement}
 use Rattle.records.proofs.size_at.Tie as tie
 

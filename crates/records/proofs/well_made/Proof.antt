@@ -1,8 +1,8 @@
 -- `records::well_made` makes the tests of the rules, in their order.
 -- Assumes nothing.
 use mathlib.Core.Path.{refl}
-use Rattle.rules.specs.Replay.{wellMade}
 use borrow.Author.Needs.{needs}
+use Rattle.rules.specs.Replay.{wellMade}
 use Rattle.records.proofs.well_made.Statement.{statement}
 use Rattle.records.proofs.well_made.Tie as tie
 

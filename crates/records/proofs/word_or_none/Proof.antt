@@ -1,8 +1,8 @@
 -- `records::word_or_none` reads the word where there is one.
 -- Assumes nothing.
 use mathlib.Core.Path.{sym}
-use lib.ListN.{List·getD-eq-default}
 use native.Mathlib.Omega.{arith}
+use lib.ListN.{List·getD-eq-default}
 use borrow.Author.Needs.{needs}
 use Rattle.records.proofs.word_or_none.Statement.{statement}
 use Rattle.records.proofs.word_or_none.Tie as tie

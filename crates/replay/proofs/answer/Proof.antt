@@ -2,11 +2,11 @@
 -- Assumes nothing.
 use Prim.Native.Nat.{_/_}
 use lib.ListN.{length}
+use borrow.Author.Needs.{needs}
 use Rattle.rules.specs.Outcome.{heapOf}
 use Rattle.records.specs.Replies.{still-whole}
 use Rattle.records.specs.Pieces.{after-kept}
 use Rattle.replay.specs.Turns.{answered}
-use borrow.Author.Needs.{needs}
 use Rattle.replay.proofs.answer.Statement.{statement}
 use Rattle.replay.proofs.answer.Tie as tie
 

@@ -6,10 +6,10 @@ use Prim.Native.Nat.{ℕ, _-_, _%_}
 use native.Mathlib.Omega.{arith}
 use lib.ListN.{take, drop}
 use lib.Seq.{length-take-le, take-at}
+use borrow.Author.Needs.{needs}
 use Rattle.rules.specs.View.{part}
 use Rattle.loops.specs.Sets.{sets-front}
 use Rattle.loops.specs.Copy.{length-part}
-use borrow.Author.Needs.{needs}
 use Rattle.replay.proofs.answer_whole.Statement.{statement}
 use Rattle.replay.proofs.answer_whole.Tie as tie
 

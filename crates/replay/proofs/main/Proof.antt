@@ -2,8 +2,8 @@
 -- Assumes nothing.
 use mathlib.Core.Path.{refl, sym}
 use lib.ListN.{replicate}
-use Rattle.replay.specs.Turns.{formatted}
 use borrow.Author.Needs.{needs}
+use Rattle.replay.specs.Turns.{formatted}
 use Rattle.replay.proofs.main.Statement.{statement}
 use Rattle.replay.proofs.main.Tie as tie
 

@@ -2,13 +2,11 @@
 -- Assumes nothing.
 use mathlib.Core.Path.{_≡_, refl, sym, _∙_, subst}
 use Prim.Native.Nat.{_<_}
+use native.Mathlib.Omega.{arith}
 use lib.ListN.{length}
 use borrow.Author.Needs.{needs}
 use Rattle.replay.specs.declared.Next.{Next}
 use Rattle.replay.specs.Turns.{Lent, NextKept}
-use mathlib.Core.Path.{_≡_, refl, sym, _∙_}
-use Rattle.replay.specs.Turns.{Lent}
-use native.Mathlib.Omega.{arith}
 use Rattle.replay.proofs.replay_all.Statement.{statement}
 use Rattle.replay.proofs.replay_all.Tie as tie
 
