@@ -1,7 +1,7 @@
 -- What is known of a heap, and of an offset, once the tests of 01's numbers let them pass.
 -- Assumes nothing.
-use mathlib.Core.Path.{_≡_}
-use mathlib.Core.Bool.{true, _&&_}
+use mathlib.Core.Path.{_≡_, refl}
+use mathlib.Core.Bool.{Bool, true, false, _&&_}
 use mathlib.Core.List.{List}
 use Prim.Native.Nat.{ℕ, _+_, _*_, _/_, _%_, _≤_, _<_}
 use native.Mathlib.Nat.{mul-le-mul, mul-le-mul-left, mul-div-le, mul-add, mul-one}
@@ -10,7 +10,8 @@ use lib.Dec.{leb, ltb, eqb}
 use lib.ListN.{length}
 use borrow.Author.Tests.{leb-true, ltb-true, eqb-true}
 use Rattle.rules.specs.Books.{Heap, inRange, exact, memoryLength, booksLength, mapLength, isSet}
-use Rattle.rules.specs.Blocks.{lastClass, isStart, blockNo, classAt, sizeAt, live}
+use Rattle.rules.specs.Say.{if_then_else_}
+use Rattle.rules.specs.Blocks.{lastClass, isStart, blockNo, classAt, sizeAt, live, liveNumber}
 use Rattle.books.specs.Tests.{both}
 use Rattle.books.specs.Starts.{Start, start}
 
@@ -101,3 +102,31 @@ live-is al A P b m o l h e =
       ends = omega arith;
       set = t .1;
     }
+
+-- the number, in its pool, of the live block at offset o; or 512, which is no block's
+unfoldable pub blockAt : ℕ → ℕ → ℕ → List ℕ → List ℕ → ℕ → ℕ
+blockAt al A P b m o = if live al A P b m o then blockNo (sizeAt al A b o) (o % 4096) else 512
+
+module _ (al A P : ℕ) (b m : List ℕ) (o : ℕ) (low : 8 ≤ al) (high : al ≤ 512) where
+  -- what is known where it is a block's
+  pub record Found : Type 0 where
+    pub live-block : LiveBlock al A P b m o
+    pub number : liveNumber al A P b m o ≡ 0
+    pub block : blockAt al A P b m o ≡ blockNo (sizeAt al A b o) (o % 4096)
+
+  pub found : (blockAt al A P b m o ≡ 512 → ⊥) → Found
+  unfolding blockAt liveNumber
+  found n = go (live al A P b m o) refl
+    where
+      go : (t : Bool) → live al A P b m o ≡ t → Found
+      go true e = record { live-block = live-is al A P b m o low high e; number = rw e; block = rw e }
+      go false e = absurd (n (rw e))
+
+  -- and where it is none
+  pub not-found : blockAt al A P b m o ≡ 512 → liveNumber al A P b m o ≡ 5
+  unfolding blockAt liveNumber
+  not-found z = go (live al A P b m o) refl
+    where
+      go : (t : Bool) → live al A P b m o ≡ t → liveNumber al A P b m o ≡ 5
+      go true e = let k = live-is al A P b m o low high e .start .few in absurd (omega (arith, k, rw e at z))
+      go false e = rw e

@@ -4,11 +4,11 @@ use crate::words;
 ghost use mathlib.Core.Path.{_≡_};
 ghost use Prim.Native.Nat.{_*_, _≤_};
 ghost use lib.ListN.{length};
-ghost use Rattle.rules.specs.Books.{inRange, exact, booksLength, mapLength, at};
-ghost use Rattle.rules.specs.Blocks.{live, liveNumber};
+ghost use Rattle.rules.specs.Books.{inRange, exact, at};
+ghost use Rattle.rules.specs.Blocks.{liveNumber};
 ghost use Rattle.rules.specs.Outcome.{heapOf};
 ghost use Rattle.rules.specs.Numbers.{fitNumber, shapeNumber};
-ghost use Rattle.books.specs.Known.{Shaped, LiveBlock};
+ghost use Rattle.books.specs.Known.{Shaped, LiveBlock, blockAt};
 
 // So many arenas of so many pools make a heap.
 fn in_range(arenas: usize, pools: usize) -> bool
@@ -54,36 +54,58 @@ pub fn shape_number(memory: &[u8], books: &[u32], map: &[u64]) -> u32
     fit_number(memory, books, map, books[0] as usize, books[1] as usize)
 }
 
-// The offset is that of a live block.
-fn is_live(books: &[u32], map: &[u64], arenas: usize, pools: usize, offset: usize) -> bool
-    requires { ⌜ (arenas ≤ 16) × (arenas * pools ≤ 1024)
-        × (length (now books) ≡ booksLength arenas pools) × (length (now map) ≡ mapLength arenas pools) ⌝ }
-    ensures { λ r. ⌜ r ≡ live 8 arenas pools (now (books .entry)) (now (map .entry)) offset ⌝ }
+// What is answered in the place of a block's number where there is no such block: no pool has so many.
+pub const NO_BLOCK: usize = 512;
+
+// The number of an offset that is not live.
+pub const NOT_LIVE: u32 = 5;
+
+// Which block of its pool is live at the offset, or NO_BLOCK. Whoever gives it back need not divide again.
+pub fn live_block(
+    memory: &[u8],
+    books: &[u32],
+    map: &[u64],
+    arenas: usize,
+    pools: usize,
+    offset: usize,
+) -> usize
+    requires { ⌜ Shaped arenas pools (length (now memory)) (length (now books)) (length (now map)) ⌝ }
+    ensures { λ r. ⌜ r ≡ blockAt 8 arenas pools (now (books .entry)) (now (map .entry)) offset ⌝ }
 {
-    if arenas * pools * 4096 <= offset {
-        return false;
+    if memory.len() <= offset {
+        return NO_BLOCK;
     }
     let class = blocks::class_at(books, arenas, offset);
     if blocks::LAST_CLASS < class {
-        return false;
+        return NO_BLOCK;
     }
     let size = blocks::size_of(class);
     let o = offset % 4096;
     if !blocks::is_start(size, o) {
-        return false;
+        return NO_BLOCK;
     }
-    bits::is_set(map, offset / 4096, blocks::block_no(size, o))
+    let k = blocks::block_no(size, o);
+    if bits::is_set(map, offset / 4096, k) {
+        return k;
+    }
+    NO_BLOCK
 }
 
 // 5, unless the offset is that of a live block.
-pub fn live_number(books: &[u32], map: &[u64], arenas: usize, pools: usize, offset: usize) -> u32
-    requires { ⌜ (arenas ≤ 16) × (arenas * pools ≤ 1024)
-        × (length (now books) ≡ booksLength arenas pools) × (length (now map) ≡ mapLength arenas pools) ⌝ }
+pub fn live_number(
+    memory: &[u8],
+    books: &[u32],
+    map: &[u64],
+    arenas: usize,
+    pools: usize,
+    offset: usize,
+) -> u32
+    requires { ⌜ Shaped arenas pools (length (now memory)) (length (now books)) (length (now map)) ⌝ }
     ensures { λ r. ⌜ (r ≡ liveNumber 8 arenas pools (now (books .entry)) (now (map .entry)) offset)
         × (r ≡ 0 → LiveBlock 8 arenas pools (now (books .entry)) (now (map .entry)) offset) ⌝ }
 {
-    if is_live(books, map, arenas, pools, offset) {
-        return 0;
+    if live_block(memory, books, map, arenas, pools, offset) == NO_BLOCK {
+        return NOT_LIVE;
     }
-    5
+    0
 }

@@ -37,6 +37,13 @@ room-after zero zero room = refl
 room-after zero (suc o) room = refl
 room-after (suc s) o room = refl
 
+-- a call on an offset whose only other tests are those of the shape
+pub shape-first : {X : Type 0} (shape offset : ℕ) (refusal : ℕ → X) (rest : X)
+    → passing shape refusal (passing offset refusal rest) ≡ passing (inOrder shape 0 offset 0) refusal rest
+shape-first zero zero refusal rest = refl
+shape-first zero (suc o) refusal rest = refl
+shape-first (suc s) o refusal rest = refl
+
 -- there is too little room, or enough
 pub too-little : (wanted room : ℕ) → room < wanted → roomNumber wanted room ≡ 7
 unfolding roomNumber

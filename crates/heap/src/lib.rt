@@ -19,7 +19,7 @@ use steps::answers::answer;
 use steps::answers::refuse;
 use steps::hand_out::ask_step;
 use steps::moves::resize_step;
-use steps::put_back::back_step;
+use steps::put_back::give;
 ghost use mathlib.Core.Path.{_≡_};
 ghost use Prim.Native.Nat.{_+_, _/_, _<_, _≤_};
 ghost use denote.Ref.{ptr};
@@ -64,7 +64,7 @@ fn offset_test(memory: &[u8], books: &[u32], map: &[u64], offset: usize) -> u32
     if number != 0 {
         return number;
     }
-    live_number(books, map, word(books, 0), word(books, 1), offset)
+    live_number(memory, books, map, word(books, 0), word(books, 1), offset)
 }
 
 // 3, unless the size is one of a block.
@@ -120,7 +120,7 @@ pub fn resize(
     }
     let arenas = word(books, 0);
     let pools = word(books, 1);
-    let dead = live_number(books, map, arenas, pools, offset);
+    let dead = live_number(memory, books, map, arenas, pools, offset);
     if dead != 0 {
         return refuse(dead);
     }
@@ -132,13 +132,20 @@ pub fn give_back(memory: &mut [u8], books: &mut [u32], map: &mut [u64], offset: 
     ensures { λ r. ⌜ outcome r (heapOf (now (memory .exit)) (now (books .exit)) (now (map .exit)))
         ≡ N.giveBack 8 (heapOf (now (memory .entry)) (now (books .entry)) (now (map .entry))) offset ⌝ }
 {
-    let number = offset_test(memory, books, map, offset);
+    let number = shape_number(memory, books, map);
     if number != 0 {
         return refuse(number);
     }
     let arenas = word(books, 0);
     let pools = word(books, 1);
-    back_step(memory, books, map, arenas, pools, offset)
+    let given = give(memory, books, map, arenas, pools, offset);
+    if given != 0 {
+        return refuse(given);
+    }
+    Answer {
+        number: 0,
+        offset: offset as u32,
+    }
 }
 
 // The block size at a live offset.

@@ -33,7 +33,7 @@ module _ (al A P : ℕ) (b : List ℕ) (c p : ℕ) where
   abbrev F : BackPlan → Type 0
   F = FitsBack A P c p b
 
-  fits-emptying : 1 ≤ pool A b count p → F (emptying al A P b c p)
+  pub fits-emptying : 1 ≤ pool A b count p → F (emptying al A P b c p)
   unfolding emptying
   fits-emptying some =
       after F (mayLeave (A * P) (poolLinks A) p b) _ _ tt

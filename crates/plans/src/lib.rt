@@ -1,4 +1,3 @@
-// The paths of ask and give back, decided from the heap before the step: nothing is written here.
+// The path of an ask that takes a new pool, decided from the heap before it; and the words that steps read. Nothing is written here.
 pub mod ask;
-pub mod back;
 pub mod words;

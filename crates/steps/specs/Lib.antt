@@ -2,7 +2,8 @@
 pub mod Heaps
 pub mod Passing
 pub mod Answers
-pub mod Decided
+pub mod AskPath
+pub mod BackPath
 pub mod HandOut
 pub mod Backs
 pub mod Moves

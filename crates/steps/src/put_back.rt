@@ -1,18 +1,24 @@
-// The writes of a give-back: the block, then its pool's list, then its arena's.
+// A give-back: decided from the books before it, and then written, the block, then its pool's list, then its arena's. Its path is no value
+// in between, and its answer is a number, which comes back in a register.
 use crate::lists::join;
 use crate::lists::leave;
 use bits::clear_bit;
-use books::blocks::block_no;
 use books::blocks::class_at;
+use books::blocks::is_start;
 use books::blocks::size_of;
 use books::links::put_link;
 use books::lists::link_to;
 use books::lists::pool_links;
+use books::numbers::NO_BLOCK;
+use books::numbers::NOT_LIVE;
+use books::numbers::live_block;
 use books::pool::load_pool;
 use books::pool::store_pool;
 use books::words::ARENA_LINKS;
 use books::words::CLASS_HEADS;
+use books::words::COUNT;
 use books::words::FREE_POOLS;
+use books::words::FREEBLOCK;
 use books::words::FREED_HEAD;
 use books::words::NEXT;
 use books::words::OPEN;
@@ -21,26 +27,30 @@ use books::words::RECORDS;
 use books::words::UNUSED_HEAD;
 use books::words::USABLE_HEAD;
 use loops::put_words;
-use plans::back::arena_of;
-use plans::back::plan_back;
-use rules::Answer;
-use rules::BackPlan;
+use plans::words::arena_word;
+use plans::words::may_join;
+use plans::words::may_leave;
+use plans::words::pool_word;
 ghost use mathlib.Core.Path.{_≡_};
-ghost use mathlib.Core.Bool.{true};
+ghost use mathlib.Core.Bool.{true, _&&_};
 ghost use Prim.Native.Nat.{_+_, _*_, _-_, _/_, _%_, _<_, _≤_};
+ghost use lib.Dec.{leb};
 ghost use lib.ListN.{length};
-ghost use Rattle.rules.specs.Books.{at, booksLength, unusedHead, usableHead, freePools, arena, count, poolWord, pool};
-ghost use Rattle.rules.specs.Blocks.{isStart, classAt};
-ghost use Rattle.rules.specs.Lists.{arenaLinks, poolLinks};
+ghost use Rattle.rules.specs.Books.{at, memoryLength, booksLength, unusedHead, freePools, freedHead, arena, count, poolWord, pool};
+ghost use Rattle.rules.specs.Blocks.{isStart, blockNo, sizeAt};
+ghost use Rattle.rules.specs.Lists.{arenaLinks, poolLinks, mayLeave};
 ghost use Rattle.rules.specs.Outcome.{heapOf, outcome};
-ghost use Rattle.rules.specs.GiveBack.{takeBack, afterBack, givenBack, backStep};
+ghost use Rattle.rules.specs.GiveBack.{takeBack, afterBack, emptying, givenBack, backStep};
+ghost use Rattle.rules.specs.Resize.{giveOld};
+ghost use Rattle.rules.specs.declared.BackPlan.{BackPlan};
 ghost use Rattle.books.specs.Known.{Shaped, LiveBlock};
 ghost use Rattle.plans.specs.Class.{Range, Class};
 ghost use Rattle.plans.specs.Fits.{Links};
 ghost use Rattle.plans.specs.FitsBack.{FitsEmpty, FitsBack};
+ghost use Rattle.steps.specs.Answers.{gave};
 ghost use Rattle.steps.specs.Backs.{freedFirst, emptied, released};
 
-// The block at f goes to the front of its pool's freed blocks.
+// The block at f, of number k, goes to the front of its pool's freed blocks.
 fn take_back(
     memory: &mut [u8],
     books: &mut [u32],
@@ -51,16 +61,25 @@ fn take_back(
     size: usize,
     p: usize,
     f: usize,
+    k: usize,
 )
     requires { ⌜ Shaped arenas pools (length (now memory)) (length (now books)) (length (now map)) × Class class size
-        × (p < arenas * pools) × (isStart size f ≡ true) × (1 ≤ pool arenas (now books) count p) ⌝ }
+        × (p < arenas * pools) × (isStart size f ≡ true) × (1 ≤ pool arenas (now books) count p) × (k ≡ blockNo size f) ⌝ }
     ensures { λ _. ⌜ heapOf (now (memory .exit)) (now (books .exit)) (now (map .exit))
         ≡ takeBack 8 arenas pools class p f (heapOf (now (memory .entry)) (now (books .entry)) (now (map .entry))) ⌝ }
 {
     let q = load_pool(books, arenas, p);
     store_pool(books, arenas, p, q.give(f as u32));
     put_link(memory, 4096 * p + f, q.freeblock);
-    clear_bit(map, p, block_no(size, f));
+    clear_bit(map, p, k);
+}
+
+// The arena of a pool.
+fn arena_of(arenas: usize, pools: usize, p: usize) -> usize
+    requires { ⌜ Range arenas pools × (p < arenas * pools) ⌝ }
+    ensures { λ r. ⌜ (r ≡ p / pools) × (r < arenas) ⌝ }
+{
+    p / pools
 }
 
 // Pool p goes to the front of arena a's freed pools.
@@ -113,13 +132,14 @@ fn put_full(
     size: usize,
     p: usize,
     f: usize,
+    k: usize,
 )
     requires { ⌜ Shaped arenas pools (length (now memory)) (length (now books)) (length (now map)) × Class class size
-        × (p < arenas * pools) × (isStart size f ≡ true) × FitsBack arenas pools class p (now books) BackPlan.Joins ⌝ }
+        × (p < arenas * pools) × (isStart size f ≡ true) × FitsBack arenas pools class p (now books) BackPlan.Joins × (k ≡ blockNo size f) ⌝ }
     ensures { λ _. ⌜ heapOf (now (memory .exit)) (now (books .exit)) (now (map .exit))
         ≡ afterBack 8 arenas pools class p f BackPlan.Joins (heapOf (now (memory .entry)) (now (books .entry)) (now (map .entry))) ⌝ }
 {
-    take_back(memory, books, map, arenas, pools, class, size, p, f);
+    take_back(memory, books, map, arenas, pools, class, size, p, f, k);
     join(
         books,
         arenas * pools,
@@ -140,13 +160,14 @@ fn put_last(
     size: usize,
     p: usize,
     f: usize,
+    k: usize,
 )
     requires { ⌜ Shaped arenas pools (length (now memory)) (length (now books)) (length (now map)) × Class class size
-        × (p < arenas * pools) × (isStart size f ≡ true) × FitsBack arenas pools class p (now books) BackPlan.Empties ⌝ }
+        × (p < arenas * pools) × (isStart size f ≡ true) × FitsBack arenas pools class p (now books) BackPlan.Empties × (k ≡ blockNo size f) ⌝ }
     ensures { λ _. ⌜ heapOf (now (memory .exit)) (now (books .exit)) (now (map .exit))
         ≡ afterBack 8 arenas pools class p f BackPlan.Empties (heapOf (now (memory .entry)) (now (books .entry)) (now (map .entry))) ⌝ }
 {
-    take_back(memory, books, map, arenas, pools, class, size, p, f);
+    take_back(memory, books, map, arenas, pools, class, size, p, f, k);
     empty_pool(books, arenas, pools, class, p);
 }
 
@@ -161,13 +182,14 @@ fn put_first_free(
     size: usize,
     p: usize,
     f: usize,
+    k: usize,
 )
     requires { ⌜ Shaped arenas pools (length (now memory)) (length (now books)) (length (now map)) × Class class size
-        × (p < arenas * pools) × (isStart size f ≡ true) × FitsBack arenas pools class p (now books) BackPlan.Returns ⌝ }
+        × (p < arenas * pools) × (isStart size f ≡ true) × FitsBack arenas pools class p (now books) BackPlan.Returns × (k ≡ blockNo size f) ⌝ }
     ensures { λ _. ⌜ heapOf (now (memory .exit)) (now (books .exit)) (now (map .exit))
         ≡ afterBack 8 arenas pools class p f BackPlan.Returns (heapOf (now (memory .entry)) (now (books .entry)) (now (map .entry))) ⌝ }
 {
-    put_last(memory, books, map, arenas, pools, class, size, p, f);
+    put_last(memory, books, map, arenas, pools, class, size, p, f, k);
     let a = arena_of(arenas, pools, p);
     join(books, arenas, ARENA_LINKS, USABLE_HEAD, a);
 }
@@ -183,19 +205,33 @@ fn put_all_free(
     size: usize,
     p: usize,
     f: usize,
+    k: usize,
 )
     requires { ⌜ Shaped arenas pools (length (now memory)) (length (now books)) (length (now map)) × Class class size
-        × (p < arenas * pools) × (isStart size f ≡ true) × FitsBack arenas pools class p (now books) BackPlan.Releases ⌝ }
+        × (p < arenas * pools) × (isStart size f ≡ true) × FitsBack arenas pools class p (now books) BackPlan.Releases × (k ≡ blockNo size f) ⌝ }
     ensures { λ _. ⌜ heapOf (now (memory .exit)) (now (books .exit)) (now (map .exit))
         ≡ afterBack 8 arenas pools class p f BackPlan.Releases (heapOf (now (memory .entry)) (now (books .entry)) (now (map .entry))) ⌝ }
 {
-    put_last(memory, books, map, arenas, pools, class, size, p, f);
+    put_last(memory, books, map, arenas, pools, class, size, p, f, k);
     let a = arena_of(arenas, pools, p);
     release(books, arenas, pools, a);
 }
 
-// The writes of a give-back that takes this path, and its answer.
-fn write_back(
+// Pool p may leave its class list and return to arena a, which has so many free pools.
+fn may_empty(books: &[u32], arenas: usize, pools: usize, a: usize, p: usize, free: usize) -> bool
+    requires { ⌜ Range arenas pools × (length (now books) ≡ booksLength arenas pools) × (a < arenas) × (p < arenas * pools) ⌝ }
+    ensures { λ r. ⌜ r ≡ (mayLeave (arenas * pools) (poolLinks arenas) p (now (books .entry))
+        && leb (arena (now (books .entry)) freedHead a) (arenas * pools)
+        && leb free (pools - 1)) ⌝ }
+{
+    let all = arenas * pools;
+    may_leave(books, all, pool_links(arenas), p)
+        & (arena_word(books, FREED_HEAD, a) <= all)
+        & (free <= pools - 1)
+}
+
+// The pool falls to count 0.
+fn back_last(
     memory: &mut [u8],
     books: &mut [u32],
     map: &mut [u64],
@@ -204,62 +240,105 @@ fn write_back(
     class: usize,
     size: usize,
     offset: usize,
-    plan: BackPlan,
-) -> Answer
+    k: usize,
+) -> u32
     requires { ⌜ Shaped arenas pools (length (now memory)) (length (now books)) (length (now map)) × Class class size
-        × (offset / 4096 < arenas * pools) × (isStart size (offset % 4096) ≡ true) × FitsBack arenas pools class (offset / 4096) (now books) plan ⌝ }
-    ensures { λ r. ⌜ outcome r (heapOf (now (memory .exit)) (now (books .exit)) (now (map .exit)))
-        ≡ givenBack 8 arenas pools class (heapOf (now (memory .entry)) (now (books .entry)) (now (map .entry))) offset plan ⌝ }
+        × (offset / 4096 < arenas * pools) × (isStart size (offset % 4096) ≡ true) × (1 ≤ pool arenas (now books) count (offset / 4096))
+        × (k ≡ blockNo size (offset % 4096)) ⌝ }
+    ensures { λ r. ⌜ outcome (gave offset r) (heapOf (now (memory .exit)) (now (books .exit)) (now (map .exit)))
+        ≡ givenBack 8 arenas pools class (heapOf (now (memory .entry)) (now (books .entry)) (now (map .entry))) offset
+        (emptying 8 arenas pools (now (books .entry)) class (offset / 4096)) ⌝ }
 {
     let p = offset / 4096;
     let f = offset % 4096;
-    let done = Answer {
-        number: 0,
-        offset: offset as u32,
-    };
-    match plan {
-        BackPlan::Damaged => Answer {
-            number: 6,
-            offset: 0,
-        },
-        BackPlan::Joins => {
-            put_full(memory, books, map, arenas, pools, class, size, p, f);
-            done
-        }
-        BackPlan::Stays => {
-            take_back(memory, books, map, arenas, pools, class, size, p, f);
-            done
-        }
-        BackPlan::Empties => {
-            put_last(memory, books, map, arenas, pools, class, size, p, f);
-            done
-        }
-        BackPlan::Returns => {
-            put_first_free(memory, books, map, arenas, pools, class, size, p, f);
-            done
-        }
-        BackPlan::Releases => {
-            put_all_free(memory, books, map, arenas, pools, class, size, p, f);
-            done
-        }
+    let a = arena_of(arenas, pools, p);
+    let free = arena_word(books, FREE_POOLS, a);
+    if !may_empty(books, arenas, pools, a, p, free) {
+        return 6;
     }
+    if free + 1 == pools {
+        if !(may_leave(books, arenas, ARENA_LINKS, a) & may_join(books, arenas, UNUSED_HEAD)) {
+            return 6;
+        }
+        put_all_free(memory, books, map, arenas, pools, class, size, p, f, k);
+        return 0;
+    }
+    if free + 1 == 1 {
+        if !may_join(books, arenas, USABLE_HEAD) {
+            return 6;
+        }
+        put_first_free(memory, books, map, arenas, pools, class, size, p, f, k);
+        return 0;
+    }
+    put_last(memory, books, map, arenas, pools, class, size, p, f, k);
+    0
 }
 
-// A give-back of a live offset.
-pub fn back_step(
+// What a give-back asks of a count.
+fn count_fits(count: usize) -> bool
+    ensures { λ r. ⌜ r ≡ (leb 1 count && leb count 506) ⌝ }
+{
+    (1 <= count) & (count <= 506)
+}
+
+// A give-back of a live offset, that of block k of its pool: 0, or the number of the refusal.
+fn back_step(
     memory: &mut [u8],
     books: &mut [u32],
     map: &mut [u64],
     arenas: usize,
     pools: usize,
     offset: usize,
-) -> Answer
-    requires { ⌜ Shaped arenas pools (length (now memory)) (length (now books)) (length (now map)) × LiveBlock 8 arenas pools (now books) (now map) offset ⌝ }
-    ensures { λ r. ⌜ outcome r (heapOf (now (memory .exit)) (now (books .exit)) (now (map .exit)))
+    k: usize,
+) -> u32
+    requires { ⌜ Shaped arenas pools (length (now memory)) (length (now books)) (length (now map)) × LiveBlock 8 arenas pools (now books) (now map) offset
+        × (k ≡ blockNo (sizeAt 8 arenas (now books) offset) (offset % 4096)) ⌝ }
+    ensures { λ r. ⌜ outcome (gave offset r) (heapOf (now (memory .exit)) (now (books .exit)) (now (map .exit)))
         ≡ backStep 8 arenas pools (heapOf (now (memory .entry)) (now (books .entry)) (now (map .entry))) offset ⌝ }
 {
     let class = class_at(books, arenas, offset);
     let size = size_of(class);
-    let plan = plan_back(books, arenas, pools, class, offset / 4096);
-    write_back(memory, books, map, arenas, pools, class, size, offset, plan)
+    let p = offset / 4096;
+    let f = offset % 4096;
+    let free = pool_word(books, arenas, FREEBLOCK, p);
+    let count = pool_word(books, arenas, COUNT, p);
+    if !count_fits(count) {
+        return 6;
+    }
+    if free == 0 {
+        if !may_join(books, arenas * pools, CLASS_HEADS + class) {
+            return 6;
+        }
+        put_full(memory, books, map, arenas, pools, class, size, p, f, k);
+        return 0;
+    }
+    if !is_start(size, free) {
+        return 6;
+    }
+    if count == 1 {
+        return back_last(memory, books, map, arenas, pools, class, size, offset, k);
+    }
+    take_back(memory, books, map, arenas, pools, class, size, p, f, k);
+    0
+}
+
+// A give-back of any offset, by what the books and the map show: 0, or the number of the refusal.
+pub fn give(
+    memory: &mut [u8],
+    books: &mut [u32],
+    map: &mut [u64],
+    arenas: usize,
+    pools: usize,
+    offset: usize,
+) -> u32
+    requires { ⌜ Shaped arenas pools (length (now memory)) (length (now books)) (length (now map)) ⌝ }
+    ensures { λ r. ⌜ (outcome (gave offset r) (heapOf (now (memory .exit)) (now (books .exit)) (now (map .exit)))
+        ≡ giveOld 8 arenas pools (heapOf (now (memory .entry)) (now (books .entry)) (now (map .entry))) offset)
+        × (r ≡ 0 → offset < memoryLength arenas pools) ⌝ }
+{
+    let k = live_block(memory, books, map, arenas, pools, offset);
+    if k == NO_BLOCK {
+        return NOT_LIVE;
+    }
+    back_step(memory, books, map, arenas, pools, offset, k)
 }

@@ -1,18 +1,20 @@
--- `heap::give_back` meets its contract: it tests and then takes the step.
+-- `heap::give_back` meets its contract: it tests the shape, and gives back by what the books and the map then show.
 -- Assumes nothing.
-use mathlib.Core.Path.{ap₂, _∙_}
+use mathlib.Core.Path.{sym, ap, ap₂, _∙_}
 use Prim.Native.Nat.{ℕ}
 use native.Mathlib.Omega.{arith}
+use Rattle.rules.specs.declared.Answer.{Answer}
+use Rattle.rules.specs.Numbers.{shapeNumber, offsetNumber, giveBack}
+use Rattle.rules.specs.Outcome.{heapOf, outcome, answerOf, refused}
+use Rattle.rules.specs.Resize.{giveOld}
+use Rattle.steps.specs.Passing.{stopped, passed, refusal}
+use Rattle.heap.specs.Order.{shape-first}
 use borrow.Author.Needs.{needs}
-use Rattle.rules.specs.GiveBack.{backStep}
-use Rattle.rules.specs.Numbers.{giveBack}
-use Rattle.rules.specs.Outcome.{heapOf}
-use Rattle.steps.specs.Passing.{refusal, step}
 use Rattle.heap.proofs.give_back.Statement.{statement}
 use Rattle.heap.proofs.give_back.Tie as tie
 
-offset-test-requires : tie.Need-offset-test-requires
-offset-test-requires c κs = search needs
+shape-number-requires : tie.Need-shape-number-requires
+shape-number-requires c κs = search needs
 
 refuse-requires : tie.Need-refuse-requires
 refuse-requires c κs = search needs
@@ -28,16 +30,23 @@ same-length-3 c = search needs
 
 returns : tie.Need-returns
 unfolding giveBack
-returns c = refusal (heapOf (c .before .before .before .before .before .before .before .before .before .args .memory .now) (c .before .before .before .before .before .before .before .before .before .args .books .now) (c .before .before .before .before .before .before .before .before .before .args .map .now)) _ (c .refuse .result) (c .before .before .offset-test .result) _ (c .refuse .ensures) (c .before .before .offset-test .ensures .0) (c .before .if1 .taken)
+returns c =
+    let a = c .before .before .before .before .before .before .before .before .before .args in
+    let h = heapOf (a .memory .now) (a .books .now) (a .map .now) in
+    refusal h _ (c .refuse .result) (c .before .before .shape-number .result) _ (c .refuse .ensures) (c .before .before .shape-number .ensures .0) (c .before .if1 .taken)
+    ∙ shape-first (shapeNumber h) (offsetNumber 8 h (a .offset)) (λ k. refused k h) _
 
 word-requires : tie.Need-word-requires
-word-requires c κs = let t = c .before .before .offset-test .ensures .1 (c .before .if1 .left) in omega (arith, t .shaped .books)
+word-requires c κs = let s = c .before .before .shape-number .ensures .1 (c .before .if1 .left) in omega (arith, s .books)
 
 word-requires-2 : tie.Need-word-requires-2
-word-requires-2 c κs = let t = c .before .before .before .before .offset-test .ensures .1 (c .before .before .before .if1 .left) in omega (arith, t .shaped .books)
+word-requires-2 c κs = let s = c .before .before .before .before .shape-number .ensures .1 (c .before .before .before .if1 .left) in omega (arith, s .books)
 
-back-step-requires : tie.Need-back-step-requires
-back-step-requires c κs = let t = c .before .before .before .before .before .before .before .before .offset-test .ensures .1 (c .before .before .before .before .before .before .before .if1 .left) in rw (c .before .before .before .before .before .word .ensures .0, c .before .before .before .word2 .ensures .0) (t .shaped, t .live)
+give-requires : tie.Need-give-requires
+give-requires c κs = let s = c .before .before .before .before .before .before .before .before .shape-number .ensures .1 (c .before .before .before .before .before .before .before .if1 .left) in rw (c .before .before .before .before .before .word .ensures .0, c .before .before .before .word2 .ensures .0) s
+
+refuse-requires-2 : tie.Need-refuse-requires-2
+refuse-requires-2 c κs = search needs
 
 same-length-4 : tie.Need-same-length-4
 same-length-4 c = search needs
@@ -49,16 +58,49 @@ same-length-6 : tie.Need-same-length-6
 same-length-6 c = search needs
 
 returns-2 : tie.Need-returns-2
-unfolding giveBack
-returns-2 c = step (heapOf (c .before .before .before .before .before .before .before .before .before .before .before .before .before .before .before .before .before .before .before .before .before .before .args .memory .now) (c .before .before .before .before .before .before .before .before .before .before .before .before .before .before .before .before .before .before .before .before .before .before .args .books .now) (c .before .before .before .before .before .before .before .before .before .before .before .before .before .before .before .before .before .before .before .before .before .before .args .map .now)) _ _ (c .before .before .before .before .before .before .before .before .before .before .before .before .before .before .before .offset-test .result) _
-    (c .before .before .before .before .before .before .back-step .ensures ∙ ap₂ (λ (x y : ℕ). backStep 8 x y (heapOf (c .before .before .before .before .before .before .before .before .before .before .before .before .before .before .before .before .before .before .before .before .before .before .args .memory .now) (c .before .before .before .before .before .before .before .before .before .before .before .before .before .before .before .before .before .before .before .before .before .before .args .books .now) (c .before .before .before .before .before .before .before .before .before .before .before .before .before .before .before .before .before .before .before .before .before .before .args .map .now)) (c .before .before .before .before .before .before .before .before .before .before .before .before .before .before .before .before .before .before .before .before .before .before .args .offset)) (c .before .before .before .before .before .before .before .before .before .before .before .before .word .ensures .0) (c .before .before .before .before .before .before .before .before .before .before .word2 .ensures .0))
-    (c .before .before .before .before .before .before .before .before .before .before .before .before .before .before .before .offset-test .ensures .0) (c .before .before .before .before .before .before .before .before .before .before .before .before .before .before .if1 .left)
+unfolding giveBack giveOld
+returns-2 c =
+    let a = c .before .before .before .before .before .before .before .before .before .before .before .before .before .before .before .before .before .before .before .before .before .before .before .before .args in
+    let h = heapOf (a .memory .now) (a .books .now) (a .map .now) in
+    let after = heapOf (c .before .before .before .before .before .before .before .before .give .last .0) (c .before .before .before .before .before .before .before .before .give .last .1 .0) (c .before .before .before .before .before .before .before .before .give .last .1 .1 .0) in
+    ap (λ (x : Answer). outcome x after) (c .refuse2 .ensures ∙ sym (stopped (λ n. answerOf n 0) (answerOf 0 (a .offset)) (c .before .before .before .before .before .before .before .before .give .result) (c .before .if2 .taken)))
+    ∙ c .before .before .before .before .before .before .before .before .give .ensures .0
+    ∙ ap₂ (λ (x y : ℕ). giveOld 8 x y h (a .offset)) (c .before .before .before .before .before .before .before .before .before .before .before .before .before .before .word .ensures .0) (c .before .before .before .before .before .before .before .before .before .before .before .before .word2 .ensures .0)
+    ∙ sym (passed (λ k. refused k h) _ (shapeNumber h) (sym (c .before .before .before .before .before .before .before .before .before .before .before .before .before .before .before .before .before .shape-number .ensures .0) ∙ c .before .before .before .before .before .before .before .before .before .before .before .before .before .before .before .before .if1 .left))
+    ∙ shape-first (shapeNumber h) (offsetNumber 8 h (a .offset)) (λ k. refused k h) _
+
+cast-t26 : tie.Need-cast-t26
+cast-t26 c =
+    let s = c .before .before .before .before .before .before .before .before .before .before .before .before .before .before .before .before .shape-number .ensures .1 (c .before .before .before .before .before .before .before .before .before .before .before .before .before .before .before .if1 .left) in
+    let inside = rw (c .before .before .before .before .before .before .before .before .before .before .before .before .before .word .ensures .0, c .before .before .before .before .before .before .before .before .before .before .before .word2 .ensures .0) at (c .before .before .before .before .before .before .before .give .ensures .1 (c .if2 .left)) in
+    omega (arith, inside, s .all)
+
+same-length-7 : tie.Need-same-length-7
+same-length-7 c = search needs
+
+same-length-8 : tie.Need-same-length-8
+same-length-8 c = search needs
+
+same-length-9 : tie.Need-same-length-9
+same-length-9 c = search needs
+
+returns-3 : tie.Need-returns-3
+unfolding giveBack giveOld
+returns-3 c =
+    let a = c .before .before .before .before .before .before .before .before .before .before .before .before .before .before .before .before .before .before .before .before .before .before .before .args in
+    let h = heapOf (a .memory .now) (a .books .now) (a .map .now) in
+    let after = heapOf (c .before .before .before .before .before .before .before .give .last .0) (c .before .before .before .before .before .before .before .give .last .1 .0) (c .before .before .before .before .before .before .before .give .last .1 .1 .0) in
+    ap (λ (x : Answer). outcome x after) (sym (passed (λ n. answerOf n 0) (answerOf 0 (a .offset)) (c .before .before .before .before .before .before .before .give .result) (c .if2 .left)))
+    ∙ c .before .before .before .before .before .before .before .give .ensures .0
+    ∙ ap₂ (λ (x y : ℕ). giveOld 8 x y h (a .offset)) (c .before .before .before .before .before .before .before .before .before .before .before .before .before .word .ensures .0) (c .before .before .before .before .before .before .before .before .before .before .before .word2 .ensures .0)
+    ∙ sym (passed (λ k. refused k h) _ (shapeNumber h) (sym (c .before .before .before .before .before .before .before .before .before .before .before .before .before .before .before .before .shape-number .ensures .0) ∙ c .before .before .before .before .before .before .before .before .before .before .before .before .before .before .before .if1 .left))
+    ∙ shape-first (shapeNumber h) (offsetNumber 8 h (a .offset)) (λ k. refused k h) _
 
 pub give-back-spec : {M : Type 1} → statement M
 give-back-spec =
     tie.close
     (tie.spec
-    offset-test-requires
+    shape-number-requires
     refuse-requires
     same-length
     same-length-2
@@ -66,8 +108,14 @@ give-back-spec =
     returns
     word-requires
     word-requires-2
-    back-step-requires
+    give-requires
+    refuse-requires-2
     same-length-4
     same-length-5
     same-length-6
-    returns-2)
+    returns-2
+    cast-t26
+    same-length-7
+    same-length-8
+    same-length-9
+    returns-3)

@@ -3,9 +3,9 @@
 use mathlib.Core.Path.{sym, ap₂, _∙_}
 use Prim.Native.Nat.{ℕ}
 use native.Mathlib.Omega.{arith}
-use borrow.Author.Needs.{needs}
 use Rattle.rules.specs.Blocks.{liveNumber}
 use Rattle.steps.specs.Passing.{stopped, passed, last-test}
+use borrow.Author.Needs.{needs}
 use Rattle.heap.proofs.offset_test.Statement.{statement}
 use Rattle.heap.proofs.offset_test.Tie as tie
 
@@ -22,14 +22,15 @@ word-requires-2 : tie.Need-word-requires-2
 word-requires-2 c κs = let s = c .before .before .shape-number .ensures .1 (c .before .if1 .left) in omega (arith, s .books)
 
 live-number-requires : tie.Need-live-number-requires
-live-number-requires c κs = let s = c .before .before .before .shape-number .ensures .1 (c .before .before .if1 .left) in rw (c .before .word .ensures .0, c .word2 .ensures .0) (s .arenas-high, s .all, s .books, s .map)
+live-number-requires c κs = let s = c .before .before .before .shape-number .ensures .1 (c .before .before .if1 .left) in rw (c .before .word .ensures .0, c .word2 .ensures .0) s
 
 returns-2 : tie.Need-returns-2
-returns-2 c = let s = c .before .before .before .before .shape-number .ensures .1 (c .before .before .before .if1 .left) in (
-  c .live-number .ensures .0 ∙ ap₂ (λ (x y : ℕ). liveNumber 8 x y (c .before .before .before .before .before .before .before .before .args .books .now) (c .before .before .before .before .before .before .before .before .args .map .now) (c .before .before .before .before .before .before .before .before .args .offset)) (c .before .before .word .ensures .0) (c .before .word2 .ensures .0)
-      ∙ sym (last-test _) ∙ sym (passed (λ n. n) _ _ (sym (c .before .before .before .before .shape-number .ensures .0) ∙ c .before .before .before .if1 .left)),
-  λ z. record { shaped = s; live = rw (c .before .before .word .ensures .0, c .before .word2 .ensures .0) at (c .live-number .ensures .1 z) },
-)
+returns-2 c =
+    let a = c .before .before .before .before .before .before .before .before .args in
+    let s = c .before .before .before .before .shape-number .ensures .1 (c .before .before .before .if1 .left) in (
+      c .live-number .ensures .0 ∙ ap₂ (λ (x y : ℕ). liveNumber 8 x y (a .books .now) (a .map .now) (a .offset)) (c .before .before .word .ensures .0) (c .before .word2 .ensures .0) ∙ sym (last-test _) ∙ sym (passed (λ n. n) _ _ (sym (c .before .before .before .before .shape-number .ensures .0) ∙ c .before .before .before .if1 .left)),
+      λ z. record { shaped = s; live = rw (c .before .before .word .ensures .0, c .before .word2 .ensures .0) at (c .live-number .ensures .1 z) },
+    )
 
 pub offset-test-spec : {M : Type 1} → statement M
 offset-test-spec =

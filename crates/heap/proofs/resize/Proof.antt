@@ -1,15 +1,15 @@
--- `heap::resize` meets its contract: it tests in 01's order and then takes the step.
+-- `heap::resize` meets its contract: it tests the shape and the size, then the offset, and then takes the step.
 -- Assumes nothing.
 use mathlib.Core.Path.{sym, ap₂, _∙_}
 use Prim.Native.Nat.{ℕ}
 use native.Mathlib.Omega.{arith}
-use borrow.Author.Needs.{needs}
 use Rattle.rules.specs.Blocks.{liveNumber}
 use Rattle.rules.specs.Numbers.{shapeNumber, sizeNumber, offsetNumber, resize}
 use Rattle.rules.specs.Outcome.{heapOf}
 use Rattle.rules.specs.Resize.{resizeStep}
 use Rattle.steps.specs.Passing.{stopped, passed, refusal, step}
 use Rattle.heap.specs.Order.{offset-after}
+use borrow.Author.Needs.{needs}
 use Rattle.heap.proofs.resize.Statement.{statement}
 use Rattle.heap.proofs.resize.Tie as tie
 
@@ -30,7 +30,12 @@ same-length-3 c = search needs
 
 returns : tie.Need-returns
 unfolding resize
-returns c = refusal (heapOf (c .before .before .before .before .before .before .before .before .before .args .memory .now) (c .before .before .before .before .before .before .before .before .before .args .books .now) (c .before .before .before .before .before .before .before .before .before .args .map .now)) _ (c .refuse .result) (c .before .before .size-test .result) _ (c .refuse .ensures) (c .before .before .size-test .ensures .0 ∙ sym (stopped (λ n. n) _ _ (λ z. c .before .if1 .taken (c .before .before .size-test .ensures .0 ∙ z))) ∙ sym (offset-after (shapeNumber (heapOf (c .before .before .before .before .before .before .before .before .before .args .memory .now) (c .before .before .before .before .before .before .before .before .before .args .books .now) (c .before .before .before .before .before .before .before .before .before .args .map .now))) (sizeNumber (c .before .before .before .before .before .before .before .before .before .args .size)) (offsetNumber 8 (heapOf (c .before .before .before .before .before .before .before .before .before .args .memory .now) (c .before .before .before .before .before .before .before .before .before .args .books .now) (c .before .before .before .before .before .before .before .before .before .args .map .now)) (c .before .before .before .before .before .before .before .before .before .args .offset)))) (c .before .if1 .taken)
+returns c =
+    let a = c .before .before .before .before .before .before .before .before .before .args in
+    let h = heapOf (a .memory .now) (a .books .now) (a .map .now) in
+    refusal h _ (c .refuse .result) (c .before .before .size-test .result) _ (c .refuse .ensures)
+    (c .before .before .size-test .ensures .0 ∙ sym (stopped (λ n. n) _ _ (λ z. c .before .if1 .taken (c .before .before .size-test .ensures .0 ∙ z))) ∙ sym (offset-after (shapeNumber h) (sizeNumber (a .size)) (offsetNumber 8 h (a .offset))))
+    (c .before .if1 .taken)
 
 word-requires : tie.Need-word-requires
 word-requires c κs = let t = c .before .before .size-test .ensures .1 (c .before .if1 .left) in omega (arith, t .shaped .books)
@@ -39,7 +44,7 @@ word-requires-2 : tie.Need-word-requires-2
 word-requires-2 c κs = let t = c .before .before .before .before .size-test .ensures .1 (c .before .before .before .if1 .left) in omega (arith, t .shaped .books)
 
 live-number-requires : tie.Need-live-number-requires
-live-number-requires c κs = let t = c .before .before .before .before .before .before .before .size-test .ensures .1 (c .before .before .before .before .before .before .if1 .left) in rw (c .before .before .before .before .word .ensures .0, c .before .before .word2 .ensures .0) (t .shaped .arenas-high, t .shaped .all, t .shaped .books, t .shaped .map)
+live-number-requires c κs = let t = c .before .before .before .before .before .before .before .before .size-test .ensures .1 (c .before .before .before .before .before .before .before .if1 .left) in rw (c .before .before .before .before .before .word .ensures .0, c .before .before .before .word2 .ensures .0) (t .shaped)
 
 refuse-requires-2 : tie.Need-refuse-requires-2
 refuse-requires-2 c κs = search needs
@@ -55,10 +60,16 @@ same-length-6 c = search needs
 
 returns-2 : tie.Need-returns-2
 unfolding resize
-returns-2 c = refusal (heapOf (c .before .before .before .before .before .before .before .before .before .before .before .before .before .before .before .before .before .args .memory .now) (c .before .before .before .before .before .before .before .before .before .before .before .before .before .before .before .before .before .args .books .now) (c .before .before .before .before .before .before .before .before .before .before .before .before .before .before .before .before .before .args .map .now)) _ (c .refuse2 .result) (c .before .before .live-number .result) _ (c .refuse2 .ensures) (c .before .before .live-number .ensures .0 ∙ ap₂ (λ (x y : ℕ). liveNumber 8 x y (c .before .before .before .before .before .before .before .before .before .before .before .before .before .before .before .before .before .args .books .now) (c .before .before .before .before .before .before .before .before .before .before .before .before .before .before .before .before .before .args .map .now) (c .before .before .before .before .before .before .before .before .before .before .before .before .before .before .before .before .before .args .offset)) (c .before .before .before .before .before .before .before .word .ensures .0) (c .before .before .before .before .before .word2 .ensures .0) ∙ sym (passed (λ n. n) _ _ (sym (c .before .before .before .before .before .before .before .before .before .before .size-test .ensures .0) ∙ c .before .before .before .before .before .before .before .before .before .if1 .left)) ∙ sym (offset-after (shapeNumber (heapOf (c .before .before .before .before .before .before .before .before .before .before .before .before .before .before .before .before .before .args .memory .now) (c .before .before .before .before .before .before .before .before .before .before .before .before .before .before .before .before .before .args .books .now) (c .before .before .before .before .before .before .before .before .before .before .before .before .before .before .before .before .before .args .map .now))) (sizeNumber (c .before .before .before .before .before .before .before .before .before .before .before .before .before .before .before .before .before .args .size)) (offsetNumber 8 (heapOf (c .before .before .before .before .before .before .before .before .before .before .before .before .before .before .before .before .before .args .memory .now) (c .before .before .before .before .before .before .before .before .before .before .before .before .before .before .before .before .before .args .books .now) (c .before .before .before .before .before .before .before .before .before .before .before .before .before .before .before .before .before .args .map .now)) (c .before .before .before .before .before .before .before .before .before .before .before .before .before .before .before .before .before .args .offset)))) (c .before .if2 .taken)
+returns-2 c =
+    let a = c .before .before .before .before .before .before .before .before .before .before .before .before .before .before .before .before .before .before .args in
+    let h = heapOf (a .memory .now) (a .books .now) (a .map .now) in
+    refusal h _ (c .refuse2 .result) (c .before .before .live-number .result) _ (c .refuse2 .ensures)
+    (c .before .before .live-number .ensures .0 ∙ ap₂ (λ (x y : ℕ). liveNumber 8 x y (a .books .now) (a .map .now) (a .offset)) (c .before .before .before .before .before .before .before .before .word .ensures .0) (c .before .before .before .before .before .before .word2 .ensures .0) ∙ sym (passed (λ n. n) _ _ (sym (c .before .before .before .before .before .before .before .before .before .before .before .size-test .ensures .0) ∙ c .before .before .before .before .before .before .before .before .before .before .if1 .left)) ∙ sym (offset-after (shapeNumber h) (sizeNumber (a .size)) (offsetNumber 8 h (a .offset))))
+    (c .before .if2 .taken)
 
 resize-step-requires : tie.Need-resize-step-requires
-resize-step-requires c κs = let t = c .before .before .before .before .before .before .before .before .before .before .before .before .size-test .ensures .1 (c .before .before .before .before .before .before .before .before .before .before .before .if1 .left) in (rw (c .before .before .before .before .before .before .before .before .before .word .ensures .0, c .before .before .before .before .before .before .before .word2 .ensures .0) (t .shaped), c .before .before .before .before .live-number .ensures .1 (c .before .before .before .if2 .left), t .low, t .high)
+resize-step-requires c κs =
+    let t = c .before .before .before .before .before .before .before .before .before .before .before .before .before .size-test .ensures .1 (c .before .before .before .before .before .before .before .before .before .before .before .before .if1 .left) in (rw (c .before .before .before .before .before .before .before .before .before .before .word .ensures .0, c .before .before .before .before .before .before .before .before .word2 .ensures .0) (t .shaped), c .before .before .before .before .live-number .ensures .1 (c .before .before .before .if2 .left), t .low, t .high)
 
 same-length-7 : tie.Need-same-length-7
 same-length-7 c = search needs
@@ -71,9 +82,13 @@ same-length-9 c = search needs
 
 returns-3 : tie.Need-returns-3
 unfolding resize
-returns-3 c = step (heapOf (c .before .before .before .before .before .before .before .before .before .before .before .before .before .before .before .before .before .before .before .before .before .before .before .before .before .before .args .memory .now) (c .before .before .before .before .before .before .before .before .before .before .before .before .before .before .before .before .before .before .before .before .before .before .before .before .before .before .args .books .now) (c .before .before .before .before .before .before .before .before .before .before .before .before .before .before .before .before .before .before .before .before .before .before .before .before .before .before .args .map .now)) _ _ (c .before .before .before .before .before .before .before .before .before .before .before .live-number .result) _
-    (c .before .before .before .before .before .before .resize-step .ensures ∙ ap₂ (λ (x y : ℕ). resizeStep 8 x y (heapOf (c .before .before .before .before .before .before .before .before .before .before .before .before .before .before .before .before .before .before .before .before .before .before .before .before .before .before .args .memory .now) (c .before .before .before .before .before .before .before .before .before .before .before .before .before .before .before .before .before .before .before .before .before .before .before .before .before .before .args .books .now) (c .before .before .before .before .before .before .before .before .before .before .before .before .before .before .before .before .before .before .before .before .before .before .before .before .before .before .args .map .now)) (c .before .before .before .before .before .before .before .before .before .before .before .before .before .before .before .before .before .before .before .before .before .before .before .before .before .before .args .offset) (c .before .before .before .before .before .before .before .before .before .before .before .before .before .before .before .before .before .before .before .before .before .before .before .before .before .before .args .size)) (c .before .before .before .before .before .before .before .before .before .before .before .before .before .before .before .before .word .ensures .0) (c .before .before .before .before .before .before .before .before .before .before .before .before .before .before .word2 .ensures .0))
-    (c .before .before .before .before .before .before .before .before .before .before .before .live-number .ensures .0 ∙ ap₂ (λ (x y : ℕ). liveNumber 8 x y (c .before .before .before .before .before .before .before .before .before .before .before .before .before .before .before .before .before .before .before .before .before .before .before .before .before .before .args .books .now) (c .before .before .before .before .before .before .before .before .before .before .before .before .before .before .before .before .before .before .before .before .before .before .before .before .before .before .args .map .now) (c .before .before .before .before .before .before .before .before .before .before .before .before .before .before .before .before .before .before .before .before .before .before .before .before .before .before .args .offset)) (c .before .before .before .before .before .before .before .before .before .before .before .before .before .before .before .before .word .ensures .0) (c .before .before .before .before .before .before .before .before .before .before .before .before .before .before .word2 .ensures .0) ∙ sym (passed (λ n. n) _ _ (sym (c .before .before .before .before .before .before .before .before .before .before .before .before .before .before .before .before .before .before .before .size-test .ensures .0) ∙ c .before .before .before .before .before .before .before .before .before .before .before .before .before .before .before .before .before .before .if1 .left)) ∙ sym (offset-after (shapeNumber (heapOf (c .before .before .before .before .before .before .before .before .before .before .before .before .before .before .before .before .before .before .before .before .before .before .before .before .before .before .args .memory .now) (c .before .before .before .before .before .before .before .before .before .before .before .before .before .before .before .before .before .before .before .before .before .before .before .before .before .before .args .books .now) (c .before .before .before .before .before .before .before .before .before .before .before .before .before .before .before .before .before .before .before .before .before .before .before .before .before .before .args .map .now))) (sizeNumber (c .before .before .before .before .before .before .before .before .before .before .before .before .before .before .before .before .before .before .before .before .before .before .before .before .before .before .args .size)) (offsetNumber 8 (heapOf (c .before .before .before .before .before .before .before .before .before .before .before .before .before .before .before .before .before .before .before .before .before .before .before .before .before .before .args .memory .now) (c .before .before .before .before .before .before .before .before .before .before .before .before .before .before .before .before .before .before .before .before .before .before .before .before .before .before .args .books .now) (c .before .before .before .before .before .before .before .before .before .before .before .before .before .before .before .before .before .before .before .before .before .before .before .before .before .before .args .map .now)) (c .before .before .before .before .before .before .before .before .before .before .before .before .before .before .before .before .before .before .before .before .before .before .before .before .before .before .args .offset)))) (c .before .before .before .before .before .before .before .before .before .before .if2 .left)
+returns-3 c =
+    let a = c .before .before .before .before .before .before .before .before .before .before .before .before .before .before .before .before .before .before .before .before .before .before .before .before .before .before .before .args in
+    let h = heapOf (a .memory .now) (a .books .now) (a .map .now) in
+    step h _ _ (c .before .before .before .before .before .before .before .before .before .before .before .live-number .result) _
+    (c .before .before .before .before .before .before .resize-step .ensures ∙ ap₂ (λ (x y : ℕ). resizeStep 8 x y h (a .offset) (a .size)) (c .before .before .before .before .before .before .before .before .before .before .before .before .before .before .before .before .before .word .ensures .0) (c .before .before .before .before .before .before .before .before .before .before .before .before .before .before .before .word2 .ensures .0))
+    (c .before .before .before .before .before .before .before .before .before .before .before .live-number .ensures .0 ∙ ap₂ (λ (x y : ℕ). liveNumber 8 x y (a .books .now) (a .map .now) (a .offset)) (c .before .before .before .before .before .before .before .before .before .before .before .before .before .before .before .before .before .word .ensures .0) (c .before .before .before .before .before .before .before .before .before .before .before .before .before .before .before .word2 .ensures .0) ∙ sym (passed (λ n. n) _ _ (sym (c .before .before .before .before .before .before .before .before .before .before .before .before .before .before .before .before .before .before .before .before .size-test .ensures .0) ∙ c .before .before .before .before .before .before .before .before .before .before .before .before .before .before .before .before .before .before .before .if1 .left)) ∙ sym (offset-after (shapeNumber h) (sizeNumber (a .size)) (offsetNumber 8 h (a .offset))))
+    (c .before .before .before .before .before .before .before .before .before .before .if2 .left)
 
 pub resize-spec : {M : Type 1} → statement M
 resize-spec =

@@ -5,7 +5,7 @@ use native.Mathlib.Omega.{arith}
 use borrow.Author.Tests.{not-true, not-false}
 use Rattle.rules.specs.Ask.{asked, askAnswer, afterAsk}
 use Rattle.rules.specs.Outcome.{heapOf}
-use Rattle.steps.specs.Decided.{damaged, not-serving, begins, listed, not-spare, unlinked, linked-wrong, follows}
+use Rattle.steps.specs.AskPath.{damaged, not-serving, begins, listed, not-spare, unlinked, linked-wrong, follows}
 use Rattle.steps.specs.HandOut.{handed}
 use borrow.Author.Needs.{needs}
 use Rattle.steps.proofs.listed.ask_listed.Statement.{statement}

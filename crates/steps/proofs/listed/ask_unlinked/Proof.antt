@@ -9,7 +9,7 @@ use Rattle.rules.specs.Blocks.{putLink}
 use Rattle.rules.specs.Lists.{mayLeave, poolLinks}
 use Rattle.rules.specs.Outcome.{heapOf}
 use Rattle.plans.specs.Fits.{links}
-use Rattle.steps.specs.Decided.{damaged, begins, not-ready, is-ready, stuck, is-last}
+use Rattle.steps.specs.AskPath.{damaged, begins, not-ready, is-ready, stuck, is-last}
 use Rattle.steps.specs.HandOut.{with-link, pool-links, handed}
 use borrow.Author.Needs.{needs}
 use Rattle.steps.proofs.listed.ask_unlinked.Statement.{statement}

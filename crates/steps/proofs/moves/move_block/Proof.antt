@@ -3,18 +3,19 @@
 use mathlib.Core.List.{List}
 use mathlib.Core.Path.{sym, ap, _∙_}
 use Prim.Native.Nat.{ℕ}
-use borrow.Author.Needs.{needs}
 use Rattle.rules.specs.Outcome.{heapOf, outcome, answerOf, done}
 use Rattle.rules.specs.Resize.{giveOld, halfDone}
+use Rattle.steps.specs.Answers.{gave, gave-number}
 use Rattle.steps.specs.Passing.{stopped, passed}
+use borrow.Author.Needs.{needs}
 use Rattle.steps.proofs.moves.move_block.Statement.{statement}
 use Rattle.steps.proofs.moves.move_block.Tie as tie
 
 copy-within-requires : tie.Need-copy-within-requires
 copy-within-requires c κs = search needs
 
-give-old-requires : tie.Need-give-old-requires
-give-old-requires c κs = search needs
+give-requires : tie.Need-give-requires
+give-requires c κs = search needs
 
 cast-t20 : tie.Need-cast-t20
 cast-t20 c = search needs
@@ -29,7 +30,12 @@ same-length-3 : tie.Need-same-length-3
 same-length-3 c = search needs
 
 returns : tie.Need-returns
-returns c = let e = c .before .before .before .before .before .before .before .before .give-old .ensures ∙ ap (λ (m : List ℕ). giveOld 8 (c .before .before .before .before .before .before .before .before .before .before .before .before .before .before .before .before .before .before .before .args .arenas) (c .before .before .before .before .before .before .before .before .before .before .before .before .before .before .before .before .before .before .before .args .pools) (heapOf m (c .before .before .before .before .before .before .before .before .before .before .before .before .before .before .before .before .before .before .before .args .books .now) (c .before .before .before .before .before .before .before .before .before .before .before .before .before .before .before .before .before .before .before .args .map .now)) (c .before .before .before .before .before .before .before .before .before .before .before .before .before .before .before .before .before .before .before .args .from)) (c .before .before .before .before .before .before .before .before .before .before .before .before .before .before .copy-within .ensures) in sym (stopped (λ j. outcome (answerOf 6 (c .before .before .before .before .before .before .before .before .before .before .before .before .before .before .before .before .before .before .before .args .to)) (heapOf (c .before .before .before .before .before .before .before .before .give-old .last .0) (c .before .before .before .before .before .before .before .before .give-old .last .1 .0) (c .before .before .before .before .before .before .before .before .give-old .last .1 .1 .0))) (done (c .before .before .before .before .before .before .before .before .before .before .before .before .before .before .before .before .before .before .before .args .to) (heapOf (c .before .before .before .before .before .before .before .before .give-old .last .0) (c .before .before .before .before .before .before .before .before .give-old .last .1 .0) (c .before .before .before .before .before .before .before .before .give-old .last .1 .1 .0))) (c .before .before .before .before .before .before .before .before .give-old .result .number) (c .if1 .taken)) ∙ ap (halfDone 8 (c .before .before .before .before .before .before .before .before .before .before .before .before .before .before .before .before .before .before .before .args .arenas) (c .before .before .before .before .before .before .before .before .before .before .before .before .before .before .before .before .before .before .before .args .pools) (c .before .before .before .before .before .before .before .before .before .before .before .before .before .before .before .before .before .before .before .args .to)) e
+returns c =
+    let a = c .before .before .before .before .before .before .before .before .before .before .before .before .before .before .before .before .before .before .args in
+    let after = heapOf (c .before .before .before .before .before .before .before .give .last .0) (c .before .before .before .before .before .before .before .give .last .1 .0) (c .before .before .before .before .before .before .before .give .last .1 .1 .0) in
+    let e = c .before .before .before .before .before .before .before .give .ensures .0 ∙ ap (λ (m : List ℕ). giveOld 8 (a .arenas) (a .pools) (heapOf m (a .books .now) (a .map .now)) (a .from)) (c .before .before .before .before .before .before .before .before .before .before .before .before .before .copy-within .ensures) in
+    sym (stopped (λ j. outcome (answerOf 6 (a .to)) after) (done (a .to) after) (gave (a .from) (c .before .before .before .before .before .before .before .give .result) .number) (λ z. c .if1 .taken (sym (gave-number (a .from) (c .before .before .before .before .before .before .before .give .result)) ∙ z)))
+    ∙ ap (halfDone 8 (a .arenas) (a .pools) (a .to)) e
 
 cast-t21 : tie.Need-cast-t21
 cast-t21 c = search needs
@@ -44,14 +50,19 @@ same-length-6 : tie.Need-same-length-6
 same-length-6 c = search needs
 
 returns-2 : tie.Need-returns-2
-returns-2 c = let e = c .before .before .before .before .before .before .before .before .give-old .ensures ∙ ap (λ (m : List ℕ). giveOld 8 (c .before .before .before .before .before .before .before .before .before .before .before .before .before .before .before .before .before .before .before .args .arenas) (c .before .before .before .before .before .before .before .before .before .before .before .before .before .before .before .before .before .before .before .args .pools) (heapOf m (c .before .before .before .before .before .before .before .before .before .before .before .before .before .before .before .before .before .before .before .args .books .now) (c .before .before .before .before .before .before .before .before .before .before .before .before .before .before .before .before .before .before .before .args .map .now)) (c .before .before .before .before .before .before .before .before .before .before .before .before .before .before .before .before .before .before .before .args .from)) (c .before .before .before .before .before .before .before .before .before .before .before .before .before .before .copy-within .ensures) in sym (passed (λ j. outcome (answerOf 6 (c .before .before .before .before .before .before .before .before .before .before .before .before .before .before .before .before .before .before .before .args .to)) (heapOf (c .before .before .before .before .before .before .before .before .give-old .last .0) (c .before .before .before .before .before .before .before .before .give-old .last .1 .0) (c .before .before .before .before .before .before .before .before .give-old .last .1 .1 .0))) (done (c .before .before .before .before .before .before .before .before .before .before .before .before .before .before .before .before .before .before .before .args .to) (heapOf (c .before .before .before .before .before .before .before .before .give-old .last .0) (c .before .before .before .before .before .before .before .before .give-old .last .1 .0) (c .before .before .before .before .before .before .before .before .give-old .last .1 .1 .0))) (c .before .before .before .before .before .before .before .before .give-old .result .number) (c .if1 .left)) ∙ ap (halfDone 8 (c .before .before .before .before .before .before .before .before .before .before .before .before .before .before .before .before .before .before .before .args .arenas) (c .before .before .before .before .before .before .before .before .before .before .before .before .before .before .before .before .before .before .before .args .pools) (c .before .before .before .before .before .before .before .before .before .before .before .before .before .before .before .before .before .before .before .args .to)) e
+returns-2 c =
+    let a = c .before .before .before .before .before .before .before .before .before .before .before .before .before .before .before .before .before .before .args in
+    let after = heapOf (c .before .before .before .before .before .before .before .give .last .0) (c .before .before .before .before .before .before .before .give .last .1 .0) (c .before .before .before .before .before .before .before .give .last .1 .1 .0) in
+    let e = c .before .before .before .before .before .before .before .give .ensures .0 ∙ ap (λ (m : List ℕ). giveOld 8 (a .arenas) (a .pools) (heapOf m (a .books .now) (a .map .now)) (a .from)) (c .before .before .before .before .before .before .before .before .before .before .before .before .before .copy-within .ensures) in
+    sym (passed (λ j. outcome (answerOf 6 (a .to)) after) (done (a .to) after) (gave (a .from) (c .before .before .before .before .before .before .before .give .result) .number) (gave-number (a .from) (c .before .before .before .before .before .before .before .give .result) ∙ c .if1 .left))
+    ∙ ap (halfDone 8 (a .arenas) (a .pools) (a .to)) e
 
 pub move-block-spec : {M : Type 1} → statement M
 move-block-spec =
     tie.close
     (tie.spec
     copy-within-requires
-    give-old-requires
+    give-requires
     cast-t20
     same-length
     same-length-2

@@ -3,13 +3,13 @@
 use mathlib.Core.Path.{ap, _∙_}
 use Prim.Native.Nat.{ℕ, _+_, _*_}
 use native.Mathlib.Omega.{arith}
-use borrow.Author.Needs.{needs}
 use Rattle.rules.specs.Blocks.{blockNo, putLink}
 use Rattle.rules.specs.Books.{putMapBit}
 use Rattle.books.specs.Records.{putPool, given, give-stored}
 use Rattle.books.specs.Starts.{start}
 use Rattle.books.specs.declared.pool.Pool.{Pool}
 use Rattle.steps.specs.Heaps.{heap-is}
+use borrow.Author.Needs.{needs}
 use Rattle.steps.proofs.put_back.take_back.Statement.{statement}
 use Rattle.steps.proofs.put_back.take_back.Tie as tie
 
@@ -34,11 +34,8 @@ add-put-link c = let s = start (c .before .before .before .before .before .befor
 put-link-requires : tie.Need-put-link-requires
 put-link-requires c κs = let s = start (c .before .before .before .before .before .before .before .before .before .before .before .args .size) (c .before .before .before .before .before .before .before .before .before .before .before .args .f) (omega arith) (c .before .before .before .before .before .before .before .before .before .before .before .pre .3) in omega (arith, s .ends)
 
-block-no-requires : tie.Need-block-no-requires
-block-no-requires c κs = search needs
-
 clear-bit-requires : tie.Need-clear-bit-requires
-clear-bit-requires c κs = search needs
+clear-bit-requires c κs = let s = start (c .before .before .before .before .before .before .before .before .before .before .before .before .before .before .before .args .size) (c .before .before .before .before .before .before .before .before .before .before .before .before .before .before .before .args .f) (omega arith) (c .before .before .before .before .before .before .before .before .before .before .before .before .before .before .before .pre .3) in (omega (arith, s .few, c .before .before .before .before .before .before .before .before .before .before .before .before .before .before .before .pre .5), omega arith)
 
 same-length : tie.Need-same-length
 same-length c = search needs
@@ -50,13 +47,14 @@ same-length-3 : tie.Need-same-length-3
 same-length-3 c = search needs
 
 returns : tie.Need-returns
-returns c = let a = c .before .before .before .before .before .before .before .before .before .before .before .before .before .before .before .before .before .before .before .args in
+returns c =
+    let a = c .before .before .before .before .before .before .before .before .before .before .before .before .before .before .before .before .before .before .args in
     heap-is
-    (c .before .before .before .before .before .before .before .put-link .ensures ∙ ap (λ (q : Pool). putLink (4096 * a .p + a .f) (q .freeblock) (a .memory .now)) (c .before .before .before .before .before .before .before .before .before .before .before .before .before .before .load-pool .ensures))
-    (c .before .before .before .before .before .before .before .before .before .before .before .store-pool .ensures
-    ∙ ap (λ (q : Pool). putPool (a .arenas) (a .p) q (a .books .now)) (c .before .before .before .before .before .before .before .before .before .before .before .before .give .ensures ∙ ap (λ (q : Pool). given q (a .f)) (c .before .before .before .before .before .before .before .before .before .before .before .before .before .before .load-pool .ensures))
+    (c .before .before .before .before .before .before .put-link .ensures ∙ ap (λ (q : Pool). putLink (4096 * a .p + a .f) (q .freeblock) (a .memory .now)) (c .before .before .before .before .before .before .before .before .before .before .before .before .before .load-pool .ensures))
+    (c .before .before .before .before .before .before .before .before .before .before .store-pool .ensures
+    ∙ ap (λ (q : Pool). putPool (a .arenas) (a .p) q (a .books .now)) (c .before .before .before .before .before .before .before .before .before .before .before .give .ensures ∙ ap (λ (q : Pool). given q (a .f)) (c .before .before .before .before .before .before .before .before .before .before .before .before .before .load-pool .ensures))
     ∙ give-stored (a .arenas) (a .p) (a .books .now) (a .f))
-    (c .before .before .clear-bit .ensures ∙ ap (λ (k : ℕ). putMapBit (a .p) k 0 (a .map .now)) (c .before .before .before .block-no .ensures .0 ∙ ap (λ (s : ℕ). blockNo s (a .f)) (c .before .before .before .before .before .before .before .before .before .before .before .before .before .before .before .before .before .before .before .pre .1 .size)))
+    (c .before .before .clear-bit .ensures ∙ ap (λ (k : ℕ). putMapBit (a .p) k 0 (a .map .now)) (c .before .before .before .before .before .before .before .before .before .before .before .before .before .before .before .before .before .before .pre .5 ∙ ap (λ (s : ℕ). blockNo s (a .f)) (c .before .before .before .before .before .before .before .before .before .before .before .before .before .before .before .before .before .before .pre .1 .size)))
 
 pub take-back-spec : {M : Type 1} → statement M
 take-back-spec =
@@ -69,7 +67,6 @@ take-back-spec =
     mul-put-link
     add-put-link
     put-link-requires
-    block-no-requires
     clear-bit-requires
     same-length
     same-length-2

@@ -1,4 +1,4 @@
--- The path of a step by the tests that its functions make, of which the rules' definitions are a chain.
+-- The path of an ask from a listed pool by the tests that its functions make, of which the rules' definitions are a chain.
 -- Assumes nothing.
 use mathlib.Core.Path.{_≡_, refl}
 use mathlib.Core.Bool.{Bool, true, false, not, _&&_, _||_}
@@ -19,7 +19,6 @@ use Rattle.books.specs.Tests.{both}
 use Rattle.plans.specs.Fits.{Listed}
 use Rattle.steps.specs.Answers.{answered}
 
--- ---- an ask
 -- a path that ends at a broken rule is refused, and changes nothing
 pub damaged : (al A P c : ℕ) (h : Heap) (q : AskPlan) → q ≡ Damaged → outcome (answered 6) h ≡ asked al A P c h q
 unfolding askAnswer afterAsk
