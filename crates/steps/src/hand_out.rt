@@ -167,6 +167,7 @@ fn write_new(
             put_link(memory, 4096 * p + second, 0);
             return hand_out(map, size, p, 48);
         }
+        // Damaged: a new pool's path is none of a listed pool's.
         _ => return 6,
     }
 }
