@@ -39,9 +39,9 @@ shape-zero {al} {A} {P} {h} S =
     rw (le-ltb (length (h .books)) 2 (omega (arith, K .books)), S .rule1 .arenas-are, S .rule1 .pools-are, S .rule1 .range, S .rule1 .lengths)
 
 -- ---- the plain heap's ask is done, or finds no room
-either : (t : Bool) (x y : AskPlan) → askAnswer x .number ≡ 0 → askAnswer y .number ≡ 0 → askAnswer (if t then x else y) .number ≡ 0
-either true x y e f = e
-either false x y e f = f
+pub either-done : (t : Bool) (x y : AskPlan) → askAnswer x .number ≡ 0 → askAnswer y .number ≡ 0 → askAnswer (if t then x else y) .number ≡ 0
+either-done true x y e f = e
+either-done false x y e f = f
 
 pub plain-number : (al P : ℕ) (r : Plain) (c : ℕ) → (askAnswer (plainAsk al P r c) .number ≡ 0) ⊎ (plainAsk al P r c ≡ NoRoom)
 unfolding askAnswer
@@ -49,11 +49,11 @@ plain-number al P r c = by-class (r .listed c)
   where
     by-listed : (p k : ℕ) (ks : List ℕ) → (askAnswer (fromListed al P r c p k ks) .number ≡ 0) ⊎ (fromListed al P r c p k ks ≡ NoRoom)
     by-listed p k (j ∷ js) = inl refl
-    by-listed p k [] = inl (either (ltb (r .virgin p) (capacity (sizeOf al c))) _ _ refl refl)
+    by-listed p k [] = inl (either-done (ltb (r .virgin p) (capacity (sizeOf al c))) _ _ refl refl)
 
     by-arena : (a : ℕ) (ps : List ℕ) → (askAnswer (fromArena al P r c a ps) .number ≡ 0) ⊎ (fromArena al P r c a ps ≡ NoRoom)
     by-arena a [] = inl refl
-    by-arena a (p ∷ ps) = inl (either (eqb (r .class p) c) _ _ refl refl)
+    by-arena a (p ∷ ps) = inl (either-done (eqb (r .class p) c) _ _ refl refl)
 
     by-unused : (us : List ℕ) → (askAnswer (fromUnused al P r c us) .number ≡ 0) ⊎ (fromUnused al P r c us ≡ NoRoom)
     by-unused [] = inr refl

@@ -2,7 +2,7 @@
 -- Assumes nothing.
 use mathlib.Core.Path.{_≡_, refl, sym, ap, _∙_, subst}
 use mathlib.Core.Logic.{_≢_, _⊎_, inl, inr}
-use mathlib.Core.Bool.{Bool, true, false, not}
+use mathlib.Core.Bool.{true, false, not}
 use mathlib.Core.List.{List, [], _∷_}
 use Prim.Native.Nat.{ℕ, _+_, _*_, _/_, _%_, _≤_, _<_}
 use native.Mathlib.Nat.{div-add-mod', mod-lt}
@@ -13,7 +13,6 @@ use lib.ListN.{length}
 use borrow.Author.Tests.{ltb-true, not-false}
 use Rattle.rules.specs.declared.AskPlan.{AskPlan}
 use Rattle.rules.specs.declared.AskPlan.the-variants.{NoRoom}
-use Rattle.rules.specs.Say.{if_then_else_}
 use Rattle.rules.specs.Books.{Heap, classHead, offsetOf}
 use Rattle.rules.specs.Blocks.{classOf, sizeOf, startOf, capacity, live}
 use Rattle.rules.specs.Ask.{askAnswer}
@@ -30,7 +29,7 @@ use Rattle.laws.specs.Held.{held, Says, in-class, home-listed, base-unus
 use Rattle.laws.specs.Paths.{Hand}
 use Rattle.laws.specs.Holding.{holding, live-rows, rows-live, pool-is, block-live, block-pool, holding-more, holding-none}
 use Rattle.laws.specs.History.{Full}
-use Rattle.laws.specs.Calls.{plain-number, ask-done, ask-is}
+use Rattle.laws.specs.Calls.{either-done, plain-number, ask-done, ask-is}
 
 -- the plain heap finds no room exactly with empty lists
 empty-lists : (al P : ℕ) (r : Plain) (c : ℕ) → plainAsk al P r c ≡ NoRoom → (r .listed c ≡ []) × (r .usable ≡ []) × (r .unused ≡ [])
@@ -43,17 +42,13 @@ empty-lists al P r c e = by-class (r .listed c) refl
     clash-zero : askAnswer (plainAsk al P r c) .number ≡ 0 → ⊥
     clash-zero z = omega (arith, number)
 
-    pick : (t : Bool) (x y : AskPlan) → askAnswer x .number ≡ 0 → askAnswer y .number ≡ 0 → askAnswer (if t then x else y) .number ≡ 0
-    pick true x y a b = a
-    pick false x y a b = b
-
     by-unused : r .listed c ≡ [] → r .usable ≡ [] → (xs : List ℕ) → r .unused ≡ xs → (r .listed c ≡ []) × (r .usable ≡ []) × (r .unused ≡ [])
     by-unused f g [] k = (f, g, k)
     by-unused f g (a ∷ xs) k = absurd (clash-zero (rw (f, g, k)))
 
     by-freed : (a : ℕ) (us : List ℕ) → r .listed c ≡ [] → r .usable ≡ a ∷ us → (xs : List ℕ) → r .freed a ≡ xs → (r .listed c ≡ []) × (r .usable ≡ []) × (r .unused ≡ [])
     by-freed a us f g [] k = absurd (clash-zero (rw (f, g, k)))
-    by-freed a us f g (p ∷ ps) k = absurd (clash-zero (rw (f, g, k) (pick (eqb (r .class p) c) _ _ refl refl)))
+    by-freed a us f g (p ∷ ps) k = absurd (clash-zero (rw (f, g, k) (either-done (eqb (r .class p) c) _ _ refl refl)))
 
     by-usable : r .listed c ≡ [] → (xs : List ℕ) → r .usable ≡ xs → (r .listed c ≡ []) × (r .usable ≡ []) × (r .unused ≡ [])
     by-usable f [] g = by-unused f g (r .unused) refl
@@ -65,7 +60,7 @@ empty-lists al P r c e = by-class (r .listed c) refl
       where
         by-chain : (k : ℕ) (ks : List ℕ) → askAnswer (fromListed al P r c p k ks) .number ≡ 0
         by-chain k (j ∷ js) = refl
-        by-chain k [] = pick (ltb (r .virgin p) (capacity (sizeOf al c))) _ _ refl refl
+        by-chain k [] = either-done (ltb (r .virgin p) (capacity (sizeOf al c))) _ _ refl refl
 
 module _ {al A P : ℕ} {h : Heap} {r : Plain} (L : Aligned al) (S : Sound al A P h r) (n : ℕ) (low : 1 ≤ n) (high : n ≤ 512) where
   F : Says al A P (held S .view) (h .memory) (h .map) r
