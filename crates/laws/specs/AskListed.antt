@@ -1,12 +1,12 @@
 -- Ask, where the class list has a pool: by a link to follow, by another block set ready, as its last spare block.
 -- Assumes nothing.
 use mathlib.Core.Path.{_≡_, refl, sym, ap, _∙_, subst}
-use mathlib.Core.Logic.{inl, inr}
-use mathlib.Core.Bool.{Bool, true, false, not, _||_}
+use mathlib.Core.Logic.{_≢_, inr}
+use mathlib.Core.Bool.{true, false, _||_, or-true}
 use mathlib.Core.List.{List, [], _∷_}
-use Prim.Native.Nat.{ℕ, zero, suc, _+_, _*_, _-_, _/_, _≤_, _<_}
+use Prim.Native.Nat.{ℕ, suc, _+_, _*_, _-_, _≤_, _<_}
 use native.Mathlib.Nat.{mul-le-mul-right, mul-comm, div-add-mod', mod-lt}
-use native.Mathlib.Decide.{ℕ-discrete, decLe}
+use native.Mathlib.Decide.{decLt}
 use native.Mathlib.Omega.{arith}
 use lib.Dec.{eqb, eqb·suc-zero}
 use lib.ListN.{length}
@@ -14,32 +14,32 @@ use borrow.Author.Tests.{eq-eqb, ne-eqb, le-leb, lt-leb, lt-ltb, le-ltb}
 use Rattle.rules.specs.declared.AskPlan.{AskPlan}
 use Rattle.rules.specs.declared.AskPlan.the-variants.{Follow, Ready, Last}
 use Rattle.rules.specs.Say.{if_then_else_, _▷_}
-use Rattle.rules.specs.Books.{Heap, at, isSet, putMapBit, classHead, poolWord, pool, offsetOf}
-use Rattle.rules.specs.Blocks.{sizeOf, startOf, lastStart, blockNo, capacity, linkAt, putLink}
+use Rattle.rules.specs.Books.{Heap, at, putMapBit, classHead, poolWord, pool, offsetOf}
+use Rattle.rules.specs.Blocks.{sizeOf, lastClass, startOf, lastStart, blockNo, capacity, linkAt}
 use Rattle.rules.specs.Lists.{nextAt, previousAt, poolLinks}
 use Rattle.rules.specs.Ask.{planAsk, spare, fromListed, fromFreeblock, noLink, afterAsk, askAnswer}
-use Rattle.bits.specs.Map.{length-put}
 use Rattle.books.specs.Starts.{start-is, number-is}
-use Rattle.laws.specs.Update.{to, to-same, to-other}
-use Rattle.laws.specs.Rows.{erase, Seg, next-in}
-use Rattle.laws.specs.Families.{At, inside}
-use Rattle.laws.specs.Books.{View, Books, put-pool, pool-leaves, words-other, poolTo, homeTo, listedTo}
-use Rattle.laws.specs.Plain.{Plain, count, rest, setChain, setLive, setVirgin, setListed}
+use Rattle.laws.specs.Update.{to, to-other, to-cong}
+use Rattle.laws.specs.Rows.{erase}
+use Rattle.laws.specs.Families.{At, member-links}
+use Rattle.laws.specs.Books.{View, Books, put-pool, pool-leaves, poolTo, homeTo, listedTo}
+use Rattle.laws.specs.Plain.{Plain, count, carved, setChain, setLive, setVirgin, setListed}
 use Rattle.laws.specs.Counting.{many-has}
 use Rattle.laws.specs.Sizes.{Aligned, size-low, size-high, capacity-high}
 use Rattle.laws.specs.Chains.{Blocks, room, taken, extended, block-ends}
-use Rattle.laws.specs.Sound.{home, Sound, InClass}
-use Rattle.laws.specs.Held.{Says, Held, held, sound, listed-is, home-listed, home-full, in-class}
-use Rattle.laws.specs.Step.{Aside, PoolAfter, bits-after, link-after, no-bytes}
-use Rattle.laws.specs.Paths.{quiet-same, quiet-link, Hand, Asked, asked, count-on, still-used, inner}
+use Rattle.laws.specs.Sound.{home, Sound}
+use Rattle.laws.specs.Held.{Says, Held, held, sound, listed-is, home-listed, home-full, InClassOf, classed}
+use Rattle.laws.specs.Step.{BytesAfter, link-after, no-bytes}
+use Rattle.laws.specs.Paths.{quiet-same, quiet-link, hand-out, Asked, asked, count-on, insideRows, insideView, inner}
 
 -- past the last block of a pool no other fits
 pub past-last : (s : ℕ) → 8 ≤ s → 4048 < s * capacity s + s
 past-last s l = omega (arith, div-add-mod' 4048 s, mod-lt 4048 {m = s} (omega arith), mul-comm s (capacity s))
 
 -- ---- pool p is the front of its class's list
-module _ {al A P : ℕ} {h : Heap} {U : View} {r : Plain} (L : Aligned al) (K : Books A (A * P) (h .books) U) (F : Says al A P U (h .memory) (h .map) r)
-    (p : ℕ) (ps : List ℕ) (lp : p < A * P) (lc : r .class p < 64) (lst : r .listed (r .class p) ≡ p ∷ ps) (some : 1 ≤ count r p) (less : count r p < capacity (sizeOf al (r .class p))) where
+module _ {al A P p : ℕ} {h : Heap} {r : Plain} {ps : List ℕ} (L : Aligned al) (H : Held al A P h r) (lc : r .class p < 64) (lst : r .listed (r .class p) ≡ p ∷ ps) where
+  open Held H using (view as U, books as K, says as F)
+
   abbrev c : ℕ
   c = r .class p
 
@@ -49,8 +49,24 @@ module _ {al A P : ℕ} {h : Heap} {U : View} {r : Plain} (L : Aligned al) (K : 
   abbrev b : List ℕ
   b = h .books
 
-  I : InClass al p (h .memory) (count r p) (U .pool 1 p) (r .class p) (U .pool 5 p) (U .pool 6 p) (r .live p) (r .chain p) (r .virgin p)
-  I = let t = many-has (r .live p) 512 some in in-class L F p (t .number) lp (t .yes)
+  row-is : U .listed c ≡ p ∷ ps
+  row-is = F .lists .listed c lc ∙ lst
+
+  member : At (A * P) (U .home) (classHead c) p
+  member = (rw row-is at (K .listed .members c lc)) .0
+
+  lp : p < A * P
+  lp = member .low
+
+  -- it has live and spare blocks
+  counts : (1 ≤ count r p) × (count r p < capacity s) × (r .class p ≡ c)
+  counts = listed-is al P r p c (sym (F .pools p lp .home-is) ∙ member .is) lc
+
+  used-p : (carved P r p ≡ true) × (r .class p ≤ lastClass al)
+  used-p = let t = many-has (r .live p) 512 (counts .0) in F .pools p lp .used (t .number) (t .yes)
+
+  I : InClassOf al U (h .memory) r p
+  I = classed (F .pools p lp .rule (used-p .0)) lc
 
   s-low : 8 ≤ s
   s-low = size-low L c (I .class-low)
@@ -58,21 +74,15 @@ module _ {al A P : ℕ} {h : Heap} {U : View} {r : Plain} (L : Aligned al) (K : 
   cap-high : capacity s ≤ 506
   cap-high = capacity-high L c (I .class-low)
 
-  row-is : U .listed c ≡ p ∷ ps
-  row-is = F .listed c lc ∙ lst
-
-  home-p : U .home p ≡ classHead c
-  home-p = (rw row-is at (K .listed .members c lc)) .0 .is
-
   -- the words that the rules read
   head-is : at b (classHead c) ≡ suc p
   head-is = (rw row-is at (K .listed .row c lc .row .walk)) .0
 
   class-is : pool A b 4 p ≡ c
-  class-is = K .pools 4 p (omega arith) lp ∙ F .classes p lp
+  class-is = K .pools 4 p (omega arith) lp ∙ F .pools p lp .class-is
 
   count-is : pool A b 0 p ≡ count r p
-  count-is = K .pools 0 p (omega arith) lp ∙ F .counts p lp
+  count-is = K .pools 0 p (omega arith) lp ∙ F .pools p lp .count-is
 
   max-is : pool A b 6 p ≡ lastStart s
   max-is = K .pools 6 p (omega arith) lp ∙ I .max-is
@@ -102,6 +112,9 @@ module _ {al A P : ℕ} {h : Heap} {U : View} {r : Plain} (L : Aligned al) (K : 
     room-is : count r p + suc (length ks) ≡ r .virgin p
     room-is = room B (omega (arith, cap-high))
 
+    count-after : count (r ▷ setLive p k true) p ≡ suc (count r p)
+    count-after = count-on r p k k-dead (omega (arith, k-low, cap-high))
+
     -- the tests up to the freeblock's link
     listed-first : (q : AskPlan) → (if eqb (linkAt (h .memory) (offsetOf p (startOf s k))) 0 then noLink al A P h c p else Follow p (startOf s k) (linkAt (h .memory) (offsetOf p (startOf s k)))) ≡ q
         → (eqb (linkAt (h .memory) (offsetOf p (startOf s k))) 0 || spare al A P h c p (linkAt (h .memory) (offsetOf p (startOf s k)))) ≡ true → planAsk al A P h c ≡ q
@@ -117,62 +130,43 @@ module _ {al A P : ℕ} {h : Heap} {U : View} {r : Plain} (L : Aligned al) (K : 
           eq-eqb c c refl,
           max-is,
           eq-eqb (lastStart s) (lastStart s) refl,
-          le-leb (pool A b 0 p) 505 (omega (arith, count-is, cap-high)),
+          le-leb (pool A b 0 p) 505 (omega (arith, count-is, counts, cap-high)),
           free-is,
           spare-is k k-low k-dead,
           f,
         ) e
 
-    -- what every one of the three paths makes of the pool: rows after, view after, memory after
-    module _ (r′ : Plain) (T : Aside p (p / P) r r′) (marks : (x : ℕ) → r′ .mark x ≡ r .mark x) (class-same : r′ .class p ≡ c) (live-same : r′ .live p ≡ to k true (r .live p)) where
-      count-after : count r′ p ≡ suc (count r p)
-      count-after = count-on r r′ p k live-same k-dead (omega (arith, k-low, cap-high))
+    -- what every one of the three paths says after: ks′ is the chain
+    served : (ks′ : List ℕ) (virgins : ℕ → ℕ) (listed : ℕ → List ℕ) (pools : ℕ → ℕ → ℕ) (homes : ℕ → ℕ) (lists : ℕ → List ℕ) {m′ : List ℕ}
+        → ((y : ℕ) → y ≢ p → virgins y ≡ r .virgin y) → ((w y : ℕ) → y ≢ p → pools w y ≡ U .pool w y) → ((y : ℕ) → y ≢ p → homes y ≡ U .home y)
+        → pools 0 p ≡ pool A b 0 p + 1 → (pools 4 p ≡ U .pool 4 p) × (pools 6 p ≡ U .pool 6 p) × (pools 7 p ≡ U .pool 7 p)
+        → Blocks s p m′ (pools 1 p) (pools 5 p) (to k true (r .live p)) ks′ (virgins p) → (suc (count r p) < capacity s → 1 ≤ length ks′)
+        → homes p ≡ home al P (insideRows p k 1 ks′ virgins listed r) p → ((i : ℕ) → i < 64 → lists i ≡ listed i) → BytesAfter p (h .memory) m′
+        → Says al A P (insideView pools homes lists U) m′ (putMapBit p (blockNo s (startOf s k)) 1 (h .map)) (insideRows p k 1 ks′ virgins listed r)
+    served ks′ virgins listed pools homes lists v w o e₀ e C one′ hm x M =
+        rw (number-is s k (omega (arith, s-low)))
+        (inner L F lp k 1 (omega (arith, k-low, cap-high)) (omega arith) (counts .0) (omega (arith, count-after)) ks′ virgins listed pools homes lists v w (e .2) o x M
+        (record {
+          count-is = e₀ ∙ omega (arith, count-is, count-after);
+          class-is = e .0 ∙ F .pools p lp .class-is;
+          used = λ _ _. used-p;
+          rule = λ _. inr (rw (count-after, eq-eqb p p refl, e .1)
+              (record { class-low = I .class-low; max-is = I .max-is; blocks = C; two = λ z. absurd (omega arith); one = one′ }));
+          home-is = hm;
+        }))
 
-      pool-after : (U′ : View) (m′ ks′ : List ℕ) (v : ℕ) → U′ .pool 0 p ≡ pool A b 0 p + 1 → U′ .pool 4 p ≡ U .pool 4 p → U′ .pool 6 p ≡ U .pool 6 p
-          → r′ .chain p ≡ ks′ → r′ .virgin p ≡ v → Blocks s p m′ (U′ .pool 1 p) (U′ .pool 5 p) (to k true (r .live p)) ks′ v
-          → (suc (count r p) < capacity s → 1 ≤ length ks′) → U′ .home p ≡ home al P r′ p → PoolAfter al P p U′ m′ r′
-      pool-after U′ m′ ks′ v e₀ e₄ e₆ ec ev C one′ hm =
-          record {
-            counted = e₀ ∙ omega (arith, count-is, count-after);
-            class = e₄ ∙ F .classes p lp ∙ sym class-same;
-            used = λ j o. still-used L F lp T marks class-same some (omega (arith, count-after));
-            rule = λ _. inr (rw (count-after, class-same, live-same, ec, ev, e₆)
-                (record { class-low = I .class-low; max-is = I .max-is; blocks = C; two = λ z. absurd (omega arith); one = one′ }));
-            home-is = hm;
-          }
-
-      -- the pool stays on its list
-      stays-home : suc (count r p) < capacity s → home al P r′ p ≡ classHead c
-      stays-home l = home-listed al P r′ p (omega (arith, count-after)) (rw (class-same, count-after) l) ∙ ap classHead class-same
-
-      bits′ : r′ .live ≡ to p (to k true (r .live p)) (r .live) → (n j : ℕ) → n < A * P → j < 512 → isSet (putMapBit p (blockNo s (startOf s k)) 1 (h .map)) n j ≡ r′ .live n j
-      bits′ e n j ln lj =
-          rw (number-is s k (omega (arith, s-low))) (bits-after F p k 1 lp (omega (arith, k-low, cap-high)) (omega arith) n j ln lj ∙ ap (λ (f : ℕ → ℕ → Bool). f n j) (sym e))
-
-    -- the block that is handed out
-    hand : (r′ : Plain) → r′ .class ≡ r .class → r′ .live ≡ to p (to k true (r .live p)) (r .live) → Hand al A P r r′ c (offsetOf p (startOf s k))
-    hand r′ e f =
-        record {
-          pool = p;
-          block = k;
-          place = refl;
-          inside = lp;
-          fits = k-low;
-          class-now = ap (λ (g : ℕ → ℕ). g p) e;
-          classes = λ y d. ap (λ (g : ℕ → ℕ). g y) e;
-          live-now = f;
-          was-dead = k-dead;
-          kind = inl refl;
-        }
+    -- a pool with spare blocks left stays on its list
+    stays-home : (ks′ : List ℕ) (virgins : ℕ → ℕ) → suc (count r p) < capacity s → U .home p ≡ home al P (insideRows p k 1 ks′ virgins (r .listed) r) p
+    stays-home ks′ virgins l = member .is ∙ sym (home-listed al P (insideRows p k 1 ks′ virgins (r .listed) r) p (omega (arith, count-after)) (omega (arith, count-after)))
 
     -- ---- "the block at freeblock is the answer, freeblock becomes its link"
-    pub ask-follow : (j : ℕ) (js : List ℕ) → ks ≡ j ∷ js → Asked al A P h r c
+    ask-follow : (j : ℕ) (js : List ℕ) → ks ≡ j ∷ js → Asked al A P h r c
     unfolding afterAsk askAnswer
     ask-follow j js more =
         asked (Follow p (startOf s k) (startOf s j)) r′
         (listed-first _ (rw (link, ne-eqb (startOf s j) 0 (omega arith))) (rw (link, ne-eqb (startOf s j) 0 (omega arith), spare-is j j-low j-dead)))
         (rw (lst, chn, more)) (rw (chn, more))
-        (sound {h = h′} L K′ F′) (quiet-same {r = r′}) (λ _. hand r′ refl refl)
+        (sound {h = h′} L K′ F′) (quiet-same {r = r′}) (λ _. hand-out p k lp k-low refl k-dead refl refl)
       where
         r′ : Plain
         r′ = r ▷ setChain p (j ∷ js) ▷ setLive p k true
@@ -190,14 +184,7 @@ module _ {al A P : ℕ} {h : Heap} {U : View} {r : Plain} (L : Aligned al) (K : 
         j-low = omega (arith, C .below .1 .0, C .fits)
 
         j-dead : r .live p j ≡ false
-        j-dead = C .either j (C .below .1 .0) ∙ rw (eq-eqb j j refl) (go (eqb j k))
-          where
-            go : (t : Bool) → not (t || true) ≡ false
-            go true = refl
-            go false = refl
-
-        small : suc (count r p) < capacity s
-        small = omega (arith, room-is, ap length more, B .fits)
+        j-dead = C .either j (C .below .1 .0) ∙ rw (eq-eqb j j refl, or-true)
 
         U′ : View
         U′ = U ▷ poolTo 0 p (pool A b 0 p + 1) ▷ poolTo 1 p (startOf s j)
@@ -205,24 +192,11 @@ module _ {al A P : ℕ} {h : Heap} {U : View} {r : Plain} (L : Aligned al) (K : 
         K′ : Books A (A * P) (h′ .books) U′
         K′ = put-pool (put-pool K 0 p (pool A b 0 p + 1) (omega arith) lp) 1 p (startOf s j) (omega arith) lp
 
-        T : Aside p (p / P) r r′
-        T = record { marks = λ x d. refl; classes = λ y d. refl; chains = λ y d. to-other p (j ∷ js) (r .chain) y d; virgins = λ y d. refl; lives = λ y d. to-other p (to k true (r .live p)) (r .live) y d }
-
-        live-p : r′ .live p ≡ to k true (r .live p)
-        live-p = to-same p (to k true (r .live p)) (r .live) p refl
-
-        Q : PoolAfter al P p U′ (h .memory) r′
-        Q =
-            pool-after r′ T (λ x. refl) refl live-p U′ (h .memory) (j ∷ js) (r .virgin p) (rw (eq-eqb p p refl)) refl refl
-            (to-same p (j ∷ js) (r .chain) p refl) refl (rw (eq-eqb p p refl, ← link) (rw more at (taken k B))) (λ _. omega arith)
-            (home-p ∙ sym (stays-home r′ T (λ x. refl) refl live-p small))
-
         F′ : Says al A P U′ (h .memory) (h′ .map) r′
         F′ =
-            inner L F lp T (λ x. refl) refl some (omega (arith, count-after r′ T (λ x. refl) refl live-p))
-            (λ w y d. words-other 1 p (startOf s j) (U ▷ poolTo 0 p (pool A b 0 p + 1)) w y d ∙ words-other 0 p (pool A b 0 p + 1) U w y d) refl (λ i. refl) (λ w x. refl) (λ x. refl) (λ y d. refl) Q
-            (record { listed = F .listed; freed = F .freed; usable = F .usable; unused = F .unused }) (no-bytes p (h .memory))
-            (h′ .map) (length-put (h .map) p _ 1) (bits′ r′ T (λ x. refl) refl live-p refl)
+            served (j ∷ js) (r .virgin) (r .listed) (U′ .pool) (U .home) (U .listed) (λ y d. refl) (λ w y d. rw (ne-eqb y p d)) (λ y d. refl) (rw (eq-eqb p p refl))
+            (rw (eq-eqb p p refl) (refl, refl, refl)) (rw (eq-eqb p p refl, ← link) (rw more at (taken k B))) (λ _. omega arith)
+            (stays-home (j ∷ js) (r .virgin) (omega (arith, room-is, ap length more, B .fits))) (F .lists .listed) (no-bytes p (h .memory))
 
     -- the chain ends with block k
     module _ (none : ks ≡ []) where
@@ -236,13 +210,13 @@ module _ {al A P : ℕ} {h : Heap} {U : View} {r : Plain} (L : Aligned al) (K : 
       handed = rw no-more at (rw none at (taken k B))
 
       -- ---- "If that is 0 and nextoffset ≤ maxnextoffset, freeblock becomes nextoffset, .. and the link in the new freeblock is written 0"
-      pub ask-ready : r .virgin p < capacity s → Asked al A P h r c
+      ask-ready : r .virgin p < capacity s → Asked al A P h r c
       unfolding afterAsk noLink askAnswer
       ask-ready more =
           asked (Ready p (startOf s k) (startOf s v)) r′
-          (listed-first _ (rw (no-more, next-is, max-is, free-is, le-leb (startOf s v) (lastStart s) high, spare-is v more v-dead)) (rw no-more))
+          (listed-first _ (rw (no-more, next-is, max-is, free-is, le-leb (startOf s v) (lastStart s) (omega (arith, ends)), spare-is v more v-dead)) (rw no-more))
           (rw (lst, chn, none, lt-ltb (r .virgin p) (capacity s) more)) (rw chn)
-          (sound {h = h′} L K′ F′) (rw (← virgin-class) (quiet-link L F′ p v 0 (I .class-low) more still-dead)) (λ _. hand r′ refl refl)
+          (sound {h = h′} L K′ F′) (quiet-link L F′ p v 0 (I .class-low) more still-dead) (λ _. hand-out p k lp k-low refl k-dead refl refl)
         where
           v : ℕ
           v = r .virgin p
@@ -253,17 +227,14 @@ module _ {al A P : ℕ} {h : Heap} {U : View} {r : Plain} (L : Aligned al) (K : 
           h′ : Heap
           h′ = afterAsk al A P c (Ready p (startOf s k) (startOf s (r .virgin p))) h
 
-          m′ : List ℕ
-          m′ = putLink (offsetOf p (startOf s (r .virgin p))) 0 (h .memory)
-
           ends : startOf s (r .virgin p) + s ≤ 4096
           ends = block-ends s (r .virgin p) (suc (r .virgin p)) (omega arith) more
 
-          high : startOf s (r .virgin p) ≤ lastStart s
-          high = omega (arith, ends)
-
           v-dead : r .live p (r .virgin p) ≡ false
           v-dead = I .blocks .rest (r .virgin p) (omega arith)
+
+          still-dead : r′ .live p (r .virgin p) ≡ false
+          still-dead = rw (eq-eqb p p refl) (to-other k true (r .live p) (r .virgin p) (omega (arith, B .below .0)) ∙ v-dead)
 
           U′ : View
           U′ = U ▷ poolTo 0 p (pool A b 0 p + 1) ▷ poolTo 1 p (startOf s (r .virgin p)) ▷ poolTo 5 p (startOf s (r .virgin p) + s)
@@ -271,44 +242,26 @@ module _ {al A P : ℕ} {h : Heap} {U : View} {r : Plain} (L : Aligned al) (K : 
           K′ : Books A (A * P) (h′ .books) U′
           K′ = put-pool (put-pool (put-pool K 0 p (pool A b 0 p + 1) (omega arith) lp) 1 p (startOf s (r .virgin p)) (omega arith) lp) 5 p (startOf s (r .virgin p) + s) (omega arith) lp
 
-          T : Aside p (p / P) r r′
-          T = record { marks = λ x d. refl; classes = λ y d. refl; chains = λ y d. to-other p (r .virgin p ∷ []) (r .chain) y d; virgins = λ y d. to-other p (r .virgin p + 1) (r .virgin) y d; lives = λ y d. to-other p (to k true (r .live p)) (r .live) y d }
-
-          live-p : r′ .live p ≡ to k true (r .live p)
-          live-p = to-same p (to k true (r .live p)) (r .live) p refl
-
-          readied : Blocks s p m′ (startOf s (r .virgin p)) (startOf s (r .virgin p) + s) (to k true (r .live p)) (r .virgin p ∷ []) (r .virgin p + 1)
+          readied : Blocks s p (h′ .memory) (startOf s (r .virgin p)) (startOf s (r .virgin p) + s) (to k true (r .live p)) (r .virgin p ∷ []) (r .virgin p + 1)
           readied = extended (rw (I .blocks .next-is) at handed) (omega (arith, s-low)) (omega (arith, F .bytes, lp)) more
 
-          Q : PoolAfter al P p U′ m′ r′
-          Q =
-              pool-after r′ T (λ x. refl) refl live-p U′ m′ (r .virgin p ∷ []) (r .virgin p + 1) (rw (eq-eqb p p refl)) refl refl
-              (to-same p (r .virgin p ∷ []) (r .chain) p refl) (to-same p (r .virgin p + 1) (r .virgin) p refl) (rw (eq-eqb p p refl) readied) (λ _. omega arith)
-              (home-p ∙ sym (stays-home r′ T (λ x. refl) refl live-p (omega (arith, full-room))))
-
-          F′ : Says al A P U′ m′ (h′ .map) r′
+          F′ : Says al A P U′ (h′ .memory) (h′ .map) r′
           F′ =
-              inner L F lp T (λ x. refl) refl some (omega (arith, count-after r′ T (λ x. refl) refl live-p))
-              (λ w y d. words-other 5 p (startOf s (r .virgin p) + s) (U ▷ poolTo 0 p (pool A b 0 p + 1) ▷ poolTo 1 p (startOf s (r .virgin p))) w y d
-              ∙ words-other 1 p (startOf s (r .virgin p)) (U ▷ poolTo 0 p (pool A b 0 p + 1)) w y d ∙ words-other 0 p (pool A b 0 p + 1) U w y d)
-              refl (λ i. refl) (λ w x. refl) (λ x. refl) (λ y d. refl) Q
-              (record { listed = F .listed; freed = F .freed; usable = F .usable; unused = F .unused }) (link-after (h .memory) p (startOf s (r .virgin p)) 0 (omega (arith, ends, s-low)))
-              (h′ .map) (length-put (h .map) p _ 1) (bits′ r′ T (λ x. refl) refl live-p refl)
-
-          virgin-class : r′ .class p ≡ c
-          virgin-class = refl
-
-          still-dead : r′ .live p (r .virgin p) ≡ false
-          still-dead = ap (λ (f : ℕ → Bool). f (r .virgin p)) live-p ∙ to-other k true (r .live p) (r .virgin p) (omega (arith, B .below .0)) ∙ v-dead
+              served (r .virgin p ∷ []) (r′ .virgin) (r .listed) (U′ .pool) (U .home) (U .listed) (λ y d. rw (ne-eqb y p d)) (λ w y d. rw (ne-eqb y p d)) (λ y d. refl) (rw (eq-eqb p p refl))
+              (rw (eq-eqb p p refl) (refl, refl, refl)) (rw (eq-eqb p p refl) readied) (λ _. omega arith)
+              (stays-home (r .virgin p ∷ []) (r′ .virgin) (omega (arith, full-room))) (F .lists .listed) (link-after (h .memory) p (startOf s (r .virgin p)) 0 (omega (arith, ends, s-low)))
 
       -- ---- "If it is 0 and there is no such room, the pool is full: it leaves the list"
-      pub ask-last : capacity s ≤ r .virgin p → Asked al A P h r c
+      ask-last : capacity s ≤ r .virgin p → Asked al A P h r c
       unfolding afterAsk noLink askAnswer
       ask-last full =
+          let n : nextAt (poolLinks A) p ≡ poolWord A 2 p = omega arith in
+          let v : previousAt (poolLinks A) p ≡ poolWord A 3 p = omega arith in
+          let t = member-links (K .listed) c lc p lp (member .is) in
           asked (Last p (startOf s k)) r′
-          (listed-first _ (rw (no-more, next-is, max-is, free-is, lt-leb (startOf s (r .virgin p)) (lastStart s) past, le-leb (at b (nextAt (poolLinks A) p)) (A * P) next-low, le-leb (at b (previousAt (poolLinks A) p)) (A * P) previous-low)) (rw no-more))
-          (rw (lst, chn, none, le-ltb (r .virgin p) (capacity s) full)) (rw (chn))
-          (sound {h = h′} L K′ F′) (quiet-same {r = r′}) (λ _. hand r′ refl refl)
+          (listed-first _ (rw (no-more, next-is, max-is, free-is, lt-leb (startOf s (r .virgin p)) (lastStart s) past, v, n, le-leb (pool A b 2 p) (A * P) (t .0), le-leb (pool A b 3 p) (A * P) (t .1))) (rw no-more))
+          (rw (lst, chn, none, le-ltb (r .virgin p) (capacity s) full)) (rw chn)
+          (sound {h = h′} L K′ F′) (quiet-same {r = r′}) (λ _. hand-out p k lp k-low refl k-dead refl refl)
         where
           r′ : Plain
           r′ = r ▷ setChain p [] ▷ setLive p k true ▷ setListed c (erase p (r .listed c))
@@ -319,83 +272,37 @@ module _ {al A P : ℕ} {h : Heap} {U : View} {r : Plain} (L : Aligned al) (K : 
           past : lastStart s < startOf s (r .virgin p)
           past = omega (arith, past-last s s-low, mul-le-mul-right s full, mul-comm s (capacity s), size-high L c (I .class-low))
 
-          low : (v : ℕ) → ((y : ℕ) → v ≡ suc y → y < A * P) → v ≤ A * P
-          low zero f = omega arith
-          low (suc v) f = f v refl
-
-          walk : Seg (λ n. at b (poolWord A 2 n)) (λ n. at b (poolWord A 3 n)) (at b (classHead c)) 0 (p ∷ ps)
-          walk = rw row-is at (K .listed .row c lc .row .walk)
-
-          next-low : at b (nextAt (poolLinks A) p) ≤ A * P
-          next-low =
-              let e : nextAt (poolLinks A) p ≡ poolWord A 2 p = omega arith in
-              rw e (low (at b (poolWord A 2 p)) (next-in (λ y. y < A * P) (λ n. at b (poolWord A 2 n)) (λ n. at b (poolWord A 3 n)) p [] ps (at b (classHead c)) 0 (rw row-is at (inside (K .listed) c lc)) walk))
-
-          previous-low : at b (previousAt (poolLinks A) p) ≤ A * P
-          previous-low = let e : previousAt (poolLinks A) p ≡ poolWord A 3 p = omega arith in rw e (omega (arith, walk .1 .0))
-
-          U₂ : View
-          U₂ = U ▷ poolTo 0 p (pool A b 0 p + 1) ▷ poolTo 1 p 0
-
           U′ : View
-          U′ = U₂ ▷ homeTo p 0 ▷ listedTo c (erase p (U .listed c))
+          U′ = U ▷ poolTo 0 p (pool A b 0 p + 1) ▷ poolTo 1 p 0 ▷ homeTo p 0 ▷ listedTo c (erase p (U .listed c))
 
           K′ : Books A (A * P) (h′ .books) U′
-          K′ = pool-leaves (put-pool (put-pool K 0 p (pool A b 0 p + 1) (omega arith) lp) 1 p 0 (omega arith) lp) c p lc lp home-p
-
-          T : Aside p (p / P) r r′
-          T = record { marks = λ x d. refl; classes = λ y d. refl; chains = λ y d. to-other p [] (r .chain) y d; virgins = λ y d. refl; lives = λ y d. to-other p (to k true (r .live p)) (r .live) y d }
-
-          live-p : r′ .live p ≡ to k true (r .live p)
-          live-p = to-same p (to k true (r .live p)) (r .live) p refl
+          K′ = pool-leaves (put-pool (put-pool K 0 p (pool A b 0 p + 1) (omega arith) lp) 1 p 0 (omega arith) lp) c p lc lp (member .is)
 
           full-home : home al P r′ p ≡ 0
-          full-home = home-full al P r′ p (omega (arith, count-after r′ T (λ x. refl) refl live-p)) (omega (arith, count-after r′ T (λ x. refl) refl live-p, full-room))
-
-          Q : PoolAfter al P p U′ (h .memory) r′
-          Q =
-              pool-after r′ T (λ x. refl) refl live-p U′ (h .memory) [] (r .virgin p) (rw (eq-eqb p p refl)) refl refl
-              (to-same p [] (r .chain) p refl) refl (rw (eq-eqb p p refl) handed) (λ z. absurd (omega (arith, full-room))) (to-same p 0 (U .home) p refl ∙ sym full-home)
-
-          lists : (c′ : ℕ) → c′ < 64 → Dec (c′ ≡ c) → to c (erase p (U .listed c)) (U .listed) c′ ≡ to c (erase p (r .listed c)) (r .listed) c′
-          lists c′ l (yes q) = rw (eq-eqb c′ c q, F .listed c lc)
-          lists c′ l (no q) = rw (ne-eqb c′ c q) (F .listed c′ l)
+          full-home = home-full al P r′ p (omega (arith, count-after)) (omega (arith, count-after, full-room))
 
           F′ : Says al A P U′ (h .memory) (h′ .map) r′
           F′ =
-              inner L F lp T (λ x. refl) refl some (omega (arith, count-after r′ T (λ x. refl) refl live-p))
-              (λ w y d. words-other 1 p 0 (U ▷ poolTo 0 p (pool A b 0 p + 1)) w y d ∙ words-other 0 p (pool A b 0 p + 1) U w y d)
-              refl (λ i. refl) (λ w x. refl) (λ x. refl) (λ y d. to-other p 0 (U .home) y d) Q
-              (record { listed = λ c′ l. lists c′ l (ℕ-discrete c′ c); freed = F .freed; usable = F .usable; unused = F .unused }) (no-bytes p (h .memory))
-              (h′ .map) (length-put (h .map) p _ 1) (bits′ r′ T (λ x. refl) refl live-p refl)
+              served [] (r .virgin) (r′ .listed) (U′ .pool) (U′ .home) (U′ .listed) (λ y d. refl) (λ w y d. rw (ne-eqb y p d)) (λ y d. rw (ne-eqb y p d)) (rw (eq-eqb p p refl))
+              (rw (eq-eqb p p refl) (refl, refl, refl)) (rw (eq-eqb p p refl) handed) (λ z. absurd (omega (arith, full-room))) (rw (eq-eqb p p refl) (sym full-home))
+              (λ i l. to-cong c (U .listed) (r .listed) (ap (erase p) (F .lists .listed c lc)) i (F .lists .listed i l)) (no-bytes p (h .memory))
+
+  -- one of the three
+  ask-front : Asked al A P h r c
+  ask-front = go (r .chain p) refl
+    where
+      go : (xs : List ℕ) → r .chain p ≡ xs → Asked al A P h r c
+      go [] e = absurd (omega (arith, I .one (counts .1), ap length e))
+      go (k ∷ j ∷ js) e = ask-follow k (j ∷ js) e j js refl
+      go (k ∷ []) e = end (decLt (r .virgin p) (capacity s))
+        where
+          end : Dec (r .virgin p < capacity s) → Asked al A P h r c
+          end (yes q) = ask-ready k [] e refl q
+          end (no q) = ask-last k [] e refl (omega arith)
 
 -- ---- every ask that finds its class list not empty
 pub ask-listed : {al A P c p : ℕ} {h : Heap} {r : Plain} {ps : List ℕ} → Aligned al → Sound al A P h r → c < 64 → r .listed c ≡ p ∷ ps → Asked al A P h r c
-ask-listed {al} {A} {P} {c} {p} {h} {r} {ps} L S lc lst = subst (λ (x : ℕ). Asked al A P h r x) (t .2) (go (r .chain p) refl)
+ask-listed {al} {A} {P} {c} {p} {h} {r} {ps} L S lc lst = subst (λ (x : ℕ). Asked al A P h r x) is-c (ask-front L (held S) (rw is-c lc) (ap (r .listed) is-c ∙ lst))
   where
-    H : Held al A P h r
-    H = held S
-
-    member : At (A * P) (home al P r) (classHead c) p
-    member = (rw lst at (S .rule6 .listed .members c lc)) .0
-
-    lp : p < A * P
-    lp = member .low
-
-    t : (1 ≤ count r p) × (count r p < capacity (sizeOf al (r .class p))) × (r .class p ≡ c)
-    t = listed-is al P r p c (member .is) lc
-
-    lc′ : r .class p < 64
-    lc′ = rw (t .2) lc
-
-    lst′ : r .listed (r .class p) ≡ p ∷ ps
-    lst′ = ap (r .listed) (t .2) ∙ lst
-
-    go : (xs : List ℕ) → r .chain p ≡ xs → Asked al A P h r (r .class p)
-    go [] e = absurd (omega (arith, I L (H .books) (H .says) p ps lp lc′ lst′ (t .0) (t .1) .one (t .1), ap length e))
-    go (k ∷ j ∷ js) e = ask-follow L (H .books) (H .says) p ps lp lc′ lst′ (t .0) (t .1) k (j ∷ js) e j js refl
-    go (k ∷ []) e = end (decLe (suc (r .virgin p)) (capacity (sizeOf al (r .class p))))
-      where
-        end : Dec (r .virgin p < capacity (sizeOf al (r .class p))) → Asked al A P h r (r .class p)
-        end (yes q) = ask-ready L (H .books) (H .says) p ps lp lc′ lst′ (t .0) (t .1) k [] e refl q
-        end (no q) = ask-last L (H .books) (H .says) p ps lp lc′ lst′ (t .0) (t .1) k [] e refl (omega arith)
+    is-c : r .class p ≡ c
+    is-c = listed-is al P r p c ((rw lst at (S .rule6 .listed .members c lc)) .0 .is) lc .2

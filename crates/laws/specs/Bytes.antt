@@ -1,4 +1,4 @@
--- Parts of memory: their length, when two are equal, and what a text or a byte that is written makes of one.
+-- Parts of memory: what lies outside one, their length, when two are equal, and what a text or a byte that is written makes of one.
 -- Assumes nothing.
 use mathlib.Core.Path.{_≡_, refl, sym, ap, _∙_}
 use mathlib.Core.Logic.{_⊎_, inl, inr}
@@ -10,6 +10,18 @@ use lib.Seq.{sets, sets-eq, ext-getD, getD-take, getD-drop, drop-at, take-add, t
 use Rattle.rules.specs.Books.{at}
 use Rattle.rules.specs.View.{part}
 
+-- byte i lies outside the s bytes from o on
+abbrev pub Outside : ℕ → ℕ → ℕ → Type 0
+Outside o s i = (i < o) ⊎ (o + s ≤ i)
+
+pub outside-less : {o s t i : ℕ} → t ≤ s → Outside o s i → Outside o t i
+outside-less l (inl a) = inl a
+outside-less l (inr a) = inr (omega arith)
+
+-- s bytes from o on and t bytes from x on do not meet
+abbrev pub Clear : ℕ → ℕ → ℕ → ℕ → Type 0
+Clear o s x t = (o + s ≤ x) ⊎ (x + t ≤ o)
+
 -- a part that lies in memory is as long as it says
 pub part-long : (m : List ℕ) (o s : ℕ) → o + s ≤ length m → length (part o s m) ≡ s
 part-long m o s l = length-take-le s (drop o m) (omega (arith, length-drop o m))
@@ -20,10 +32,6 @@ part-same m m′ o s e l f =
     ext-getD 0 (part o s m′) (part o s m) (part-long m′ o s (rw e l) ∙ sym (part-long m o s l))
     (λ i u. let v : i < s = rw (part-long m′ o s (rw e l)) at u in
     getD-take s (drop o m′) i 0 v ∙ getD-drop o m′ i 0 ∙ f i v ∙ sym (getD-take s (drop o m) i 0 v ∙ getD-drop o m i 0))
-
--- byte i lies outside the s bytes from o on
-abbrev pub Outside : ℕ → ℕ → ℕ → Type 0
-Outside o s i = (i < o) ⊎ (o + s ≤ i)
 
 -- the bytes of a part after a text, or one byte, is written in it
 pub text-part : (m text : List ℕ) (o s : ℕ) → length text ≤ s → o + s ≤ length m → part o s (sets m o text) ≡ text ++ drop (length text) (part o s m)

@@ -1,8 +1,8 @@
 -- The blocks of one pool: its freed chain in memory, and what taking, giving back and setting ready a block leave of it. Once for every block size.
 -- Assumes nothing.
 use mathlib.Core.Path.{_≡_, refl, sym, ap, _∙_}
-use mathlib.Core.Logic.{_≢_, _⊎_, inl, inr}
-use mathlib.Core.Bool.{Bool, true, false, not, _||_}
+use mathlib.Core.Logic.{_≢_, inl, inr}
+use mathlib.Core.Bool.{Bool, true, false, not, _||_, true≢false}
 use mathlib.Core.List.{List, [], _∷_}
 use Prim.Native.Nat.{ℕ, zero, suc, _+_, _*_, _/_, _%_, _<_, _≤_}
 use native.Mathlib.Nat.{mul-le-mul-right, suc-mul, add-zero, div-div-eq-div-mul, div-mul-le-self, le-div-iff-mul-le}
@@ -11,13 +11,14 @@ use native.Mathlib.Decide.{ℕ-discrete, decLe, decLt}
 use lib.Dec.{eqb}
 use lib.ListN.{length, length-set}
 use lib.Seq.{getD-set-same, getD-set-other, lt-length-set}
-use borrow.Author.Tests.{eq-eqb, ne-eqb}
+use borrow.Author.Tests.{eq-eqb, ne-eqb, not-true}
 use Rattle.rules.specs.Books.{at, offsetOf}
 use Rattle.rules.specs.Blocks.{startOf, capacity, linkAt, putLink}
-use Rattle.laws.specs.Update.{clash, to, to-same, to-other}
+use Rattle.laws.specs.Update.{to, to-same, to-other}
 use Rattle.laws.specs.Rows.{All, Not, Once, all-map}
 use Rattle.laws.specs.Plain.{howMany}
 use Rattle.laws.specs.Counting.{many-same, many-more, many-all, many-cut}
+use Rattle.laws.specs.Bytes.{Outside, Clear}
 
 -- ---- the four bytes of a link
 four : (v : ℕ) → v < 4294967296 → v % 256 + v / 256 % 256 * 256 + v / 65536 % 256 * 65536 + v / 16777216 % 256 * 16777216 ≡ v
@@ -32,17 +33,13 @@ link-same m o v h l =
     let a : (o ≢ o + 1) × (o ≢ o + 2) × (o ≢ o + 3) × (o + 1 ≢ o + 2) × (o + 1 ≢ o + 3) × (o + 2 ≢ o + 3) = omega arith in
     simp (getD-set-other, getD-set-same, lt-length-set, a .0, a .1, a .2, a .3, a .4, a .5) (omega (arith, four v l))
 
--- byte i lies outside the four bytes at o
-abbrev pub Off : ℕ → ℕ → Type 0
-Off i o = (i < o) ⊎ (o + 4 ≤ i)
-
-pub put-link-other : (m : List ℕ) (o v i : ℕ) → Off i o → at (putLink o v m) i ≡ at m i
+pub put-link-other : (m : List ℕ) (o v i : ℕ) → Outside o 4 i → at (putLink o v m) i ≡ at m i
 unfolding putLink
 put-link-other m o v i f =
     let n : (i ≢ o) × (i ≢ o + 1) × (i ≢ o + 2) × (i ≢ o + 3) = apart f in
     simp (getD-set-other, n .0, n .1, n .2, n .3)
   where
-    apart : Off i o → (i ≢ o) × (i ≢ o + 1) × (i ≢ o + 2) × (i ≢ o + 3)
+    apart : Outside o 4 i → (i ≢ o) × (i ≢ o + 1) × (i ≢ o + 2) × (i ≢ o + 3)
     apart (inl h) = omega arith
     apart (inr h) = omega arith
 
@@ -63,12 +60,39 @@ pub block-ends : (s k v : ℕ) → k < v → v ≤ capacity s → startOf s k + 
 block-ends s k v l f = omega (arith, mul-le-mul-right s l, mul-le-mul-right s f, suc-mul k s, div-mul-le-self 4048 s)
 
 -- two blocks of one pool do not meet
-pub blocks-apart : (s j k : ℕ) → j ≢ k → (startOf s j + s ≤ startOf s k) ⊎ (startOf s k + s ≤ startOf s j)
-blocks-apart s j k d = go (decLt j k)
+pub blocks-apart : (s n j k : ℕ) → j ≢ k → Clear (offsetOf n (startOf s j)) s (offsetOf n (startOf s k)) s
+blocks-apart s n j k d = go (decLt j k)
   where
-    go : Dec (j < k) → (startOf s j + s ≤ startOf s k) ⊎ (startOf s k + s ≤ startOf s j)
+    go : Dec (j < k) → Clear (offsetOf n (startOf s j)) s (offsetOf n (startOf s k)) s
     go (yes l) = inl (omega (arith, mul-le-mul-right s l, suc-mul j s))
     go (no l) = let m : suc k ≤ j = omega arith in inr (omega (arith, mul-le-mul-right s m, suc-mul k s))
+
+-- nor do two blocks that lie in their pools, unless they are one: block j of pool p and block k of pool n, where `size` says the block size of each pool
+module _ (size : ℕ → ℕ) (p j n k : ℕ) (other : p ≡ n → j ≢ k) (e : startOf (size p) j + size p ≤ 4096) (f : startOf (size n) k + size n ≤ 4096) where
+  pub pools-apart : Clear (offsetOf p (startOf (size p) j)) (size p) (offsetOf n (startOf (size n) k)) (size n)
+  pools-apart = go (ℕ-discrete p n) (decLe p n)
+    where
+      go : Dec (p ≡ n) → Dec (p ≤ n) → Clear (offsetOf p (startOf (size p) j)) (size p) (offsetOf n (startOf (size n) k)) (size n)
+      go (yes q) l = rw q (blocks-apart (size n) n j k (other q))
+      go (no q) (yes l) = inl (omega arith)
+      go (no q) (no l) = inr (omega arith)
+
+  -- byte d of the second is none of the first
+  pub block-outside : (d : ℕ) → d < size n → Outside (offsetOf p (startOf (size p) j)) (size p) (offsetOf n (startOf (size n) k) + d)
+  block-outside d l = go pools-apart
+    where
+      go : Clear (offsetOf p (startOf (size p) j)) (size p) (offsetOf n (startOf (size n) k)) (size n) → Outside (offsetOf p (startOf (size p) j)) (size p) (offsetOf n (startOf (size n) k) + d)
+      go (inl a) = inr (omega arith)
+      go (inr a) = inl (omega arith)
+
+-- the first 48 bytes of a pool are in no block
+pub first-outside : (s n k i : ℕ) → startOf s k + s ≤ 4096 → i % 4096 < 48 → Outside (offsetOf n (startOf s k)) s i
+first-outside s n k i e u = go (decLe (offsetOf n (startOf s k)) i) (decLe (offsetOf n (startOf s k) + s) i)
+  where
+    go : Dec (offsetOf n (startOf s k) ≤ i) → Dec (offsetOf n (startOf s k) + s ≤ i) → Outside (offsetOf n (startOf s k)) s i
+    go (no q) t = inl (omega arith)
+    go (yes q) (yes t) = inr t
+    go (yes q) (no t) = absurd (omega arith)
 
 -- whether k is on the chain
 abbrev pub among : ℕ → List ℕ → Bool
@@ -84,7 +108,7 @@ not-among k [] e = tt
 not-among k (j ∷ js) e = go (ℕ-discrete k j) (not-among k js)
   where
     go : Dec (k ≡ j) → (among k js ≡ false → Not k js) → (k ≢ j) × Not k js
-    go (yes q) h = absurd (clash (sym (ap (λ (t : Bool). t || among k js) (eq-eqb k j q)) ∙ e))
+    go (yes q) h = absurd (true≢false (sym (ap (λ (t : Bool). t || among k js) (eq-eqb k j q)) ∙ e))
     go (no q) h = (q, h (sym (ap (λ (t : Bool). t || among k js) (ne-eqb k j q)) ∙ e))
 
 -- ---- the chain in memory: from the link l exactly the blocks ks of pool n are met, and then 0
@@ -131,18 +155,10 @@ module _ {s n : ℕ} {m : List ℕ} {free next : ℕ} {live : ℕ → Bool} {cha
 
   -- a live block lies below the virgin ones, and is not on the chain
   pub live-below : (k : ℕ) → live k ≡ true → k < virgin
-  live-below k e = go (decLe virgin k)
-    where
-      go : Dec (virgin ≤ k) → k < virgin
-      go (yes q) = absurd (clash (sym e ∙ B .rest k q))
-      go (no q) = omega arith
+  live-below k e = let d : ¬ (virgin ≤ k) = (λ q. true≢false (sym e ∙ B .rest k q)) in omega arith
 
   pub live-off : (k : ℕ) → live k ≡ true → Not k chain
-  live-off k e = not-among k chain (flipped (among k chain) (sym (B .either k (live-below k e)) ∙ e))
-    where
-      flipped : (t : Bool) → not t ≡ true → t ≡ false
-      flipped true p = sym p
-      flipped false p = refl
+  live-off k e = not-among k chain (not-true (among k chain) (sym (B .either k (live-below k e)) ∙ e))
 
   -- memory may change wherever the chain's links do not lie
   pub framed : (m′ : List ℕ) → All (λ k. linkAt m′ (offsetOf n (startOf s k)) ≡ linkAt m (offsetOf n (startOf s k))) chain
@@ -159,13 +175,13 @@ module _ {s n : ℕ} {m : List ℕ} {free next : ℕ} {live : ℕ → Bool} {cha
       }
 
   -- only the bytes of the first four of block k may differ, where k is not on the chain
-  pub written : (m′ : List ℕ) (k : ℕ) → 4 ≤ s → Not k chain → ((i : ℕ) → Off i (offsetOf n (startOf s k)) → at m′ i ≡ at m i)
+  pub written : (m′ : List ℕ) (k : ℕ) → 4 ≤ s → Not k chain → ((i : ℕ) → Outside (offsetOf n (startOf s k)) 4 i → at m′ i ≡ at m i)
       → Blocks s n m′ free next live chain virgin
   written m′ k l d same =
       framed m′ (all-map {R = λ j. linkAt m′ (offsetOf n (startOf s j)) ≡ linkAt m (offsetOf n (startOf s j))}
-      (λ j (q : k ≢ j). link-bytes m m′ (offsetOf n (startOf s j)) (λ d u. same (offsetOf n (startOf s j) + d) (off j d u (blocks-apart s k j q)))) chain d)
+      (λ j (q : k ≢ j). link-bytes m m′ (offsetOf n (startOf s j)) (λ d u. same (offsetOf n (startOf s j) + d) (off j d u (blocks-apart s n k j q)))) chain d)
     where
-      off : (j d : ℕ) → d < 4 → (startOf s k + s ≤ startOf s j) ⊎ (startOf s j + s ≤ startOf s k) → Off (offsetOf n (startOf s j) + d) (offsetOf n (startOf s k))
+      off : (j d : ℕ) → d < 4 → Clear (offsetOf n (startOf s k)) s (offsetOf n (startOf s j)) s → Outside (offsetOf n (startOf s k)) 4 (offsetOf n (startOf s j) + d)
       off j d u (inl h) = inr (omega arith)
       off j d u (inr h) = inl (omega arith)
 

@@ -2,7 +2,7 @@
 -- Assumes nothing.
 use mathlib.Core.Path.{_≡_, refl, sym, ap, _∙_}
 use mathlib.Core.Logic.{_≢_, _⊎_, inl, inr}
-use mathlib.Core.Bool.{true, false}
+use mathlib.Core.Bool.{true, false, false≢true}
 use mathlib.Core.List.{List, _∷_, _++_}
 use Prim.Native.Nat.{ℕ, zero, suc, _+_, _*_, _-_, _%_, _^_, _≤_, _<_}
 use native.Mathlib.Nat.{zero-div}
@@ -17,7 +17,6 @@ use Rattle.rules.specs.Books.{at, inRange, memoryLength, mapLength, bit, isSet,
 use Rattle.rules.specs.Format.{freshArenas, freshPools, freshBooks}
 use Rattle.rules.specs.Outcome.{heapOf}
 use Rattle.books.specs.Known.{in-range}
-use Rattle.laws.specs.Update.{clash}
 use Rattle.laws.specs.Rows.{All, Once, In, Seg}
 use Rattle.laws.specs.Linked.{Doubly}
 use Rattle.laws.specs.Families.{At}
@@ -29,6 +28,18 @@ use Rattle.laws.specs.Sound.{home, base, arenaRows, Sound}
 use Rattle.laws.specs.Held.{Says, viewOf, home-away, base-unused, sound}
 
 -- ---- the records
+-- what holds of each of the eight words of a record
+each-word : (Q : ℕ → Type 0) → Q 0 × Q 1 × Q 2 × Q 3 × Q 4 × Q 5 × Q 6 × Q 7 → (w : ℕ) → w < 8 → Q w
+each-word Q q zero u = q .0
+each-word Q q (suc zero) u = q .1
+each-word Q q (suc (suc zero)) u = q .2
+each-word Q q (suc (suc (suc zero))) u = q .3
+each-word Q q (suc (suc (suc (suc zero)))) u = q .4
+each-word Q q (suc (suc (suc (suc (suc zero))))) u = q .5
+each-word Q q (suc (suc (suc (suc (suc (suc zero)))))) u = q .6
+each-word Q q (suc (suc (suc (suc (suc (suc (suc zero))))))) u = q .7
+each-word Q q (suc (suc (suc (suc (suc (suc (suc (suc w)))))))) u = absurd (omega arith)
+
 -- word w of record a, in a list of records of eight words
 eight : (a w : ℕ) → 8 * suc a + w ≡ suc (suc (suc (suc (suc (suc (suc (suc (8 * a + w))))))))
 eight a w = omega arith
@@ -46,34 +57,15 @@ arena-words i (suc k) zero w l u =
     let f : suc k - 1 ≡ k = omega arith in
     let g : i + 0 + 1 ≡ i + 1 = omega arith in
     let h : i + 0 ≡ i = omega arith in
-    rw (e, f, g, h) (go w u)
-  where
-    go : (w : ℕ) → w < 8 → at (freshArenas i (suc k)) w ≡ (if eqb w 4 then (if eqb k 0 then 0 else linkTo (i + 1)) else if eqb w 5 then i else 0)
-    go zero u = refl
-    go (suc zero) u = refl
-    go (suc (suc zero)) u = refl
-    go (suc (suc (suc zero))) u = refl
-    go (suc (suc (suc (suc zero)))) u = refl
-    go (suc (suc (suc (suc (suc zero))))) u = refl
-    go (suc (suc (suc (suc (suc (suc zero)))))) u = refl
-    go (suc (suc (suc (suc (suc (suc (suc zero))))))) u = refl
-    go (suc (suc (suc (suc (suc (suc (suc (suc w)))))))) u = absurd (omega arith)
+    rw (e, f, g, h)
+    (each-word (λ w. at (freshArenas i (suc k)) w ≡ (if eqb w 4 then (if eqb k 0 then 0 else linkTo (i + 1)) else if eqb w 5 then i else 0)) (refl, refl, refl, refl, refl, refl, refl, refl) w u)
 
 pool-words : (k n w : ℕ) → n < k → w < 8 → at (freshPools k) (8 * n + w) ≡ (if eqb w 4 then noClass else 0)
 pool-words zero n w l u = absurd (omega arith)
 pool-words (suc k) (suc n) w l u = rw (eight n w) (pool-words k n w (omega arith) u)
-pool-words (suc k) zero w l u = let e : 8 * 0 + w ≡ w = omega arith in rw e (go w u)
-  where
-    go : (w : ℕ) → w < 8 → at (freshPools (suc k)) w ≡ (if eqb w 4 then noClass else 0)
-    go zero u = refl
-    go (suc zero) u = refl
-    go (suc (suc zero)) u = refl
-    go (suc (suc (suc zero))) u = refl
-    go (suc (suc (suc (suc zero)))) u = refl
-    go (suc (suc (suc (suc (suc zero))))) u = refl
-    go (suc (suc (suc (suc (suc (suc zero)))))) u = refl
-    go (suc (suc (suc (suc (suc (suc (suc zero))))))) u = refl
-    go (suc (suc (suc (suc (suc (suc (suc (suc w)))))))) u = absurd (omega arith)
+pool-words (suc k) zero w l u =
+    let e : 8 * 0 + w ≡ w = omega arith in
+    rw e (each-word (λ w. at (freshPools (suc k)) w ≡ (if eqb w 4 then noClass else 0)) (refl, refl, refl, refl, refl, refl, refl, refl) w u)
 
 length-arenas : (i k : ℕ) → length (freshArenas i k) ≡ 8 * k
 length-arenas i zero = refl
@@ -242,21 +234,22 @@ module _ (al A P : ℕ) (L : Aligned al) (m : List ℕ) (range : inRange A P ≡
         head-zeros = λ i u v. other-heads A P i (omega arith) v;
         arena-zeros = λ w a u v l. zero-arena w a v (omega arith) (omega arith) l;
         pool-zeros = λ n l. zero-pool 7 n (omega arith) (omega arith) l;
-        opens = λ a l. zero-arena 0 a (omega arith) (omega arith) (omega arith) l;
-        marks = λ a l. zero-arena 1 a (omega arith) (omega arith) (omega arith) l;
-        mark-high = λ a l. omega arith;
-        frees = λ a l. zero-arena 2 a (omega arith) (omega arith) (omega arith) l;
-        counts = λ n l. zero-pool 0 n (omega arith) (omega arith) l ∙ sym (no-live n);
-        classes = λ n l. pool-word A P 4 n (omega arith) l;
+        arenas = λ a l. record {
+          open-is = zero-arena 0 a (omega arith) (omega arith) (omega arith) l;
+          mark-is = zero-arena 1 a (omega arith) (omega arith) (omega arith) l;
+          mark-high = omega arith;
+          free-is = zero-arena 2 a (omega arith) (omega arith) (omega arith) l;
+          base-is = refl;
+        };
+        pools = λ n l. record {
+          count-is = zero-pool 0 n (omega arith) (omega arith) l ∙ sym (no-live n);
+          class-is = pool-word A P 4 n (omega arith) l;
+          used = λ j e. absurd (false≢true e);
+          rule = λ c. absurd (omega (arith, ltb-true (n % P) 0 c));
+          home-is = refl;
+        };
         bits = dark;
-        used = λ n j l e. absurd (clash (sym e));
-        pools = λ n l c. absurd (omega (arith, ltb-true (n % P) 0 c));
-        homes = λ n l. refl;
-        bases = λ a l. refl;
-        listed = λ c l. refl;
-        freed = λ a l. refl;
-        usable = refl;
-        unused = refl;
+        lists = record { listed = λ c l. refl; freed = λ a l. refl; usable = refl; unused = refl };
       }
 
   -- format leaves the fresh plain heap

@@ -2,7 +2,7 @@
 -- Assumes nothing.
 use mathlib.Core.Path.{_≡_, refl, sym, ap, ap₂, _∙_, subst}
 use mathlib.Core.Logic.{_≢_, _⊎_, inl, inr}
-use mathlib.Core.Bool.{Bool, true, false}
+use mathlib.Core.Bool.{Bool, true, false, true≢false}
 use mathlib.Core.List.{List, []}
 use Prim.Native.Nat.{ℕ, suc, _+_, _*_, _/_, _%_, _≤_, _<_}
 use native.Mathlib.Decide.{ℕ-discrete}
@@ -15,7 +15,7 @@ use Rattle.rules.specs.Blocks.{sizeOf, lastClass, startOf, blockNo, capacity, c
 use Rattle.rules.specs.View.{part}
 use Rattle.books.specs.Starts.{start-is, number-is}
 use Rattle.books.specs.Known.{live-is}
-use Rattle.laws.specs.Update.{clash, to}
+use Rattle.laws.specs.Update.{is-false, to}
 use Rattle.laws.specs.Plain.{Plain}
 use Rattle.laws.specs.Sizes.{Aligned, size-low, capacity-high}
 use Rattle.laws.specs.Chains.{block-ends, live-below}
@@ -37,6 +37,13 @@ pub record LiveAt (al A P : ℕ) (r : Plain) (o : ℕ) : Type 0 where
   pub class : r .class pool ≤ lastClass al
   pub fits : block < capacity (sizeOf al (r .class pool))
   pub on : r .live pool block ≡ true
+
+-- how long that block is, and that it lies in its pool
+abbrev pub liveSize : {al A P : ℕ} {r : Plain} {o : ℕ} → LiveAt al A P r o → ℕ
+liveSize {al} {r = r} t = sizeOf al (r .class (t .pool))
+
+pub live-ends : {al A P : ℕ} {r : Plain} {o : ℕ} (t : LiveAt al A P r o) → startOf (liveSize t) (t .block) + liveSize t ≤ 4096
+live-ends t = block-ends (liveSize t) (t .block) (suc (t .block)) (omega arith) (t .fits)
 
 pub dead-holding : (al A P : ℕ) (h : Heap) (o : ℕ) → live al A P (h .books) (h .map) o ≡ false → holding al A P h o ≡ []
 unfolding holding
@@ -78,20 +85,17 @@ module _ {al A P : ℕ} {h : Heap} {r : Plain} (L : Aligned al) (S : Sound al A 
   block-pool p k l on = refl
 
   module _ (o : ℕ) (t : LiveAt al A P r o) where
-    ends : startOf (sizeOf al (r .class (t .pool))) (t .block) + sizeOf al (r .class (t .pool)) ≤ 4096
-    ends = block-ends (sizeOf al (r .class (t .pool))) (t .block) (suc (t .block)) (omega arith) (t .fits)
-
-    low : 8 ≤ sizeOf al (r .class (t .pool))
+    low : 8 ≤ liveSize t
     low = size-low L (r .class (t .pool)) (t .class)
 
     pub pool-is : o / 4096 ≡ t .pool
-    pool-is = omega (arith, t .place, ends, low)
+    pool-is = omega (arith, t .place, live-ends t, low)
 
-    pub start-at : o % 4096 ≡ startOf (sizeOf al (r .class (t .pool))) (t .block)
-    start-at = omega (arith, t .place, ends, low)
+    pub start-at : o % 4096 ≡ startOf (liveSize t) (t .block)
+    start-at = omega (arith, t .place, live-ends t, low)
 
-    pub number-at : blockNo (sizeOf al (r .class (t .pool))) (o % 4096) ≡ t .block
-    number-at = ap (blockNo (sizeOf al (r .class (t .pool)))) start-at ∙ number-is (sizeOf al (r .class (t .pool))) (t .block) (omega (arith, low))
+    pub number-at : blockNo (liveSize t) (o % 4096) ≡ t .block
+    number-at = ap (blockNo (liveSize t)) start-at ∙ number-is (liveSize t) (t .block) (omega (arith, low))
 
     pub class-is : classAt A (h .books) o ≡ r .class (t .pool)
     class-is = S .classes (o / 4096) (rw pool-is (t .inside)) ∙ ap (r .class) pool-is
@@ -101,37 +105,31 @@ module _ {al A P : ℕ} {h : Heap} {r : Plain} (L : Aligned al) (S : Sound al A 
     rows-live =
         rw (
           class-is,
-          lt-ltb o (memoryLength A P) (omega (arith, t .place, ends, low, t .inside)),
+          lt-ltb o (memoryLength A P) (omega (arith, t .place, live-ends t, low, t .inside)),
           le-leb (r .class (t .pool)) (lastClass al) (t .class),
           start-at,
-          start-is (sizeOf al (r .class (t .pool))) (t .block) (t .fits),
-          number-is (sizeOf al (r .class (t .pool))) (t .block) (omega (arith, low)),
+          start-is (liveSize t) (t .block) (t .fits),
+          number-is (liveSize t) (t .block) (omega (arith, low)),
           pool-is,
           S .bits (t .pool) (t .block) (t .inside) (omega (arith, t .fits, capacity-high L (r .class (t .pool)) (t .class))),
           t .on,
         )
 
-    pub holding-live : holding al A P h o ≡ part o (sizeOf al (r .class (t .pool))) (h .memory)
+    pub holding-live : holding al A P h o ≡ part o (liveSize t) (h .memory)
     unfolding holding
     holding-live = rw (rows-live, class-is)
 
     -- the block lies in memory, and what is held is as long as it
-    pub in-memory : o + sizeOf al (r .class (t .pool)) ≤ length (h .memory)
-    in-memory = omega (arith, t .place, t .inside, held S .says .bytes, ends)
+    pub in-memory : o + liveSize t ≤ length (h .memory)
+    in-memory = omega (arith, t .place, t .inside, held S .says .bytes, live-ends t)
 
-    pub holding-long : length (holding al A P h o) ≡ sizeOf al (r .class (t .pool))
-    holding-long = ap length holding-live ∙ part-long (h .memory) o (sizeOf al (r .class (t .pool))) in-memory
+    pub holding-long : length (holding al A P h o) ≡ liveSize t
+    holding-long = ap length holding-live ∙ part-long (h .memory) o (liveSize t) in-memory
 
     pub holding-more : 8 ≤ length (holding al A P h o)
     holding-more = omega (arith, holding-long, low)
 
 -- ---- where live blocks and their bytes stand, so does what is held
-flag : (t u : Bool) → (t ≡ true → u ≡ true) → (u ≡ true → t ≡ true) → t ≡ u
-flag true true f g = refl
-flag true false f g = sym (f refl)
-flag false true f g = g refl
-flag false false f g = refl
-
 module _ {al A P : ℕ} {h h′ : Heap} {r r′ : Plain} (L : Aligned al) (S : Sound al A P h r) (S′ : Sound al A P h′ r′) (Q : Quiet al A P (h .memory) (h′ .memory) r′) where
   -- an offset that is live before and after, in a pool of the same class
   pub holding-same : (o : ℕ) → (LiveAt al A P r o → LiveAt al A P r′ o) → ((t : LiveAt al A P r′ o) → LiveAt al A P r o × (r .class (t .pool) ≡ r′ .class (t .pool)))
@@ -141,14 +139,14 @@ module _ {al A P : ℕ} {h h′ : Heap} {r r′ : Plain} (L : Aligned al) (S : S
       go : (t : Bool) → live al A P (h′ .books) (h′ .map) o ≡ t → holding al A P h′ o ≡ holding al A P h o
       go false e =
           dead-holding al A P h′ o e
-          ∙ sym (dead-holding al A P h o (flag (live al A P (h .books) (h .map) o) false (λ u. absurd (clash (sym (rows-live L S′ o (f (live-rows L S o u))) ∙ e))) (λ u. absurd (clash (sym u)))))
+          ∙ sym (dead-holding al A P h o (is-false (live al A P (h .books) (h .map) o) (λ u. true≢false (sym (rows-live L S′ o (f (live-rows L S o u))) ∙ e))))
       go true e =
           let t = live-rows L S′ o e in
           let u = g t .0 in
           let q : u .pool ≡ t .pool = sym (pool-is L S o u) ∙ pool-is L S′ o t in
           let c : r .class (u .pool) ≡ r′ .class (t .pool) = ap (r .class) q ∙ g t .1 in
           holding-live L S′ o t
-          ∙ part-same (h .memory) (h′ .memory) o (sizeOf al (r′ .class (t .pool))) (Q .same-length)
+          ∙ part-same (h .memory) (h′ .memory) o (liveSize t) (Q .same-length)
           (omega (arith, in-memory L S′ o t, Q .same-length))
           (λ d v. subst (λ (x : ℕ). at (h′ .memory) (x + d) ≡ at (h .memory) (x + d)) (sym (t .place)) (Q .live-bytes (t .pool) (t .block) d (t .inside) (t .on) v))
           ∙ sym (holding-live L S o u ∙ ap (λ (x : ℕ). part o (sizeOf al x) (h .memory)) c)
@@ -187,18 +185,18 @@ module _ {al A P : ℕ} {h h′ : Heap} {r r′ : Plain} (L : Aligned al) (S : S
         q = sym (pool-is L S o t) ∙ omega (arith, H .place, ends, size-low L c lc)
 
         go : (r .class (H .pool) ≡ c) ⊎ ((j : ℕ) → r .live (H .pool) j ≡ false) → ⊥
-        go (inr f) = clash (sym (t .on) ∙ ap (λ (x : ℕ). r .live x (t .block)) q ∙ f (t .block))
+        go (inr f) = true≢false (sym (t .on) ∙ ap (λ (x : ℕ). r .live x (t .block)) q ∙ f (t .block))
         go (inl e) =
             let c′ : r .class (t .pool) ≡ c = ap (r .class) q ∙ e in
             let k : t .block ≡ H .block =
             sym (number-at L S o t)
             ∙ ap₂ (λ (x y : ℕ). blockNo (sizeOf al x) y) c′ (omega (arith, H .place, ends, size-low L c lc))
             ∙ number-is (sizeOf al c) (H .block) (omega (arith, size-low L c lc)) in
-            clash (sym (t .on) ∙ ap₂ (r .live) q k ∙ H .was-dead)
+            true≢false (sym (t .on) ∙ ap₂ (r .live) q k ∙ H .was-dead)
 
     -- nothing was held there
     pub holding-none : holding al A P h o ≡ []
-    holding-none = dead-holding al A P h o (flag (live al A P (h .books) (h .map) o) false (λ u. absurd (was-free (live-rows L S o u))) (λ u. absurd (clash (sym u))))
+    holding-none = dead-holding al A P h o (is-false (live al A P (h .books) (h .map) o) (λ u. was-free (live-rows L S o u)))
 
     pub holding-others : (x : ℕ) → x ≢ o → holding al A P h′ x ≡ holding al A P h x
     holding-others x d = holding-same x stays back
@@ -214,7 +212,7 @@ module _ {al A P : ℕ} {h h′ : Heap} {r r′ : Plain} (L : Aligned al) (S : S
             go (yes q) = pick (H .kind)
               where
                 pick : (r .class (H .pool) ≡ c) ⊎ ((j : ℕ) → r .live (H .pool) j ≡ false) → LiveAt al A P r′ x
-                pick (inr f) = absurd (clash (sym (t .on) ∙ ap (λ (y : ℕ). r .live y (t .block)) q ∙ f (t .block)))
+                pick (inr f) = absurd (true≢false (sym (t .on) ∙ ap (λ (y : ℕ). r .live y (t .block)) q ∙ f (t .block)))
                 pick (inl e) = same (rw q (H .class-now ∙ sym e)) (live-at (t .pool) (t .block) ∙ rw (eq-eqb (t .pool) (H .pool) q) (on′ (ℕ-discrete (t .block) (H .block))))
                   where
                     on′ : Dec (t .block ≡ H .block) → to (H .block) true (r .live (H .pool)) (t .block) ≡ true
@@ -242,7 +240,7 @@ module _ {al A P : ℕ} {h h′ : Heap} {r r′ : Plain} (L : Aligned al) (S : S
                     on = sym (rw (eq-eqb (t .pool) (H .pool) q, ne-eqb (t .block) (H .block) u) at (live-at (t .pool) (t .block))) ∙ t .on
 
                     pick : (r .class (H .pool) ≡ c) ⊎ ((j : ℕ) → r .live (H .pool) j ≡ false) → LiveAt al A P r x × (r .class (t .pool) ≡ r′ .class (t .pool))
-                    pick (inr f) = absurd (clash (sym on ∙ f (t .block)))
+                    pick (inr f) = absurd (true≢false (sym on ∙ f (t .block)))
                     pick (inl e) = same (ap (r .class) q ∙ e ∙ sym now) (rw q on)
 
   -- ---- a give-back of block j of pool p
@@ -257,7 +255,7 @@ module _ {al A P : ℕ} {h h′ : Heap} {r r′ : Plain} (L : Aligned al) (S : S
     -- nothing is held there any more
     pub holding-gone : holding al A P h′ o ≡ []
     holding-gone =
-        dead-holding al A P h′ o (flag (live al A P (h′ .books) (h′ .map) o) false (λ u. absurd (gone (live-rows L S′ o u))) (λ u. absurd (clash (sym u))))
+        dead-holding al A P h′ o (is-false (live al A P (h′ .books) (h′ .map) o) (λ u. gone (live-rows L S′ o u)))
       where
         gone : LiveAt al A P r′ o → ⊥
         gone t =
@@ -269,7 +267,7 @@ module _ {al A P : ℕ} {h h′ : Heap} {r r′ : Plain} (L : Aligned al) (S : S
             sym (number-at L S′ o t)
             ∙ ap₂ (λ (x y : ℕ). blockNo (sizeOf al x) y) c′ (omega (arith, ends, low))
             ∙ number-is (sizeOf al (r .class p)) j (omega (arith, low)) in
-            clash (sym (t .on) ∙ off (t .pool) (t .block) ∙ rw (eq-eqb (t .pool) p q, eq-eqb (t .block) j k))
+            true≢false (sym (t .on) ∙ off (t .pool) (t .block) ∙ rw (eq-eqb (t .pool) p q, eq-eqb (t .block) j k))
 
     pub holding-kept : (x : ℕ) → x ≢ o → holding al A P h′ x ≡ holding al A P h x
     holding-kept x d = holding-same x stays back
@@ -302,7 +300,7 @@ module _ {al A P : ℕ} {h h′ : Heap} {r r′ : Plain} (L : Aligned al) (S : S
             go : Dec (t .pool ≡ p) → Dec (t .block ≡ j) → to p (to j false (r .live p)) (r .live) (t .pool) (t .block) ≡ true → r .live (t .pool) (t .block) ≡ true
             go (no q) u e = rw (ne-eqb (t .pool) p q) at e
             go (yes q) (no u) e = rw q (rw (eq-eqb (t .pool) p q, ne-eqb (t .block) j u) at e)
-            go (yes q) (yes u) e = absurd (clash (sym e ∙ rw (eq-eqb (t .pool) p q, eq-eqb (t .block) j u)))
+            go (yes q) (yes u) e = absurd (true≢false (sym e ∙ rw (eq-eqb (t .pool) p q, eq-eqb (t .block) j u)))
 
 -- ---- what a step leaves, the heap being h before it: a heap that holds the rows r, at each offset the bytes that g says, and the first 48 bytes of each pool
 pub record Leaves (al A P : ℕ) (h h′ : Heap) (r : Plain) (g : ℕ → List ℕ) : Type 0 where

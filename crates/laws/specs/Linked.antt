@@ -1,4 +1,5 @@
--- Rows in the words of the books: the writes of joining and leaving a doubly linked list and of a stack, and what they leave of every list.
+-- Rows in the words of the books: the writes of joining and leaving a doubly linked list, and what they leave of it and of every other word; and the freed pools' lists, which are
+-- linked by next alone.
 -- Assumes nothing.
 use mathlib.Core.Path.{_≡_, refl, sym, ap, _∙_}
 use mathlib.Core.Logic.{_≢_}
@@ -12,7 +13,7 @@ use lib.Seq.{getD-set-same, getD-set-other, lt-length-set}
 use Rattle.rules.specs.Say.{if_then_else_, only}
 use Rattle.rules.specs.Books.{at, none?}
 use Rattle.rules.specs.Lists.{leave, join, leaveBy, joinBy}
-use Rattle.laws.specs.Rows.{All, Not, Once, Row, Joined, Left, row-same, row-joins, row-leaves, head-in, next-in, prev-in, all-map, all-two, all-right}
+use Rattle.laws.specs.Rows.{All, Not, Once, Row, Joined, Left, row-same, row-joins, row-leaves, head-in, next-in, prev-in, all-map, all-two}
 
 -- ---- the two kinds of lists, by their head word
 -- from the head word h exactly xs is met, linked both ways
@@ -60,6 +61,26 @@ unfoldable pub left : (nx pv : ℕ → ℕ) (h x : ℕ) → List ℕ → List �
 left nx pv h x b =
     set (set (store (set b (place h nx (at b (pv x))) (at b (nx x))) pv (at b (nx x)) (at b (pv x))) (nx x) 0) (pv x) 0
 
+-- what a store leaves: v at the target's word, and every other word
+store-same : (f : ℕ → ℕ) (k v y : ℕ) (b : List ℕ) → k ≡ suc y → f y < length b → at (store b f k v) (f y) ≡ v
+store-same f zero v y b e l = absurd (omega arith)
+store-same f (suc k) v y b e l = let q : k ≡ y = omega arith in rw q (getD-set-same b (f y) v 0 l)
+
+store-other : (f : ℕ → ℕ) (k v i : ℕ) (b : List ℕ) → ((y : ℕ) → k ≡ suc y → i ≢ f y) → at (store b f k v) i ≡ at b i
+store-other f zero v i b n = refl
+store-other f (suc k) v i b n = getD-set-other b (f k) i v 0 (n k refl)
+
+store-length : (b : List ℕ) (f : ℕ → ℕ) (k v : ℕ) → length (store b f k v) ≡ length b
+store-length b f zero v = refl
+store-length b f (suc k) v = length-set b (f k) v
+
+lt-store : (b : List ℕ) (f : ℕ → ℕ) (k v : ℕ) {i : ℕ} → i < length b → i < length (store b f k v)
+lt-store b f k v {i} h = rw store-length h
+
+place-other : (f : ℕ → ℕ) (h k i : ℕ) → (k ≡ 0 → i ≢ h) → ((y : ℕ) → k ≡ suc y → i ≢ f y) → i ≢ place h f k
+place-other f h zero i m n = m refl
+place-other f h (suc k) i m n = n k refl
+
 -- ---- they are the rules' writes
 store-only : (b : List ℕ) (f : ℕ → ℕ) (base k v : ℕ) → ((y : ℕ) → f y ≡ base + 8 * y + 1)
     → only (not (none? k)) (λ x. set x (base + 8 * (k - 1) + 1) v) b ≡ store b f k v
@@ -82,90 +103,43 @@ module _ (nx pv : ℕ → ℕ) (base : ℕ) (e : (y : ℕ) → nx y ≡ base + 8
   unfolding joinBy joined
   join-is = let q : n + 1 ≡ suc n = omega arith in rw (store-only _ pv base (at b h) (n + 1) f, ← f n, ← e n, q)
 
--- ---- what they write
-module _ (nx pv : ℕ → ℕ) (h N len : ℕ) (L : Lay nx pv h N len) (x : ℕ) (b : List ℕ) where
-  join-writes : (k : ℕ) → nx x < length b → pv x < length b → h < length b → ((y : ℕ) → k ≡ suc y → pv y < length b)
-      → k ≢ suc x
-      → (b′ : List ℕ) → b′ ≡ set (store (set (set b (nx x) k) (pv x) 0) pv k (suc x)) h (suc x)
+-- ---- what they write, b′ being the books after
+module _ {nx pv : ℕ → ℕ} {h N len : ℕ} (L : Lay nx pv h N len) (x : ℕ) (b b′ : List ℕ) where
+  join-writes : (k : ℕ) → b′ ≡ set (store (set (set b (nx x) k) (pv x) 0) pv k (suc x)) h (suc x)
+      → nx x < length b → pv x < length b → h < length b → ((y : ℕ) → k ≡ suc y → pv y < length b) → k ≢ suc x
       → Joined x (λ n. at b (nx n)) (λ n. at b (pv n)) k (λ n. at b′ (nx n)) (λ n. at b′ (pv n)) (at b′ h)
-  join-writes zero i j l m d b′ e =
+  join-writes k e i j l m d =
       record {
-        head = rw e (search (getD-set-same, lt-length-set));
-        own-next = rw e (simp (getD-set-other, getD-set-same, L .nx-h, L .nx-pv));
-        own-prev = rw e (search (getD-set-other, getD-set-same, lt-length-set, L .pv-h));
-        old-head = λ y n f. absurd (omega arith);
-        next-same = λ y n. rw e (simp (getD-set-other, L .nx-h, L .nx-pv, L .nx-nx));
-        prev-same = λ y n f. rw e (simp (getD-set-other, L .pv-h, L .pv-pv, L .pv-nx));
+        head = rw e (search (getD-set-same, lt-length-set, lt-store));
+        own-next = past (nx x) (L .nx-h x) (λ y _. L .nx-pv x y) ∙ getD-set-other (set b (nx x) k) (pv x) (nx x) 0 0 (L .nx-pv x x) ∙ getD-set-same b (nx x) k 0 i;
+        own-prev = past (pv x) (L .pv-h x) (λ y q. L .pv-pv x y (λ t. d (q ∙ ap suc (sym t)))) ∙ getD-set-same (set b (nx x) k) (pv x) 0 0 (lt-length-set b (nx x) k j);
+        old-head = λ y n f. rw e (simp (getD-set-other, L .pv-h)
+            (store-same pv k (suc x) y (set (set b (nx x) k) (pv x) 0) f (lt-length-set (set b (nx x) k) (pv x) 0 (lt-length-set b (nx x) k (m y f)))));
+        next-same = λ y n. past (nx y) (L .nx-h y) (λ z _. L .nx-pv y z) ∙ simp (getD-set-other, L .nx-pv, L .nx-nx);
+        prev-same = λ y n f. past (pv y) (L .pv-h y) (λ z q. L .pv-pv y z (λ t. f (q ∙ ap suc (sym t)))) ∙ simp (getD-set-other, L .pv-pv, L .pv-nx);
       }
-  join-writes (suc k) i j l m d b′ e =
-      record {
-        head = rw e (search (getD-set-same, lt-length-set));
-        own-next = rw e (simp (getD-set-other, getD-set-same, L .nx-h, L .nx-pv));
-        own-prev =
-            let g : x ≢ k = (λ t. d (ap suc (sym t))) in
-            rw e (search (getD-set-other, getD-set-same, lt-length-set, L .pv-h, L .pv-pv));
-        old-head = λ y n f.
-            let g : y ≡ k = omega arith in
-            let o : pv k < length b = m k refl in
-            rw (g, e) (search (getD-set-other, getD-set-same, lt-length-set, L .pv-h));
-        next-same = λ y n. rw e (simp (getD-set-other, L .nx-h, L .nx-pv, L .nx-nx));
-        prev-same = λ y n f.
-            let g : y ≢ k = (λ t. f (ap suc (sym t))) in
-            rw e (simp (getD-set-other, L .pv-h, L .pv-pv, L .pv-nx));
-      }
+    where
+      past : (i : ℕ) → i ≢ h → ((y : ℕ) → k ≡ suc y → i ≢ pv y) → at b′ i ≡ at (set (set b (nx x) k) (pv x) 0) i
+      past i a c = rw e (simp (getD-set-other, store-other))
 
-  leave-writes : (p n : ℕ) → nx x < length b → pv x < length b → h < length b
-      → ((y : ℕ) → p ≡ suc y → nx y < length b) → ((y : ℕ) → n ≡ suc y → pv y < length b)
-      → (b′ : List ℕ) → b′ ≡ set (set (store (set b (place h nx p) n) pv n p) (nx x) 0) (pv x) 0
+  leave-writes : (p n : ℕ) → b′ ≡ set (set (store (set b (place h nx p) n) pv n p) (nx x) 0) (pv x) 0
+      → h < length b → ((y : ℕ) → p ≡ suc y → nx y < length b) → ((y : ℕ) → n ≡ suc y → pv y < length b)
       → Left x p n (λ n. at b (nx n)) (λ n. at b (pv n)) (at b h) (λ n. at b′ (nx n)) (λ n. at b′ (pv n)) (at b′ h)
-  leave-writes zero zero i j l f g b′ e =
+  leave-writes p n e l f g =
       record {
-        head = λ _. rw e (search (getD-set-other, getD-set-same, L .h-nx, L .h-pv));
-        head-same = λ a. absurd (a refl);
-        before = λ y a c. absurd (omega arith);
-        after = λ y a c. absurd (omega arith);
-        next-same = λ y a c. rw e (simp (getD-set-other, L .nx-h, L .nx-pv, L .nx-nx));
-        prev-same = λ y a c. rw e (simp (getD-set-other, L .pv-h, L .pv-nx, L .pv-pv));
+        head = λ z. past h (L .h-nx x) (L .h-pv x) (λ y _. L .h-pv y) ∙ rw z (getD-set-same b h n 0 l);
+        head-same = λ z. past h (L .h-nx x) (L .h-pv x) (λ y _. L .h-pv y) ∙ getD-set-other b (place h nx p) h n 0 (place-other nx h p h (λ q. absurd (z q)) (λ y _. L .h-nx y));
+        before = λ y a c. past (nx y) (L .nx-nx y x a) (L .nx-pv y x) (λ z _. L .nx-pv y z) ∙ rw c (getD-set-same b (nx y) n 0 (f y c));
+        after = λ y a c. rw e (simp (getD-set-other, L .pv-pv, L .pv-nx)
+            (store-same pv n p y (set b (place h nx p) n) c (lt-length-set b (place h nx p) n (g y c))));
+        next-same = λ y a c. past (nx y) (L .nx-nx y x a) (L .nx-pv y x) (λ z _. L .nx-pv y z)
+            ∙ getD-set-other b (place h nx p) (nx y) n 0 (place-other nx h p (nx y) (λ _. L .nx-h y) (λ z q. L .nx-nx y z (λ t. c (q ∙ ap suc (sym t)))));
+        prev-same = λ y a c. past (pv y) (L .pv-nx y x) (L .pv-pv y x a) (λ z q. L .pv-pv y z (λ t. c (q ∙ ap suc (sym t))))
+            ∙ getD-set-other b (place h nx p) (pv y) n 0 (place-other nx h p (pv y) (λ _. L .pv-h y) (λ z _. L .pv-nx y z));
       }
-  leave-writes zero (suc n) i j l f g b′ e =
-      record {
-        head = λ _. rw e (search (getD-set-other, getD-set-same, L .h-nx, L .h-pv));
-        head-same = λ a. absurd (a refl);
-        before = λ y a c. absurd (omega arith);
-        after = λ y a c.
-            let o : pv y < length b = g y c in
-            let q : n ≡ y = omega arith in
-            rw (e, q) (search (getD-set-other, getD-set-same, lt-length-set, L .pv-nx, L .pv-pv));
-        next-same = λ y a c. rw e (simp (getD-set-other, L .nx-h, L .nx-pv, L .nx-nx));
-        prev-same = λ y a c. let q : y ≢ n = (λ t. c (ap suc (sym t))) in rw e (simp (getD-set-other, L .pv-h, L .pv-nx, L .pv-pv));
-      }
-  leave-writes (suc p) zero i j l f g b′ e =
-      record {
-        head = λ a. absurd (omega arith);
-        head-same = λ a. rw e (simp (getD-set-other, L .h-nx, L .h-pv));
-        before = λ y a c.
-            let o : nx y < length b = f y c in
-            let q : p ≡ y = omega arith in
-            rw (e, q) (search (getD-set-other, getD-set-same, L .nx-nx, L .nx-pv));
-        after = λ y a c. absurd (omega arith);
-        next-same = λ y a c. let q : y ≢ p = (λ t. c (ap suc (sym t))) in rw e (simp (getD-set-other, L .nx-pv, L .nx-nx));
-        prev-same = λ y a c. rw e (simp (getD-set-other, L .pv-nx, L .pv-pv));
-      }
-  leave-writes (suc p) (suc n) i j l f g b′ e =
-      record {
-        head = λ a. absurd (omega arith);
-        head-same = λ a. rw e (simp (getD-set-other, L .h-nx, L .h-pv));
-        before = λ y a c.
-            let o : nx y < length b = f y c in
-            let q : p ≡ y = omega arith in
-            rw (e, q) (search (getD-set-other, getD-set-same, L .nx-nx, L .nx-pv));
-        after = λ y a c.
-            let o : pv y < length b = g y c in
-            let q : n ≡ y = omega arith in
-            rw (e, q) (search (getD-set-other, getD-set-same, lt-length-set, L .pv-nx, L .pv-pv));
-        next-same = λ y a c. let q : y ≢ p = (λ t. c (ap suc (sym t))) in rw e (simp (getD-set-other, L .nx-pv, L .nx-nx));
-        prev-same = λ y a c. let q : y ≢ n = (λ t. c (ap suc (sym t))) in rw e (simp (getD-set-other, L .pv-nx, L .pv-pv));
-      }
+    where
+      past : (i : ℕ) → i ≢ nx x → i ≢ pv x → ((y : ℕ) → n ≡ suc y → i ≢ pv y) → at b′ i ≡ at (set b (place h nx p) n) i
+      past i a c d = rw e (simp (getD-set-other, store-other))
 
 -- ---- the list itself
 module _ {nx pv : ℕ → ℕ} {h N : ℕ} {b : List ℕ} (L : Lay nx pv h N (length b)) where
@@ -173,57 +147,56 @@ module _ {nx pv : ℕ → ℕ} {h N : ℕ} {b : List ℕ} (L : Lay nx pv h N (le
   unfolding joined
   join-in {x} {xs} l n i r =
       record {
-        row = row-joins (join-writes nx pv h N (length b) L x b (at b h) (L .nx-in x l) (L .pv-in x l) (L .h-in)
+        row = row-joins (join-writes L x b (joined nx pv h x b) (at b h) refl (L .nx-in x l) (L .pv-in x l) (L .h-in)
             (λ y e. L .pv-in y (head-in (λ y. y < N) (λ n. at b (nx n)) (λ n. at b (pv n)) (at b h) 0 xs i (r .row .walk) y e))
-            (λ e. head-in (λ y. x ≢ y) (λ n. at b (nx n)) (λ n. at b (pv n)) (at b h) 0 xs n (r .row .walk) x e refl)
-            _ refl) n (r .row);
+            (λ e. head-in (λ y. x ≢ y) (λ n. at b (nx n)) (λ n. at b (pv n)) (at b h) 0 xs n (r .row .walk) x e refl)) n (r .row);
       }
 
   pub leave-in : (x : ℕ) (pre post : List ℕ) → All (λ y. y < N) (pre ++ x ∷ post) → Doubly nx pv b h (pre ++ x ∷ post)
       → Doubly nx pv (left nx pv h x b) h (pre ++ post)
   unfolding left
   leave-in x pre post i r =
-      let l : x < N = all-right (λ y. y < N) pre (x ∷ post) i .0 in
       record {
-        row = row-leaves pre post (leave-writes nx pv h N (length b) L x b (at b (pv x)) (at b (nx x)) (L .nx-in x l) (L .pv-in x l) (L .h-in)
+        row = row-leaves pre post (leave-writes L x b (left nx pv h x b) (at b (pv x)) (at b (nx x)) refl (L .h-in)
             (λ y e. L .nx-in y (prev-in (λ y. y < N) (λ n. at b (nx n)) (λ n. at b (pv n)) x pre post (at b h) 0 i (r .row .walk) (λ y e. absurd (omega arith)) y e))
-            (λ y e. L .pv-in y (next-in (λ y. y < N) (λ n. at b (nx n)) (λ n. at b (pv n)) x pre post (at b h) 0 i (r .row .walk) y e))
-            _ refl) (r .row);
+            (λ y e. L .pv-in y (next-in (λ y. y < N) (λ n. at b (nx n)) (λ n. at b (pv n)) x pre post (at b h) 0 i (r .row .walk) y e))) (r .row);
       }
 
--- ---- the frames: where the words of a list stand, the list stands
-pub doubly-same : {nx pv : ℕ → ℕ} {h : ℕ} {b b′ xs : List ℕ} → at b′ h ≡ at b h
-    → All (λ y. (at b′ (nx y) ≡ at b (nx y)) × (at b′ (pv y) ≡ at b (pv y))) xs → Doubly nx pv b h xs → Doubly nx pv b′ h xs
-doubly-same {nx} {pv} {h} {b} {b′} {xs} e f r =
-    record {
-      row = rw e (row-same
-          (all-map {R = λ y. at b′ (nx y) ≡ at b (nx y)} (λ y (t : (at b′ (nx y) ≡ at b (nx y)) × (at b′ (pv y) ≡ at b (pv y))). t .0) xs f)
-          (all-map {R = λ y. at b′ (pv y) ≡ at b (pv y)} (λ y (t : (at b′ (nx y) ≡ at b (nx y)) × (at b′ (pv y) ≡ at b (pv y))). t .1) xs f) (r .row));
-    }
+-- ---- where the words of a list stand, the list stands
+-- both links of record y are in b′ what they are in b
+abbrev pub LinksSame : (nx pv : ℕ → ℕ) → List ℕ → List ℕ → ℕ → Type 0
+LinksSame nx pv b b′ y = (at b′ (nx y) ≡ at b (nx y)) × (at b′ (pv y) ≡ at b (pv y))
 
-pub stack-same : (next next′ : ℕ → ℕ) (k : ℕ) (xs : List ℕ) → All (λ y. next′ y ≡ next y) xs → Stack next k xs → Stack next′ k xs
-stack-same next next′ k [] a s = s
-stack-same next next′ k (x ∷ xs) a s = (s .0, rw (a .0) (stack-same next next′ (next x) xs (a .1) (s .1)))
+stack-same : (nx pv : ℕ → ℕ) (b b′ : List ℕ) (k : ℕ) (xs : List ℕ) → All (LinksSame nx pv b b′) xs → Stack (λ n. at b (nx n)) k xs → Stack (λ n. at b′ (nx n)) k xs
+stack-same nx pv b b′ k [] a s = s
+stack-same nx pv b b′ k (x ∷ xs) a s = (s .0, rw (a .0 .0) (stack-same nx pv b b′ (at b (nx x)) xs (a .1) (s .1)))
 
-pub singly-same : {nx pv : ℕ → ℕ} {h : ℕ} {b b′ xs : List ℕ} → at b′ h ≡ at b h
-    → All (λ y. (at b′ (nx y) ≡ at b (nx y)) × (at b′ (pv y) ≡ at b (pv y))) xs → Singly nx pv b h xs → Singly nx pv b′ h xs
-singly-same {nx} {pv} {h} {b} {b′} {xs} e f r =
-    record {
-      walk = rw e (stack-same (λ n. at b (nx n)) (λ n. at b′ (nx n)) (at b h) xs
-          (all-map {R = λ y. at b′ (nx y) ≡ at b (nx y)} (λ y (t : (at b′ (nx y) ≡ at b (nx y)) × (at b′ (pv y) ≡ at b (pv y))). t .0) xs f) (r .walk));
-      once = r .once;
-      behind = all-two {S = λ y. at b′ (pv y) ≡ 0} (λ y (t : (at b′ (nx y) ≡ at b (nx y)) × (at b′ (pv y) ≡ at b (pv y))) (q : at b (pv y) ≡ 0). t .1 ∙ q) xs f (r .behind);
-    }
+behind-same : (nx pv : ℕ → ℕ) (b b′ xs : List ℕ) → All (LinksSame nx pv b b′) xs → All (λ y. at b (pv y) ≡ 0) xs → All (λ y. at b′ (pv y) ≡ 0) xs
+behind-same nx pv b b′ xs = all-two {S = λ y. at b′ (pv y) ≡ 0} (λ y (t : LinksSame nx pv b b′ y) (q : at b (pv y) ≡ 0). t .1 ∙ q) xs
+
+module _ {nx pv : ℕ → ℕ} {b b′ xs : List ℕ} {h : ℕ} (same : All (LinksSame nx pv b b′) xs) where
+  pub doubly-same : at b′ h ≡ at b h → Doubly nx pv b h xs → Doubly nx pv b′ h xs
+  doubly-same e r =
+      record {
+        row = rw e (row-same
+            (all-map {R = λ y. at b′ (nx y) ≡ at b (nx y)} (λ y (t : LinksSame nx pv b b′ y). t .0) xs same)
+            (all-map {R = λ y. at b′ (pv y) ≡ at b (pv y)} (λ y (t : LinksSame nx pv b b′ y). t .1) xs same) (r .row));
+      }
+
+  pub singly-same : at b′ h ≡ at b h → Singly nx pv b h xs → Singly nx pv b′ h xs
+  singly-same e r = record { walk = rw e (stack-same nx pv b b′ (at b h) xs same (r .walk)); once = r .once; behind = behind-same nx pv b b′ xs same (r .behind) }
+
+  -- x, which is no member, comes to the front
+  pub singly-comes : {x : ℕ} → at b′ h ≡ suc x → at b′ (nx x) ≡ at b h → at b′ (pv x) ≡ 0 → Not x xs → Singly nx pv b h xs → Singly nx pv b′ h (x ∷ xs)
+  singly-comes e f g n r =
+      record { walk = (e, rw f (stack-same nx pv b b′ (at b h) xs same (r .walk))); once = (n, r .once); behind = (g, behind-same nx pv b b′ xs same (r .behind)) }
+
+  -- the front goes
+  pub singly-goes : {x : ℕ} → at b′ h ≡ at b (nx x) → Singly nx pv b h (x ∷ xs) → Singly nx pv b′ h xs
+  singly-goes {x} e r =
+      record { walk = rw e (stack-same nx pv b b′ (at b (nx x)) xs same (r .walk .1)); once = r .once .1; behind = behind-same nx pv b b′ xs same (r .behind .1) }
 
 -- ---- joining and leaving touch no other word
-store-other : (f : ℕ → ℕ) (k v i : ℕ) (b : List ℕ) → ((y : ℕ) → k ≡ suc y → i ≢ f y) → at (store b f k v) i ≡ at b i
-store-other f zero v i b n = refl
-store-other f (suc k) v i b n = getD-set-other b (f k) i v 0 (n k refl)
-
-place-other : (f : ℕ → ℕ) (h k i : ℕ) → i ≢ h → ((y : ℕ) → k ≡ suc y → i ≢ f y) → i ≢ place h f k
-place-other f h zero i m n = m
-place-other f h (suc k) i m n = n k refl
-
 pub joined-other : (nx pv : ℕ → ℕ) (h x i : ℕ) (b : List ℕ) → i ≢ nx x → i ≢ pv x → i ≢ h → ((y : ℕ) → at b h ≡ suc y → i ≢ pv y)
     → at (joined nx pv h x b) i ≡ at b i
 unfolding joined
@@ -233,11 +206,9 @@ pub left-other : (nx pv : ℕ → ℕ) (h x i : ℕ) (b : List ℕ) → i ≢ nx
     → ((y : ℕ) → at b (pv x) ≡ suc y → i ≢ nx y) → ((y : ℕ) → at b (nx x) ≡ suc y → i ≢ pv y)
     → at (left nx pv h x b) i ≡ at b i
 unfolding left
-left-other nx pv h x i b p q r s t = simp (getD-set-other, store-other, place-other)
-
-store-length : (b : List ℕ) (f : ℕ → ℕ) (k v : ℕ) → length (store b f k v) ≡ length b
-store-length b f zero v = refl
-store-length b f (suc k) v = length-set b (f k) v
+left-other nx pv h x i b p q r s t =
+    let d : i ≢ place h nx (at b (pv x)) = place-other nx h (at b (pv x)) i (λ _. r) s in
+    simp (getD-set-other, store-other)
 
 pub joined-length : (nx pv : ℕ → ℕ) (h x : ℕ) (b : List ℕ) → length (joined nx pv h x b) ≡ length b
 unfolding joined
@@ -255,21 +226,17 @@ left-own {nx} {pv} {h} {N} b L x l =
     let i : nx x < length b = L .nx-in x l in
     let j : pv x < length b = L .pv-in x l in
     (search (getD-set-other, getD-set-same, lt-length-set, lt-store, L .nx-pv), search (getD-set-same, lt-length-set, lt-store))
-  where
-    lt-store : (b : List ℕ) (f : ℕ → ℕ) (k v : ℕ) {i : ℕ} → i < length b → i < length (store b f k v)
-    lt-store b f k v {i} h = rw store-length h
 
 -- ---- a record that is no member, nor the one that joins or leaves, keeps its links
 module _ {nx pv : ℕ → ℕ} {h N : ℕ} {b : List ℕ} (L : Lay nx pv h N (length b)) (x y : ℕ) (d : y ≢ x) (xs : List ℕ) (n : Not y xs) (r : Doubly nx pv b h xs) where
-  pub join-strange : (at (joined nx pv h x b) (nx y) ≡ at b (nx y)) × (at (joined nx pv h x b) (pv y) ≡ at b (pv y))
+  pub join-strange : LinksSame nx pv b (joined nx pv h x b) y
   join-strange = (
     joined-other nx pv h x (nx y) b (L .nx-nx y x d) (L .nx-pv y x) (L .nx-h y) (λ z e. L .nx-pv y z),
     joined-other nx pv h x (pv y) b (L .pv-nx y x) (L .pv-pv y x d) (L .pv-h y)
         (λ z e. L .pv-pv y z (head-in (λ z. y ≢ z) (λ n. at b (nx n)) (λ n. at b (pv n)) (at b h) 0 xs n (r .row .walk) z e)),
   )
 
-  pub leave-strange : (pre post : List ℕ) → xs ≡ pre ++ x ∷ post
-      → (at (left nx pv h x b) (nx y) ≡ at b (nx y)) × (at (left nx pv h x b) (pv y) ≡ at b (pv y))
+  pub leave-strange : (pre post : List ℕ) → xs ≡ pre ++ x ∷ post → LinksSame nx pv b (left nx pv h x b) y
   leave-strange pre post e =
       let walk = rw e at (r .row .walk) in
       let not = rw e at n in (

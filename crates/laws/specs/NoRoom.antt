@@ -2,7 +2,7 @@
 -- Assumes nothing.
 use mathlib.Core.Path.{_≡_, refl, sym, ap, _∙_, subst}
 use mathlib.Core.Logic.{_≢_, _⊎_, inl, inr}
-use mathlib.Core.Bool.{true, false, not}
+use mathlib.Core.Bool.{true, false, not, true≢false}
 use mathlib.Core.List.{List, [], _∷_}
 use Prim.Native.Nat.{ℕ, _+_, _*_, _/_, _%_, _≤_, _<_}
 use native.Mathlib.Nat.{div-add-mod', mod-lt}
@@ -19,7 +19,6 @@ use Rattle.rules.specs.Ask.{askAnswer}
 use Rattle.rules.specs.Outcome.{Outcome}
 use Rattle.rules.specs.Numbers.{ask}
 use Rattle.books.specs.Known.{in-range}
-use Rattle.laws.specs.Update.{clash}
 use Rattle.laws.specs.Plain.{Plain, count, inUse, free, front, rest, planAsk as plainAsk, afterAsk as plainAfterAsk, fromListed}
 use Rattle.laws.specs.Counting.{Passes, many-has, none-many}
 use Rattle.laws.specs.Sizes.{Aligned, has-class, capacity-high, class-low}
@@ -151,7 +150,7 @@ module _ {al A P : ℕ} {h : Heap} {r : Plain} (L : Aligned al) (S : Sound al A 
           none (inr d) =
               let t = Z .held-all (H .pool) (H .inside) in
               let u = live-rows L S (t .offset) (t .is-live) in
-              clash (sym (u .on) ∙ ap (λ (p : ℕ). r .live p (u .block)) (sym (pool-is L S (t .offset) u) ∙ t .inside) ∙ d (u .block))
+              true≢false (sym (u .on) ∙ ap (λ (p : ℕ). r .live p (u .block)) (sym (pool-is L S (t .offset) u) ∙ t .inside) ∙ d (u .block))
 
   -- ask n is refused with 4 exactly if the heap is full for its class
   pub four-full : ask al h n .answer .number ≡ 4 → Full al A P h (classOf al n)

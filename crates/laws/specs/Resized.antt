@@ -25,8 +25,8 @@ use Rattle.laws.specs.Plain.{Plain, planAsk as plainAsk, askPlain, backP
 use Rattle.laws.specs.Sizes.{Aligned, size-low, has-class, class-fits}
 use Rattle.laws.specs.Sound.{Sound}
 use Rattle.laws.specs.Paths.{Hand, Asked}
-use Rattle.laws.specs.Bytes.{Outside, part-long, sets-off, text-part}
-use Rattle.laws.specs.Holding.{LiveAt, holding, live-rows, pool-is, number-at, class-is, rows-live, in-memory, at-block, at-class, holding-live, holding-long, holding-more, holding-some, holding-none, holding-others, Leaves}
+use Rattle.laws.specs.Bytes.{outside-less, part-long, sets-off, text-part}
+use Rattle.laws.specs.Holding.{LiveAt, liveSize, holding, live-rows, pool-is, number-at, class-is, rows-live, in-memory, at-block, at-class, holding-live, holding-long, holding-more, holding-some, holding-none, holding-others, Leaves}
 use Rattle.laws.specs.Calls.{shape-zero, plain-number, ask-done, block-of, back-done, back-is, back-leaves}
 use Rattle.laws.specs.Written.{written-sound, written-leaves}
 use Rattle.laws.specs.History.{carried}
@@ -48,14 +48,14 @@ module _ {al A P : ℕ} {h : Heap} {r : Plain} (L : Aligned al) (S : Sound al A 
       D : Asked al A P h r (classOf al n)
       D = ask-done L S n lo hi
 
-      size-is : sizeAt al A (h .books) o ≡ sizeOf al (r .class (t .pool))
+      size-is : sizeAt al A (h .books) o ≡ liveSize t
       size-is = ap (sizeOf al) (class-is L S o t)
 
-      pub resize-keeps : keeps (sizeOf al (r .class (t .pool))) n ≡ true → resize al h o n ≡ done o h
+      pub resize-keeps : keeps (liveSize t) n ≡ true → resize al h o n ≡ done o h
       unfolding resize resizeStep sizeNumber liveNumber
       resize-keeps q = rw (shape-zero S, le-leb 1 n lo, le-leb n 512 hi, S .rule1 .arenas-are, S .rule1 .pools-are, e, size-is, q)
 
-      pub resize-none : keeps (sizeOf al (r .class (t .pool))) n ≡ false → plainAsk al P r (classOf al n) ≡ NoRoom → resize al h o n ≡ refused 4 h
+      pub resize-none : keeps (liveSize t) n ≡ false → plainAsk al P r (classOf al n) ≡ NoRoom → resize al h o n ≡ refused 4 h
       unfolding resize resizeStep moved askStep askAnswer afterAsk sizeNumber liveNumber
       resize-none q z = rw (shape-zero S, le-leb 1 n lo, le-leb n 512 hi, S .rule1 .arenas-are, S .rule1 .pools-are, e, size-is, q, D .plan-is, z)
 
@@ -83,14 +83,14 @@ module _ {al A P : ℕ} {h : Heap} {r : Plain} (L : Aligned al) (S : Sound al A 
         same-pool : u .pool ≡ t .pool
         same-pool = sym (pool-is L (D .sound) o u) ∙ pool-is L S o t
 
-        same-size : sizeOf al (askPlain al P r n .class (u .pool)) ≡ sizeOf al (r .class (t .pool))
+        same-size : liveSize u ≡ liveSize t
         same-size = sym (holding-long L (D .sound) o u) ∙ ap length old-stays ∙ holding-long L S o t
 
         -- ---- the copy goes into the new block
         new-at : LiveAt al A P (askPlain al P r n) new
         new-at = at-block L S (D .sound) (D .quiet) (has-class L n hi) H
 
-        new-size : sizeOf al (askPlain al P r n .class (new-at .pool)) ≡ sizeOf al (classOf al n)
+        new-size : liveSize new-at ≡ sizeOf al (classOf al n)
         unfolding new-at
         new-size = ap (sizeOf al) (at-class L S (D .sound) (D .quiet) (has-class L n hi) H)
 
@@ -105,12 +105,11 @@ module _ {al A P : ℕ} {h : Heap} {r : Plain} (L : Aligned al) (S : Sound al A 
         abbrev pub copied : Heap
         copied = heapOf (sets (asked .memory) new text) (asked .books) (asked .map)
 
-        outside : (i : ℕ) → Outside new (sizeOf al (askPlain al P r n .class (new-at .pool))) i → Outside new (length text) i
-        outside i (inl a) = inl a
-        outside i (inr a) = inr (omega (arith, text-long, new-size, min-le-left n (sizeAt al A (h .books) o), class-fits L n))
+        text-fits : length text ≤ liveSize new-at
+        text-fits = omega (arith, text-long, new-size, min-le-left n (sizeAt al A (h .books) o), class-fits L n)
 
         copied-sound : Sound al A P copied (askPlain al P r n)
-        copied-sound = written-sound L (D .sound) new new-at (copied .memory) (length-sets (asked .memory) new text) (λ i f. sets-off (asked .memory) new text i (outside i f))
+        copied-sound = written-sound L (D .sound) new new-at (copied .memory) (length-sets (asked .memory) new text) (λ i f. sets-off (asked .memory) new text i (outside-less text-fits f))
 
         -- ---- the old block is given back
         still-live : live al A P (copied .books) (copied .map) o ≡ true
@@ -123,7 +122,7 @@ module _ {al A P : ℕ} {h : Heap} {r : Plain} (L : Aligned al) (S : Sound al A 
         unfolding giveOld giveBack liveNumber
         give-old-is = rw (shape-zero copied-sound, D .sound .rule1 .arenas-are, D .sound .rule1 .pools-are, still-live)
 
-        pub resize-moves : keeps (sizeOf al (r .class (t .pool))) n ≡ false → resize al h o n ≡ done new (giveBack al copied o .heap)
+        pub resize-moves : keeps (liveSize t) n ≡ false → resize al h o n ≡ done new (giveBack al copied o .heap)
         unfolding resize resizeStep moved askStep sizeNumber liveNumber
         resize-moves q =
             rw (shape-zero S, le-leb 1 n lo, le-leb n 512 hi, S .rule1 .arenas-are, S .rule1 .pools-are, e, size-is, q, D .plan-is, z, ← size-is, give-old-is, given)
@@ -154,7 +153,7 @@ module _ {al A P : ℕ} {h : Heap} {r : Plain} (L : Aligned al) (S : Sound al A 
 
         copied-holds : (y : ℕ) → holding al A P copied y ≡ to new (part new size (copied .memory)) (holding al A P h) y
         copied-holds y =
-            written-leaves L (D .sound) new new-at (copied .memory) (length-sets (asked .memory) new text) (λ i f. sets-off (asked .memory) new text i (outside i f)) .holds y
+            written-leaves L (D .sound) new new-at (copied .memory) (length-sets (asked .memory) new text) (λ i f. sets-off (asked .memory) new text i (outside-less text-fits f)) .holds y
             ∙ ap (λ (s : ℕ). to new (part new s (copied .memory)) (holding al A P asked) y) new-size
             ∙ go (ℕ-discrete y new)
           where
@@ -163,7 +162,7 @@ module _ {al A P : ℕ} {h : Heap} {r : Plain} (L : Aligned al) (S : Sound al A 
             go (no q) = rw (ne-eqb y new q) (holding-others L S (D .sound) (D .quiet) (has-class L n hi) H y q)
 
         moved-holds : (y : ℕ) → holding al A P (giveBack al copied o .heap) y ≡ to o [] (to new (part new size (copied .memory)) (holding al A P h)) y
-        moved-holds y = back-leaves L copied-sound o still-live .holds y ∙ to-cong o [] (holding al A P copied) (to new (part new size (copied .memory)) (holding al A P h)) copied-holds y
+        moved-holds y = back-leaves L copied-sound o still-live .holds y ∙ to-cong o (holding al A P copied) (to new (part new size (copied .memory)) (holding al A P h)) refl y (copied-holds y)
 
         new-fits : new + size ≤ length (asked .memory)
         new-fits = rw (← new-size) (in-memory L (D .sound) new new-at)
@@ -184,12 +183,12 @@ module _ {al A P : ℕ} {h : Heap} {r : Plain} (L : Aligned al) (S : Sound al A 
             w : LiveAt al A P (backPlain P (askPlain al P r n) (t .pool) (t .block)) new
             w = live-rows L moved-sound new (holding-some al A P (giveBack al copied o .heap) new (λ q. absurd (omega (arith, ap length (sym here ∙ q), new-long, size-low L (classOf al n) (has-class L n hi)))))
 
-            long : sizeOf al (backPlain P (askPlain al P r n) (t .pool) (t .block) .class (w .pool)) ≡ size
+            long : liveSize w ≡ size
             long = sym (holding-long L moved-sound new w) ∙ ap length here ∙ new-long
 
         text-is : text ≡ take k (holding al A P h o)
         text-is =
-            sym (take-take k (sizeOf al (askPlain al P r n .class (u .pool))) (drop o (asked .memory)) (omega (arith, same-size, size-is, min-le-right n (sizeAt al A (h .books) o))))
+            sym (take-take k (liveSize u) (drop o (asked .memory)) (omega (arith, same-size, size-is, min-le-right n (sizeAt al A (h .books) o))))
             ∙ ap (take k) (sym (holding-live L (D .sound) o u) ∙ old-stays)
 
         new-bytes : take k (holding al A P h o) ++ drop k (part new size (copied .memory)) ≡ part new size (copied .memory)
@@ -209,7 +208,7 @@ module _ {al A P : ℕ} {h : Heap} {r : Plain} (L : Aligned al) (S : Sound al A 
               holds = λ y. moved-holds y ∙ go y (ℕ-discrete y new) (ℕ-discrete y o);
               first = λ i l.
                   back-leaves L copied-sound o still-live .first i l
-                  ∙ written-leaves L (D .sound) new new-at (copied .memory) (length-sets (asked .memory) new text) (λ j f. sets-off (asked .memory) new text j (outside j f)) .first i l
+                  ∙ written-leaves L (D .sound) new new-at (copied .memory) (length-sets (asked .memory) new text) (λ j f. sets-off (asked .memory) new text j (outside-less text-fits f)) .first i l
                   ∙ D .quiet .first-bytes i l;
             }
           where
@@ -227,15 +226,15 @@ module _ {al A P : ℕ} {h : Heap} {r : Plain} (L : Aligned al) (S : Sound al A 
     pub resize-done : (e : live al A P (h .books) (h .map) o ≡ true)
         → (resize al h o n .answer ≡ resizeAnswer al P r o (t e .pool) n) × Sound al A P (resize al h o n .heap) (resizePlain al P r (t e .pool) (t e .block) n)
     unfolding askAnswer
-    resize-done e = by-keep (keeps (sizeOf al (r .class (t e .pool))) n) refl
+    resize-done e = by-keep (keeps (liveSize (t e)) n) refl
       where
         Q : Outcome → Type 0
         Q y = (y .answer ≡ resizeAnswer al P r o (t e .pool) n) × Sound al A P (y .heap) (resizePlain al P r (t e .pool) (t e .block) n)
 
-        by-room : keeps (sizeOf al (r .class (t e .pool))) n ≡ false → (askAnswer (plainAsk al P r (classOf al n)) .number ≡ 0) ⊎ (plainAsk al P r (classOf al n) ≡ NoRoom) → Q (resize al h o n)
+        by-room : keeps (liveSize (t e)) n ≡ false → (askAnswer (plainAsk al P r (classOf al n)) .number ≡ 0) ⊎ (plainAsk al P r (classOf al n) ≡ NoRoom) → Q (resize al h o n)
         by-room q (inl z) = rw (resize-moves e z q, q, z) (ap (λ (k : ℕ). answerOf k (new e z)) (sym z), moved-sound e z)
         by-room q (inr z) = rw (resize-none e q z, q, z) (refl, S)
 
-        by-keep : (b : Bool) → keeps (sizeOf al (r .class (t e .pool))) n ≡ b → Q (resize al h o n)
+        by-keep : (b : Bool) → keeps (liveSize (t e)) n ≡ b → Q (resize al h o n)
         by-keep true q = rw (resize-keeps e q, q) (refl, S)
         by-keep false q = by-room q (plain-number al P r (classOf al n))

@@ -1,7 +1,7 @@
 -- Rows: plain lists of numbers without repetition, and doubly linked lists read from the front over abstract links. A link to n is suc n; 0 is none.
 -- Assumes nothing.
 use mathlib.Core.Path.{_≡_, refl, sym, ap, _∙_}
-use mathlib.Core.Logic.{_≢_, _⊎_, inl, inr}
+use mathlib.Core.Logic.{_≢_, Ne·symm as flip, _⊎_, inl, inr}
 use mathlib.Core.Bool.{Bool, true, false}
 use mathlib.Core.List.{List, [], _∷_, _++_}
 use Prim.Native.Nat.{ℕ, suc}
@@ -48,15 +48,6 @@ pub all-every : {Q : ℕ → Type 0} (f : (y : ℕ) → Q y) (xs : List ℕ) →
 all-every f [] = tt
 all-every f (x ∷ xs) = (f x, all-every f xs)
 
-pub all-in : (Q : ℕ → Type 0) (x : ℕ) (xs : List ℕ) → All Q xs → In x xs → Q x
-all-in Q x (y ∷ ys) a (inl e) = rw e (a .0)
-all-in Q x (y ∷ ys) a (inr i) = all-in Q x ys (a .1) i
-
--- what holds of every member and every z of a kind
-pub all-from : (E : ℕ → Type 0) (Q : ℕ → ℕ → Type 0) (ys : List ℕ) → ((z : ℕ) → E z → All (Q z) ys) → All (λ y. (z : ℕ) → E z → Q z y) ys
-all-from E Q [] f = tt
-all-from E Q (y ∷ ys) f = (λ z e. f z e .0, all-from E Q ys (λ z e. f z e .1))
-
 module _ (Q : ℕ → Type 0) where
   pub all-left : (xs ys : List ℕ) → All Q (xs ++ ys) → All Q xs
   all-left [] ys a = tt
@@ -72,9 +63,6 @@ module _ (Q : ℕ → Type 0) where
 
   pub all-drop : (x : ℕ) (xs ys : List ℕ) → All Q (xs ++ x ∷ ys) → All Q (xs ++ ys)
   all-drop x xs ys a = all-join xs ys (all-left xs (x ∷ ys) a) (all-right xs (x ∷ ys) a .1)
-
-pub flip : {a b : ℕ} → a ≢ b → b ≢ a
-flip f e = f (sym e)
 
 -- ---- a member in its place
 pub record Split (x : ℕ) (xs : List ℕ) : Type 0 where

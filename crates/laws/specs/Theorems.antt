@@ -4,7 +4,7 @@ use mathlib.Core.Path.{_≡_, refl, sym, ap, ap₂, _∙_}
 use mathlib.Core.Logic.{_≢_, _⊎_}
 use mathlib.Core.Bool.{Bool, true, false}
 use mathlib.Core.List.{List, [], _++_}
-use Prim.Native.Nat.{ℕ, suc, _+_, _*_, _%_, _≤_, _<_}
+use Prim.Native.Nat.{ℕ, _+_, _*_, _%_, _≤_, _<_}
 use native.Mathlib.Omega.{arith}
 use lib.ListN.{length, drop}
 use borrow.Author.Tests.{le-ltb, lt-ltb}
@@ -14,9 +14,8 @@ use Rattle.rules.specs.Blocks.{classOf, sizeOf, sizeAt, live}
 use Rattle.rules.specs.View.{part, roll}
 use Rattle.rules.specs.Numbers.{format, ask, rollCall, rollOf, rollOutcome, roomNumber}
 use Rattle.laws.specs.Sizes.{Aligned, size-low}
-use Rattle.laws.specs.Chains.{block-ends}
 use Rattle.laws.specs.Held.{held}
-use Rattle.laws.specs.Holding.{LiveAt, live-rows, class-is, in-memory, holding-live, holding-long, holding-some, dead-holding}
+use Rattle.laws.specs.Holding.{LiveAt, liveSize, live-ends, live-rows, class-is, in-memory, holding-live, holding-long, holding-some, dead-holding}
 use Rattle.laws.specs.Written.{apart}
 use Rattle.laws.specs.Calls.{shape-zero}
 use Rattle.laws.specs.Roll.{listing-same, listing-count, listing-place, sizeHeld, roll-is}
@@ -51,7 +50,7 @@ module _ {al : ℕ} (L : Aligned al) (h : Heap) (A P : ℕ) (ok : format h A P .
   entry-live : (o : ℕ) → end .ledger o ≢ [] → LiveAt al (T .A) (T .P) (T .rows) o
   entry-live o some = live-rows L (T .sound) o (holding-some al (T .A) (T .P) (end .heap) o (λ q. some (T .tie o ∙ q)))
 
-  entry-size : (o : ℕ) (t : LiveAt al (T .A) (T .P) (T .rows) o) → length (end .ledger o) ≡ sizeOf al (T .rows .class (t .pool))
+  entry-size : (o : ℕ) (t : LiveAt al (T .A) (T .P) (T .rows) o) → length (end .ledger o) ≡ liveSize t
   entry-size o t = ap length (T .tie o) ∙ holding-long L (T .sound) o t
 
   -- no two entries overlap
@@ -59,15 +58,14 @@ module _ {al : ℕ} (L : Aligned al) (h : Heap) (A P : ℕ) (ok : format h A P .
   entries-apart o x a b d =
       let t = entry-live o a in
       let u = entry-live x b in
-      rw (entry-size o t, entry-size x u) (apart L o x t u d)
+      rw (entry-size o t, entry-size x u) (apart o x t u d)
 
   -- each entry lies in its pool past the first 48 bytes
   pub entry-inside : (o : ℕ) → end .ledger o ≢ [] → (48 ≤ o % 4096) × (o % 4096 + length (end .ledger o) ≤ 4096)
   entry-inside o a =
       let t = entry-live o a in
-      let e = block-ends (sizeOf al (T .rows .class (t .pool))) (t .block) (suc (t .block)) (omega arith) (t .fits) in
       let l = size-low L (T .rows .class (t .pool)) (t .class) in
-      rw (entry-size o t) (omega (arith, t .place, e, l), omega (arith, t .place, e, l))
+      rw (entry-size o t) (omega (arith, t .place, live-ends t, l), omega (arith, t .place, live-ends t, l))
 
   -- memory at each entry is exactly the ledger's bytes for it
   pub entry-bytes : (o : ℕ) → end .ledger o ≢ [] → end .ledger o ≡ part o (length (end .ledger o)) (end .heap .memory)

@@ -2,7 +2,7 @@
 -- Assumes nothing.
 use mathlib.Core.Path.{_≡_, refl, sym, ap, _∙_, subst}
 use mathlib.Core.Logic.{_≢_, _⊎_, inl, inr}
-use mathlib.Core.Bool.{Bool, true, false, not}
+use mathlib.Core.Bool.{Bool, true, false, not, false≢true}
 use mathlib.Core.List.{List, [], _∷_, _++_}
 use Prim.Native.Nat.{ℕ, _+_, _/_, _%_, _≤_, _<_, min}
 use native.Mathlib.Omega.{arith}
@@ -21,13 +21,13 @@ use Rattle.rules.specs.Ask.{askAnswer, afterAsk}
 use Rattle.rules.specs.Resize.{keeps}
 use Rattle.rules.specs.Numbers.{fitNumber, format, ask, giveBack, resize, viewSize, write, rollCall, roomNumber, sizeNumber, sizedOf, blockSize, rollOf, rollOutcome}
 use Rattle.books.specs.Known.{shaped}
-use Rattle.laws.specs.Update.{clash, to, to-cong}
+use Rattle.laws.specs.Update.{is-false, to, to-cong}
 use Rattle.laws.specs.Plain.{Plain, fresh, planAsk as plainAsk}
 use Rattle.laws.specs.Sizes.{Aligned}
 use Rattle.laws.specs.Sound.{Sound}
 use Rattle.laws.specs.Fresh.{fresh-sound}
-use Rattle.laws.specs.Bytes.{Outside, text-part, byte-part, sets-off}
-use Rattle.laws.specs.Holding.{LiveAt, holding, live-rows, class-is, in-memory, holding-live, holding-long, holding-some, dead-holding, Leaves}
+use Rattle.laws.specs.Bytes.{Outside, outside-less, text-part, byte-part, sets-off}
+use Rattle.laws.specs.Holding.{LiveAt, liveSize, holding, live-rows, class-is, in-memory, holding-live, holding-long, holding-some, dead-holding, Leaves}
 use Rattle.laws.specs.Written.{written-leaves}
 use Rattle.laws.specs.Calls.{shape-zero, plain-number, ask-size, ask-is, ask-leaves, size-number, back-dead, block-of, back-is, back-leaves}
 use Rattle.laws.specs.Resized.{resize-size, resize-dead, resize-keeps, resize-none, resize-moves, differ, moved-leaves}
@@ -76,7 +76,7 @@ module _ {al : ℕ} (L : Aligned al) (m₀ : List ℕ) where
           rw (ap (λ (y : Outcome). y .answer .number) (ask-is L (T .sound) n lo hi) ∙ z) (
             (omega arith),
             leaves T (ask-leaves L (T .sound) n lo hi z) (to (ask al h n .answer .offset) (bytes (ask al h n)) (x .ledger))
-                (to-cong (ask al h n .answer .offset) (bytes (ask al h n)) (x .ledger) (holding al (T .A) (T .P) h) (T .tie)),
+                (λ y. to-cong (ask al h n .answer .offset) (x .ledger) (holding al (T .A) (T .P) h) refl y (T .tie y)),
           )
 
       go : ((1 ≤ n) × (n ≤ 512)) ⊎ (sizeNumber n ≡ 3) → Q (ask al h n)
@@ -95,22 +95,19 @@ module _ {al : ℕ} (L : Aligned al) (m₀ : List ℕ) where
       go true e =
           rw (ap (λ (y : Outcome). y .answer .number) (back-is L (T .sound) o e)) (
             (omega arith),
-            leaves T (back-leaves L (T .sound) o e) (to o [] (x .ledger)) (to-cong o [] (x .ledger) (holding al (T .A) (T .P) (x .heap)) (T .tie)),
+            leaves T (back-leaves L (T .sound) o e) (to o [] (x .ledger)) (λ y. to-cong o (x .ledger) (holding al (T .A) (T .P) (x .heap)) refl y (T .tie y)),
           )
 
   -- a live block's bytes change, inside the block
   module _ {x : State} (T : Tied al m₀ x) (o : ℕ) (t : LiveAt al (T .A) (T .P) (T .rows) o) where
-    abbrev size : ℕ
-    size = sizeOf al (T .rows .class (t .pool))
-
-    bytes-are : x .ledger o ≡ part o size (x .heap .memory)
+    bytes-are : x .ledger o ≡ part o (liveSize t) (x .heap .memory)
     bytes-are = T .tie o ∙ holding-live L (T .sound) o t
 
-    held-bytes : (m bytes : List ℕ) → length m ≡ length (x .heap .memory) → ((i : ℕ) → Outside o size i → at m i ≡ at (x .heap .memory) i) → bytes ≡ part o size m
+    held-bytes : (m bytes : List ℕ) → length m ≡ length (x .heap .memory) → ((i : ℕ) → Outside o (liveSize t) i → at m i ≡ at (x .heap .memory) i) → bytes ≡ part o (liveSize t) m
         → Tied al m₀ (record { heap = heapOf m (x .heap .books) (x .heap .map); ledger = to o bytes (x .ledger) })
     held-bytes m bytes len off new =
         leaves T (written-leaves L (T .sound) o t m len off) (to o bytes (x .ledger))
-        (λ y. ap (λ (b : List ℕ). to o b (x .ledger) y) new ∙ to-cong o (part o size m) (x .ledger) (holding al (T .A) (T .P) (x .heap)) (T .tie) y)
+        (λ y. to-cong o (x .ledger) (holding al (T .A) (T .P) (x .heap)) new y (T .tie y))
 
   write-is : {x : State} (T : Tied al m₀ x) (o : ℕ) (text : List ℕ)
       → write al (x .heap) o text
@@ -133,16 +130,12 @@ module _ {al : ℕ} (L : Aligned al) (m₀ : List ℕ) where
           → Q (passing (if b then 7 else 0) (λ k. refused k (x .heap)) (done o (heapOf m′ (x .heap .books) (x .heap .map))))
       fits t true e = same T 7 refl (omega arith) (x .ledger)
       fits t false e =
-          let l : length text ≤ size T o t = rw (ap (sizeOf al) (class-is L (T .sound) o t)) at (ltb-false (sizeAt al (T .A) (x .heap .books) o) (length text) e) in (
+          let l : length text ≤ liveSize t = rw (ap (sizeOf al) (class-is L (T .sound) o t)) at (ltb-false (sizeAt al (T .A) (x .heap .books) o) (length text) e) in (
             (omega arith),
             held-bytes T o t m′ (text ++ drop (length text) (x .ledger o)) (length-sets (x .heap .memory) o text)
-                (λ i f. sets-off (x .heap .memory) o text i (wide l f))
-                (ap (λ (b : List ℕ). text ++ drop (length text) b) (bytes-are T o t) ∙ sym (text-part (x .heap .memory) text o (size T o t) l (in-memory L (T .sound) o t))),
+                (λ i f. sets-off (x .heap .memory) o text i (outside-less l f))
+                (ap (λ (b : List ℕ). text ++ drop (length text) b) (bytes-are T o t) ∙ sym (text-part (x .heap .memory) text o (liveSize t) l (in-memory L (T .sound) o t))),
           )
-        where
-          wide : {i s : ℕ} → length text ≤ s → Outside o s i → Outside o (length text) i
-          wide l (inl a) = inl a
-          wide l (inr a) = inr (omega arith)
 
       go : (b : Bool) → live al (T .A) (T .P) (x .heap .books) (x .heap .map) o ≡ b
           → Q (passing (passing (if b then 0 else 5) (λ k. k) (if ltb (sizeAt al (T .A) (x .heap .books) o) (length text) then 7 else 0)) (λ k. refused k (x .heap)) (done o (heapOf m′ (x .heap .books) (x .heap .map))))
@@ -159,7 +152,7 @@ module _ {al : ℕ} (L : Aligned al) (m₀ : List ℕ) where
       go : (b : Bool) → ltb d (length (x .ledger o)) ≡ b
           → Good al m₀ 0 (if b then record { heap = heapOf m′ (x .heap .books) (x .heap .map); ledger = to o (set (x .ledger o) d v) (x .ledger) } else x)
       go false e = ((omega arith), T)
-      go true e = ((omega arith), held-bytes T o t m′ (set (x .ledger o) d v) (length-set (x .heap .memory) (o + d) v) away (ap (λ (b : List ℕ). set b d v) (bytes-are T o t) ∙ sym (byte-part (x .heap .memory) o (size T o t) d v inside)))
+      go true e = ((omega arith), held-bytes T o t m′ (set (x .ledger o) d v) (length-set (x .heap .memory) (o + d) v) away (ap (λ (b : List ℕ). set b d v) (bytes-are T o t) ∙ sym (byte-part (x .heap .memory) o (liveSize t) d v inside)))
         where
           some : d < length (x .ledger o)
           some = ltb-true d (length (x .ledger o)) e
@@ -167,10 +160,10 @@ module _ {al : ℕ} (L : Aligned al) (m₀ : List ℕ) where
           t : LiveAt al (T .A) (T .P) (T .rows) o
           t = live-rows L (T .sound) o (holding-some al (T .A) (T .P) (x .heap) o (λ q. absurd (omega (arith, some, ap length (T .tie o ∙ q)))))
 
-          inside : d < size T o t
+          inside : d < liveSize t
           inside = omega (arith, some, ap length (T .tie o), holding-long L (T .sound) o t)
 
-          away : (i : ℕ) → Outside o (size T o t) i → at m′ i ≡ at (x .heap .memory) i
+          away : (i : ℕ) → Outside o (liveSize t) i → at m′ i ≡ at (x .heap .memory) i
           away i (inl a) = getD-set-other (x .heap .memory) (o + d) i v 0 (λ q. absurd (omega arith))
           away i (inr a) = getD-set-other (x .heap .memory) (o + d) i v 0 (λ q. absurd (omega (arith, inside)))
 
@@ -190,10 +183,11 @@ module _ {al : ℕ} (L : Aligned al) (m₀ : List ℕ) where
       -- the ledger carries what the heap does
       same-carried : (o₁ : ℕ) (m : List ℕ) (y : ℕ) → carried al n o o₁ m (x .ledger) y ≡ carried al n o o₁ m (holding al (T .A) (T .P) h) y
       same-carried o₁ m y =
-          ap (λ (b : List ℕ). to o₁ (take (min n (length b)) b ++ drop (min n (length b)) (part o₁ (sizeOf al (classOf al n)) m)) (to o [] (x .ledger)) y) (T .tie o)
-          ∙ to-cong o₁ _ (to o [] (x .ledger)) (to o [] (holding al (T .A) (T .P) h)) (to-cong o [] (x .ledger) (holding al (T .A) (T .P) h) (T .tie)) y
+          to-cong o₁ (to o [] (x .ledger)) (to o [] (holding al (T .A) (T .P) h))
+          (ap (λ (b : List ℕ). take (min n (length b)) b ++ drop (min n (length b)) (part o₁ (sizeOf al (classOf al n)) m)) (T .tie o)) y
+          (to-cong o (x .ledger) (holding al (T .A) (T .P) h) refl y (T .tie y))
 
-      by-room : (lo : 1 ≤ n) (hi : n ≤ 512) (e : live al (T .A) (T .P) (h .books) (h .map) o ≡ true) → keeps (sizeOf al (T .rows .class (block-of L S o e .pool))) n ≡ false
+      by-room : (lo : 1 ≤ n) (hi : n ≤ 512) (e : live al (T .A) (T .P) (h .books) (h .map) o ≡ true) → keeps (liveSize (block-of L S o e)) n ≡ false
           → (askAnswer (plainAsk al (T .P) (T .rows) (classOf al n)) .number ≡ 0) ⊎ (plainAsk al (T .P) (T .rows) (classOf al n) ≡ NoRoom) → Q (resize al h o n)
       by-room lo hi e q (inl z) =
           rw (resize-moves L S o n lo hi e z q, ne-eqb (askAnswer (plainAsk al (T .P) (T .rows) (classOf al n)) .offset) o (λ u. differ L S o n lo hi e z (sym u))) (
@@ -202,13 +196,13 @@ module _ {al : ℕ} (L : Aligned al) (m₀ : List ℕ) where
           )
       by-room lo hi e q (inr z) = rw (resize-none L S o n lo hi e q z) (same T 4 refl (omega arith) (x .ledger))
 
-      by-keep : (lo : 1 ≤ n) (hi : n ≤ 512) (e : live al (T .A) (T .P) (h .books) (h .map) o ≡ true) (b : Bool) → keeps (sizeOf al (T .rows .class (block-of L S o e .pool))) n ≡ b → Q (resize al h o n)
+      by-keep : (lo : 1 ≤ n) (hi : n ≤ 512) (e : live al (T .A) (T .P) (h .books) (h .map) o ≡ true) (b : Bool) → keeps (liveSize (block-of L S o e)) n ≡ b → Q (resize al h o n)
       by-keep lo hi e true q = rw (resize-keeps L S o n lo hi e q, eq-eqb o o refl) ((omega arith), T)
       by-keep lo hi e false q = by-room lo hi e q (plain-number al (T .P) (T .rows) (classOf al n))
 
       by-live : (lo : 1 ≤ n) (hi : n ≤ 512) (b : Bool) → live al (T .A) (T .P) (h .books) (h .map) o ≡ b → Q (resize al h o n)
       by-live lo hi false e = rw (resize-dead L S o n lo hi e) (same T 5 refl (omega arith) (x .ledger))
-      by-live lo hi true e = by-keep lo hi e (keeps (sizeOf al (T .rows .class (block-of L S o e .pool))) n) refl
+      by-live lo hi true e = by-keep lo hi e (keeps (liveSize (block-of L S o e)) n) refl
 
       by-size : ((1 ≤ n) × (n ≤ 512)) ⊎ (sizeNumber n ≡ 3) → Q (resize al h o n)
       by-size (inr e) = rw (resize-size L S o n e) (same T 3 refl (omega arith) (x .ledger))
@@ -224,11 +218,7 @@ module _ {al : ℕ} (L : Aligned al) (m₀ : List ℕ) where
       S = fresh-sound al A P L m e l
 
       dark : (o : ℕ) → live al A P (freshBooks A P) (replicate (mapLength A P) 0) o ≡ false
-      dark o = pick (live al A P (freshBooks A P) (replicate (mapLength A P) 0) o) refl
-        where
-          pick : (b : Bool) → live al A P (freshBooks A P) (replicate (mapLength A P) 0) o ≡ b → live al A P (freshBooks A P) (replicate (mapLength A P) 0) o ≡ false
-          pick false z = z
-          pick true z = absurd (clash (sym (live-rows L S o z .on)))
+      dark o = is-false (live al A P (freshBooks A P) (replicate (mapLength A P) 0) o) (λ z. false≢true (live-rows L S o z .on))
 
   -- a format that is done leaves a fresh heap, and an empty ledger
   step-format : {x : State} → Tied al m₀ x → (A P : ℕ) → Good al m₀ (numberOf al x (formats A P)) (after al x (formats A P))

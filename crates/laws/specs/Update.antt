@@ -1,17 +1,17 @@
--- A function with one value changed: how the plain heap writes. And what no two values are at once.
+-- A function with one value changed: how the plain heap writes. And a test that cannot hold.
 -- Assumes nothing.
-use mathlib.Core.Path.{_≡_, ap}
+use mathlib.Core.Path.{_≡_, refl, ap₂}
 use mathlib.Core.Logic.{_≢_}
 use mathlib.Core.Bool.{Bool, true, false}
 use Prim.Native.Nat.{ℕ}
-use native.Mathlib.Omega.{arith}
 use lib.Dec.{eqb}
 use borrow.Author.Tests.{eq-eqb, ne-eqb}
 use Rattle.rules.specs.Say.{if_then_else_}
 
--- a test does not both hold and fail
-pub clash : _≡_ {A = Bool} true false → ⊥
-clash t = let y : _≡_ {A = ℕ} 0 1 = cc in omega arith
+-- a test that cannot hold fails
+pub is-false : (t : Bool) → t ≢ true → t ≡ false
+is-false true d = absurd (d refl)
+is-false false d = refl
 
 module _ {A : Type 0} where
   -- f with v at n
@@ -24,6 +24,6 @@ module _ {A : Type 0} where
   pub to-other : (n : ℕ) (v : A) (f : ℕ → A) (y : ℕ) → y ≢ n → to n v f y ≡ f y
   to-other n v f y e = rw (ne-eqb y n e)
 
-  -- functions that agree do so after the same change
-  pub to-cong : (n : ℕ) (v : A) (f g : ℕ → A) → ((y : ℕ) → f y ≡ g y) → (y : ℕ) → to n v f y ≡ to n v g y
-  to-cong n v f g e y = ap (λ (z : A). if eqb y n then v else z) (e y)
+  -- functions that agree at y do so after the same change
+  pub to-cong : (n : ℕ) {v w : A} (f g : ℕ → A) → v ≡ w → (y : ℕ) → f y ≡ g y → to n v f y ≡ to n w g y
+  to-cong n f g d y e = ap₂ (λ (u z : A). if eqb y n then u else z) d e
