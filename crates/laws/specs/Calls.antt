@@ -23,7 +23,7 @@ use Rattle.rules.specs.View.{part}
 use Rattle.rules.specs.Numbers.{fitNumber, shapeNumber, sizeNumber, ask, giveBack}
 use Rattle.books.specs.Known.{shaped}
 use Rattle.laws.specs.Update.{to}
-use Rattle.laws.specs.Plain.{Plain, count, free, none, front, rest, planAsk as plainAsk, planBack as plainBack, afterBack as plainAfterBack, fromClass, fromListed, fromUsable, fromArena, fromUnused, askPlain, backPlain}
+use Rattle.laws.specs.Plain.{Plain, count, free, none, front, rest, planAsk as plainAsk, planBack as plainBack, afterBack as plainAfterBack, fromListed, askPlain, backPlain}
 use Rattle.laws.specs.Sizes.{Aligned, has-class}
 use Rattle.laws.specs.Sound.{Sound}
 use Rattle.laws.specs.Paths.{Asked, Backed}
@@ -39,33 +39,43 @@ shape-zero {al} {A} {P} {h} S =
     rw (le-ltb (length (h .books)) 2 (omega (arith, K .books)), S .rule1 .arenas-are, S .rule1 .pools-are, S .rule1 .range, S .rule1 .lengths)
 
 -- ---- the plain heap's ask is done, or finds no room
-pub either-done : (t : Bool) (x y : AskPlan) → askAnswer x .number ≡ 0 → askAnswer y .number ≡ 0 → askAnswer (if t then x else y) .number ≡ 0
-either-done true x y e f = e
-either-done false x y e f = f
+-- it finds none only with its three lists empty
+pub record NoneLeft (al P : ℕ) (r : Plain) (c : ℕ) : Type 0 where
+  pub plan-is : plainAsk al P r c ≡ NoRoom
+  pub listed : r .listed c ≡ []
+  pub usable : r .usable ≡ []
+  pub unused : r .unused ≡ []
 
-pub plain-number : (al P : ℕ) (r : Plain) (c : ℕ) → (askAnswer (plainAsk al P r c) .number ≡ 0) ⊎ (plainAsk al P r c ≡ NoRoom)
+abbrev pub DoneOrNot : ℕ → ℕ → Plain → ℕ → Type 0
+DoneOrNot al P r c = (askAnswer (plainAsk al P r c) .number ≡ 0) ⊎ NoneLeft al P r c
+
+pub done-or-not : (al P : ℕ) (r : Plain) (c : ℕ) → DoneOrNot al P r c
 unfolding askAnswer
-plain-number al P r c = by-class (r .listed c)
+done-or-not al P r c = by-class (r .listed c) refl
   where
-    by-listed : (p k : ℕ) (ks : List ℕ) → (askAnswer (fromListed al P r c p k ks) .number ≡ 0) ⊎ (fromListed al P r c p k ks ≡ NoRoom)
-    by-listed p k (j ∷ js) = inl refl
-    by-listed p k [] = inl (either-done (ltb (r .virgin p) (capacity (sizeOf al c))) _ _ refl refl)
+    either : (t : Bool) (x y : AskPlan) → askAnswer x .number ≡ 0 → askAnswer y .number ≡ 0 → askAnswer (if t then x else y) .number ≡ 0
+    either true x y e f = e
+    either false x y e f = f
 
-    by-arena : (a : ℕ) (ps : List ℕ) → (askAnswer (fromArena al P r c a ps) .number ≡ 0) ⊎ (fromArena al P r c a ps ≡ NoRoom)
-    by-arena a [] = inl refl
-    by-arena a (p ∷ ps) = inl (either-done (eqb (r .class p) c) _ _ refl refl)
+    by-unused : r .listed c ≡ [] → r .usable ≡ [] → (xs : List ℕ) → r .unused ≡ xs → DoneOrNot al P r c
+    by-unused f g [] k = inr (record { plan-is = rw (f, g, k); listed = f; usable = g; unused = k })
+    by-unused f g (a ∷ xs) k = inl (rw (f, g, k))
 
-    by-unused : (us : List ℕ) → (askAnswer (fromUnused al P r c us) .number ≡ 0) ⊎ (fromUnused al P r c us ≡ NoRoom)
-    by-unused [] = inr refl
-    by-unused (a ∷ us) = inl refl
+    by-freed : (a : ℕ) (us : List ℕ) → r .listed c ≡ [] → r .usable ≡ a ∷ us → (xs : List ℕ) → r .freed a ≡ xs → DoneOrNot al P r c
+    by-freed a us f g [] k = inl (rw (f, g, k))
+    by-freed a us f g (p ∷ ps) k = inl (rw (f, g, k) (either (eqb (r .class p) c) _ _ refl refl))
 
-    by-usable : (us : List ℕ) → (askAnswer (fromUsable al P r c us) .number ≡ 0) ⊎ (fromUsable al P r c us ≡ NoRoom)
-    by-usable [] = by-unused (r .unused)
-    by-usable (a ∷ us) = by-arena a (r .freed a)
+    by-usable : r .listed c ≡ [] → (xs : List ℕ) → r .usable ≡ xs → DoneOrNot al P r c
+    by-usable f [] g = by-unused f g (r .unused) refl
+    by-usable f (a ∷ us) g = by-freed a us f g (r .freed a) refl
 
-    by-class : (ps : List ℕ) → (askAnswer (fromClass al P r c ps) .number ≡ 0) ⊎ (fromClass al P r c ps ≡ NoRoom)
-    by-class [] = by-usable (r .usable)
-    by-class (p ∷ ps) = by-listed p (front (r .chain p)) (rest (r .chain p))
+    by-chain : (p k : ℕ) (ks : List ℕ) → askAnswer (fromListed al P r c p k ks) .number ≡ 0
+    by-chain p k (j ∷ js) = refl
+    by-chain p k [] = either (ltb (r .virgin p) (capacity (sizeOf al c))) _ _ refl refl
+
+    by-class : (xs : List ℕ) → r .listed c ≡ xs → DoneOrNot al P r c
+    by-class [] f = by-usable f (r .usable) refl
+    by-class (p ∷ ps) f = inl (rw f (by-chain p (front (r .chain p)) (rest (r .chain p))))
 
 -- ---- ask
 module _ {al A P : ℕ} {h : Heap} {r : Plain} (L : Aligned al) (S : Sound al A P h r) (n : ℕ) where

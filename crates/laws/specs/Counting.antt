@@ -7,6 +7,7 @@ use Prim.Native.Nat.{ℕ, zero, suc, _+_, _≤_, _<_}
 use native.Mathlib.Decide.{ℕ-discrete}
 use native.Mathlib.Omega.{arith}
 use Rattle.rules.specs.Say.{if_then_else_}
+use Rattle.laws.specs.Update.{is-false}
 use Rattle.laws.specs.Plain.{howMany}
 
 abbrev one : Bool → ℕ
@@ -52,11 +53,7 @@ many-some f k (suc n) l e = go (ℕ-discrete k n) (λ u. many-some f k n u e)
 
 -- none passes where none is counted
 pub none-many : (f : ℕ → Bool) (n : ℕ) → howMany f n ≡ 0 → (k : ℕ) → k < n → f k ≡ false
-none-many f n z k l = go (f k) refl
-  where
-    go : (t : Bool) → f k ≡ t → f k ≡ false
-    go true e = absurd (omega (arith, many-some f k n l e))
-    go false e = e
+none-many f n z k l = is-false (f k) (λ e. omega (arith, many-some f k n l e))
 
 -- numbers at which no test passes count for nothing
 pub many-cut : (f : ℕ → Bool) (v n : ℕ) → v ≤ n → ((k : ℕ) → v ≤ k → k < n → f k ≡ false) → howMany f n ≡ howMany f v

@@ -45,6 +45,10 @@ liveSize {al} {r = r} t = sizeOf al (r .class (t .pool))
 pub live-ends : {al A P : ℕ} {r : Plain} {o : ℕ} (t : LiveAt al A P r o) → startOf (liveSize t) (t .block) + liveSize t ≤ 4096
 live-ends t = block-ends (liveSize t) (t .block) (suc (t .block)) (omega arith) (t .fits)
 
+-- rows with the same class of its pool, and it live, have it too
+live-still : {al A P o : ℕ} {r r′ : Plain} (t : LiveAt al A P r o) → r′ .class (t .pool) ≡ r .class (t .pool) → r′ .live (t .pool) (t .block) ≡ true → LiveAt al A P r′ o
+live-still t e f = record { pool = t .pool; block = t .block; place = rw e (t .place); inside = t .inside; class = rw e (t .class); fits = rw e (t .fits); on = f }
+
 pub dead-holding : (al A P : ℕ) (h : Heap) (o : ℕ) → live al A P (h .books) (h .map) o ≡ false → holding al A P h o ≡ []
 unfolding holding
 dead-holding al A P h o e = rw e
@@ -204,16 +208,13 @@ module _ {al A P : ℕ} {h h′ : Heap} {r r′ : Plain} (L : Aligned al) (S : S
         stays : LiveAt al A P r x → LiveAt al A P r′ x
         stays t = go (ℕ-discrete (t .pool) (H .pool))
           where
-            same : r′ .class (t .pool) ≡ r .class (t .pool) → r′ .live (t .pool) (t .block) ≡ true → LiveAt al A P r′ x
-            same e f = record { pool = t .pool; block = t .block; place = rw e (t .place); inside = t .inside; class = rw e (t .class); fits = rw e (t .fits); on = f }
-
             go : Dec (t .pool ≡ H .pool) → LiveAt al A P r′ x
-            go (no q) = same (H .classes (t .pool) q) (live-at (t .pool) (t .block) ∙ rw (ne-eqb (t .pool) (H .pool) q) (t .on))
+            go (no q) = live-still t (H .classes (t .pool) q) (live-at (t .pool) (t .block) ∙ rw (ne-eqb (t .pool) (H .pool) q) (t .on))
             go (yes q) = pick (H .kind)
               where
                 pick : (r .class (H .pool) ≡ c) ⊎ ((j : ℕ) → r .live (H .pool) j ≡ false) → LiveAt al A P r′ x
                 pick (inr f) = absurd (true≢false (sym (t .on) ∙ ap (λ (y : ℕ). r .live y (t .block)) q ∙ f (t .block)))
-                pick (inl e) = same (rw q (H .class-now ∙ sym e)) (live-at (t .pool) (t .block) ∙ rw (eq-eqb (t .pool) (H .pool) q) (on′ (ℕ-discrete (t .block) (H .block))))
+                pick (inl e) = live-still t (rw q (H .class-now ∙ sym e)) (live-at (t .pool) (t .block) ∙ rw (eq-eqb (t .pool) (H .pool) q) (on′ (ℕ-discrete (t .block) (H .block))))
                   where
                     on′ : Dec (t .block ≡ H .block) → to (H .block) true (r .live (H .pool)) (t .block) ≡ true
                     on′ (yes u) = rw (eq-eqb (t .block) (H .block) u)
@@ -223,7 +224,7 @@ module _ {al A P : ℕ} {h h′ : Heap} {r r′ : Plain} (L : Aligned al) (S : S
         back t = go (ℕ-discrete (t .pool) (H .pool))
           where
             same : r .class (t .pool) ≡ r′ .class (t .pool) → r .live (t .pool) (t .block) ≡ true → LiveAt al A P r x × (r .class (t .pool) ≡ r′ .class (t .pool))
-            same e f = (record { pool = t .pool; block = t .block; place = rw e (t .place); inside = t .inside; class = rw e (t .class); fits = rw e (t .fits); on = f }, e)
+            same e f = (live-still t e f, e)
 
             go : Dec (t .pool ≡ H .pool) → LiveAt al A P r x × (r .class (t .pool) ≡ r′ .class (t .pool))
             go (no q) = same (sym (H .classes (t .pool) q)) (sym (rw (ne-eqb (t .pool) (H .pool) q) at (live-at (t .pool) (t .block))) ∙ t .on)
@@ -276,16 +277,7 @@ module _ {al A P : ℕ} {h h′ : Heap} {r r′ : Plain} (L : Aligned al) (S : S
         class-at y = ap (λ (g : ℕ → ℕ). g y) class-same
 
         stays : LiveAt al A P r x → LiveAt al A P r′ x
-        stays t =
-            record {
-              pool = t .pool;
-              block = t .block;
-              place = rw (class-at (t .pool)) (t .place);
-              inside = t .inside;
-              class = rw (class-at (t .pool)) (t .class);
-              fits = rw (class-at (t .pool)) (t .fits);
-              on = off (t .pool) (t .block) ∙ go (ℕ-discrete (t .pool) p) (ℕ-discrete (t .block) j);
-            }
+        stays t = live-still t (class-at (t .pool)) (off (t .pool) (t .block) ∙ go (ℕ-discrete (t .pool) p) (ℕ-discrete (t .block) j))
           where
             go : Dec (t .pool ≡ p) → Dec (t .block ≡ j) → to p (to j false (r .live p)) (r .live) (t .pool) (t .block) ≡ true
             go (no q) u = rw (ne-eqb (t .pool) p q) (t .on)
@@ -295,7 +287,7 @@ module _ {al A P : ℕ} {h h′ : Heap} {r r′ : Plain} (L : Aligned al) (S : S
         back : (t : LiveAt al A P r′ x) → LiveAt al A P r x × (r .class (t .pool) ≡ r′ .class (t .pool))
         back t =
             let e = sym (class-at (t .pool)) in
-            (record { pool = t .pool; block = t .block; place = rw e (t .place); inside = t .inside; class = rw e (t .class); fits = rw e (t .fits); on = go (ℕ-discrete (t .pool) p) (ℕ-discrete (t .block) j) (sym (off (t .pool) (t .block)) ∙ t .on) }, e)
+            (live-still t e (go (ℕ-discrete (t .pool) p) (ℕ-discrete (t .block) j) (sym (off (t .pool) (t .block)) ∙ t .on)), e)
           where
             go : Dec (t .pool ≡ p) → Dec (t .block ≡ j) → to p (to j false (r .live p)) (r .live) (t .pool) (t .block) ≡ true → r .live (t .pool) (t .block) ≡ true
             go (no q) u e = rw (ne-eqb (t .pool) p q) at e

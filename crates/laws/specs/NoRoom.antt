@@ -6,9 +6,7 @@ use mathlib.Core.Bool.{true, false, not, true≢false}
 use mathlib.Core.List.{List, [], _∷_}
 use Prim.Native.Nat.{ℕ, _+_, _*_, _/_, _%_, _≤_, _<_}
 use native.Mathlib.Nat.{div-add-mod', mod-lt}
-use native.Mathlib.Decide.{ℕ-discrete, decLe}
 use native.Mathlib.Omega.{arith}
-use lib.Dec.{ltb, eqb}
 use lib.ListN.{length}
 use borrow.Author.Tests.{ltb-true, not-false}
 use Rattle.rules.specs.declared.AskPlan.{AskPlan}
@@ -19,54 +17,23 @@ use Rattle.rules.specs.Ask.{askAnswer}
 use Rattle.rules.specs.Outcome.{Outcome}
 use Rattle.rules.specs.Numbers.{ask}
 use Rattle.books.specs.Known.{in-range}
-use Rattle.laws.specs.Plain.{Plain, count, inUse, free, front, rest, planAsk as plainAsk, afterAsk as plainAfterAsk, fromListed}
+use Rattle.laws.specs.Plain.{Plain, count, inUse, free, planAsk as plainAsk, afterAsk as plainAfterAsk}
 use Rattle.laws.specs.Counting.{Passes, many-has, none-many}
 use Rattle.laws.specs.Sizes.{Aligned, has-class, capacity-high, class-low}
 use Rattle.laws.specs.Chains.{room, among}
-use Rattle.laws.specs.Sound.{Sound, InClass}
-use Rattle.laws.specs.Held.{held, Says, in-class, home-listed, base-unused, base-usable, arena-low}
+use Rattle.laws.specs.Sound.{Sound}
+use Rattle.laws.specs.Held.{held, Says, InClassOf, in-class, home-listed, base-unused, base-usable, arena-low}
 use Rattle.laws.specs.Paths.{Hand}
 use Rattle.laws.specs.Holding.{holding, live-rows, rows-live, pool-is, block-live, block-pool, holding-more, holding-none}
 use Rattle.laws.specs.History.{Full}
-use Rattle.laws.specs.Calls.{either-done, plain-number, ask-done, ask-is}
-
--- the plain heap finds no room exactly with empty lists
-empty-lists : (al P : ℕ) (r : Plain) (c : ℕ) → plainAsk al P r c ≡ NoRoom → (r .listed c ≡ []) × (r .usable ≡ []) × (r .unused ≡ [])
-unfolding askAnswer
-empty-lists al P r c e = by-class (r .listed c) refl
-  where
-    number : askAnswer (plainAsk al P r c) .number ≡ 4
-    number = ap (λ (q : AskPlan). askAnswer q .number) e
-
-    clash-zero : askAnswer (plainAsk al P r c) .number ≡ 0 → ⊥
-    clash-zero z = omega (arith, number)
-
-    by-unused : r .listed c ≡ [] → r .usable ≡ [] → (xs : List ℕ) → r .unused ≡ xs → (r .listed c ≡ []) × (r .usable ≡ []) × (r .unused ≡ [])
-    by-unused f g [] k = (f, g, k)
-    by-unused f g (a ∷ xs) k = absurd (clash-zero (rw (f, g, k)))
-
-    by-freed : (a : ℕ) (us : List ℕ) → r .listed c ≡ [] → r .usable ≡ a ∷ us → (xs : List ℕ) → r .freed a ≡ xs → (r .listed c ≡ []) × (r .usable ≡ []) × (r .unused ≡ [])
-    by-freed a us f g [] k = absurd (clash-zero (rw (f, g, k)))
-    by-freed a us f g (p ∷ ps) k = absurd (clash-zero (rw (f, g, k) (either-done (eqb (r .class p) c) _ _ refl refl)))
-
-    by-usable : r .listed c ≡ [] → (xs : List ℕ) → r .usable ≡ xs → (r .listed c ≡ []) × (r .usable ≡ []) × (r .unused ≡ [])
-    by-usable f [] g = by-unused f g (r .unused) refl
-    by-usable f (a ∷ us) g = by-freed a us f g (r .freed a) refl
-
-    by-class : (xs : List ℕ) → r .listed c ≡ xs → (r .listed c ≡ []) × (r .usable ≡ []) × (r .unused ≡ [])
-    by-class [] f = by-usable f (r .usable) refl
-    by-class (p ∷ ps) f = absurd (clash-zero (rw f (by-chain (front (r .chain p)) (rest (r .chain p)))))
-      where
-        by-chain : (k : ℕ) (ks : List ℕ) → askAnswer (fromListed al P r c p k ks) .number ≡ 0
-        by-chain k (j ∷ js) = refl
-        by-chain k [] = either-done (ltb (r .virgin p) (capacity (sizeOf al c))) _ _ refl refl
+use Rattle.laws.specs.Calls.{NoneLeft, DoneOrNot, done-or-not, ask-done, ask-is}
 
 module _ {al A P : ℕ} {h : Heap} {r : Plain} (L : Aligned al) (S : Sound al A P h r) (n : ℕ) (low : 1 ≤ n) (high : n ≤ 512) where
   F : Says al A P (held S .view) (h .memory) (h .map) r
   F = held S .says
 
   -- ---- refused with 4, the heap is full
-  module _ (none : (r .listed (classOf al n) ≡ []) × (r .usable ≡ []) × (r .unused ≡ [])) where
+  module _ (none : NoneLeft al P r (classOf al n)) where
     pools-low : 2 ≤ P
     pools-low = in-range A P (S .rule1 .range) .2
 
@@ -78,14 +45,10 @@ module _ {al A P : ℕ} {h : Heap} {r : Plain} (L : Aligned al) (S : Sound al A 
         la = arena-low A P p pools-low l
 
         marked : r .mark (p / P) ≢ 0
-        marked z = absurd (rw (none .2) at (S .rule6 .arenas .all 3 (omega arith) (p / P) la (base-unused P r (p / P) z)))
+        marked z = absurd (rw (none .unused) at (S .rule6 .arenas .all 3 (omega arith) (p / P) la (base-unused P r (p / P) z)))
 
         no-free : free P r (p / P) ≡ 0
-        no-free = go (ℕ-discrete (free P r (p / P)) 0)
-          where
-            go : Dec (free P r (p / P) ≡ 0) → free P r (p / P) ≡ 0
-            go (yes q) = q
-            go (no q) = absurd (rw (none .1) at (S .rule6 .arenas .all 2 (omega arith) (p / P) la (base-usable P r (p / P) marked q)))
+        no-free = let d : ¬ (1 ≤ free P r (p / P)) = (λ q. rw (none .usable) at (S .rule6 .arenas .all 2 (omega arith) (p / P) la (base-usable P r (p / P) marked (omega arith)))) in omega arith
 
     is-full : Full al A P h (classOf al n)
     is-full =
@@ -105,11 +68,11 @@ module _ {al A P : ℕ} {h : Heap} {r : Plain} (L : Aligned al) (S : Sound al A 
             t : Passes (r .live p) 512
             t = many-has (r .live p) 512 (all-used p l)
 
-            I : InClass al p (h .memory) (count r p) (held S .view .pool 1 p) (r .class p) (held S .view .pool 5 p) (held S .view .pool 6 p) (r .live p) (r .chain p) (r .virgin p)
+            I : InClassOf al (held S .view) (h .memory) r p
             I = in-class L F p (t .number) l (t .yes)
 
             less : count r p < capacity (sizeOf al (r .class p)) → ⊥
-            less z = rw (none .0) at (S .rule6 .listed .all (classOf al n) (class-low L (classOf al n) (has-class L n high)) p l (home-listed al P r p (all-used p l) z ∙ ap classHead e))
+            less z = rw (none .listed) at (S .rule6 .listed .all (classOf al n) (class-low L (classOf al n) (has-class L n high)) p l (home-listed al P r p (all-used p l) z ∙ ap classHead e))
 
             rooms : count r p + length (r .chain p) ≡ r .virgin p
             rooms = room (I .blocks) (omega (arith, capacity-high L (r .class p) (I .class-low)))
@@ -118,11 +81,7 @@ module _ {al A P : ℕ} {h : Heap} {r : Plain} (L : Aligned al) (S : Sound al A 
             u′ = rw e u
 
             all-live : capacity (sizeOf al (r .class p)) ≤ count r p
-            all-live = go (decLe (capacity (sizeOf al (r .class p))) (count r p))
-              where
-                go : Dec (capacity (sizeOf al (r .class p)) ≤ count r p) → capacity (sizeOf al (r .class p)) ≤ count r p
-                go (yes q) = q
-                go (no q) = absurd (less (omega arith))
+            all-live = let d : ¬ (count r p < capacity (sizeOf al (r .class p))) = less in omega arith
 
             on : r .live p k ≡ true
             on = I .blocks .either k (omega (arith, rooms, all-live, I .blocks .fits, u′)) ∙ empty (r .chain p) (omega (arith, rooms, all-live, I .blocks .fits))
@@ -133,10 +92,10 @@ module _ {al A P : ℕ} {h : Heap} {r : Plain} (L : Aligned al) (S : Sound al A 
 
   -- ---- a full heap refuses
   refuses : Full al A P h (classOf al n) → plainAsk al P r (classOf al n) ≡ NoRoom
-  refuses Z = go (plain-number al P r (classOf al n))
+  refuses Z = go (done-or-not al P r (classOf al n))
     where
-      go : (askAnswer (plainAsk al P r (classOf al n)) .number ≡ 0) ⊎ (plainAsk al P r (classOf al n) ≡ NoRoom) → plainAsk al P r (classOf al n) ≡ NoRoom
-      go (inr e) = e
+      go : DoneOrNot al P r (classOf al n) → plainAsk al P r (classOf al n) ≡ NoRoom
+      go (inr e) = e .plan-is
       go (inl e) = absurd (none (H .kind))
         where
           H : Hand al A P r (plainAfterAsk al P r (classOf al n) (plainAsk al P r (classOf al n))) (classOf al n) (askAnswer (plainAsk al P r (classOf al n)) .offset)
@@ -155,12 +114,12 @@ module _ {al A P : ℕ} {h : Heap} {r : Plain} (L : Aligned al) (S : Sound al A 
   -- ask n is refused with 4 exactly if the heap is full for its class
   pub four-full : ask al h n .answer .number ≡ 4 → Full al A P h (classOf al n)
   unfolding askAnswer
-  four-full e = is-full (empty-lists al P r (classOf al n) (go (plain-number al P r (classOf al n))))
+  four-full e = is-full (go (done-or-not al P r (classOf al n)))
     where
       number : askAnswer (plainAsk al P r (classOf al n)) .number ≡ 4
       number = sym (ap (λ (y : Outcome). y .answer .number) (ask-is L S n low high)) ∙ e
 
-      go : (askAnswer (plainAsk al P r (classOf al n)) .number ≡ 0) ⊎ (plainAsk al P r (classOf al n) ≡ NoRoom) → plainAsk al P r (classOf al n) ≡ NoRoom
+      go : DoneOrNot al P r (classOf al n) → NoneLeft al P r (classOf al n)
       go (inl z) = absurd (omega (arith, number))
       go (inr z) = z
 

@@ -2,7 +2,7 @@
 -- keeps the rows, and a give-back of the old block, which is still the block that it was.
 -- Assumes nothing.
 use mathlib.Core.Path.{_≡_, refl, sym, ap, ap₂, _∙_, subst}
-use mathlib.Core.Logic.{_≢_, _⊎_, inl, inr}
+use mathlib.Core.Logic.{_≢_, inl, inr}
 use mathlib.Core.Bool.{Bool, true, false}
 use mathlib.Core.List.{List, [], _++_}
 use Prim.Native.Nat.{ℕ, _+_, _%_, _≤_, min}
@@ -27,7 +27,7 @@ use Rattle.laws.specs.Sound.{Sound}
 use Rattle.laws.specs.Paths.{Hand, Asked}
 use Rattle.laws.specs.Bytes.{outside-less, part-long, sets-off, text-part}
 use Rattle.laws.specs.Holding.{LiveAt, liveSize, holding, live-rows, pool-is, number-at, class-is, rows-live, in-memory, at-block, at-class, holding-live, holding-long, holding-more, holding-some, holding-none, holding-others, Leaves}
-use Rattle.laws.specs.Calls.{shape-zero, plain-number, ask-done, block-of, back-done, back-is, back-leaves}
+use Rattle.laws.specs.Calls.{shape-zero, DoneOrNot, done-or-not, ask-done, block-of, back-done, back-is, back-leaves}
 use Rattle.laws.specs.Written.{written-sound, written-leaves}
 use Rattle.laws.specs.History.{carried}
 
@@ -231,10 +231,10 @@ module _ {al A P : ℕ} {h : Heap} {r : Plain} (L : Aligned al) (S : Sound al A 
         Q : Outcome → Type 0
         Q y = (y .answer ≡ resizeAnswer al P r o (t e .pool) n) × Sound al A P (y .heap) (resizePlain al P r (t e .pool) (t e .block) n)
 
-        by-room : keeps (liveSize (t e)) n ≡ false → (askAnswer (plainAsk al P r (classOf al n)) .number ≡ 0) ⊎ (plainAsk al P r (classOf al n) ≡ NoRoom) → Q (resize al h o n)
+        by-room : keeps (liveSize (t e)) n ≡ false → DoneOrNot al P r (classOf al n) → Q (resize al h o n)
         by-room q (inl z) = rw (resize-moves e z q, q, z) (ap (λ (k : ℕ). answerOf k (new e z)) (sym z), moved-sound e z)
-        by-room q (inr z) = rw (resize-none e q z, q, z) (refl, S)
+        by-room q (inr z) = rw (resize-none e q (z .plan-is), q, z .plan-is) (refl, S)
 
         by-keep : (b : Bool) → keeps (liveSize (t e)) n ≡ b → Q (resize al h o n)
         by-keep true q = rw (resize-keeps e q, q) (refl, S)
-        by-keep false q = by-room q (plain-number al P r (classOf al n))
+        by-keep false q = by-room q (done-or-not al P r (classOf al n))

@@ -2,7 +2,7 @@
 -- Assumes nothing.
 use mathlib.Core.Path.{_≡_, refl, sym, ap, ap₂, _∙_}
 use mathlib.Core.Logic.{_≢_}
-use mathlib.Core.Bool.{Bool, true, false, not, _&&_}
+use mathlib.Core.Bool.{Bool, true, false, not, _&&_, and-false}
 use mathlib.Core.List.{List, [], _∷_, _++_, append-assoc, append-nil}
 use Prim.Native.Nat.{ℕ, zero, suc, _+_, _*_, _-_, _/_, _%_, _≤_, _<_}
 use native.Mathlib.Nat.{mul-le-mul-right, div-mul-le-self, add-zero, suc-mul, mod-eq-of-lt, add-mul-mod-self-right, mul-comm}
@@ -164,18 +164,9 @@ module _ {al : ℕ} (L : Aligned al) (A P : ℕ) (b m : List ℕ) where
               let f : 48 + k * s + i < 4096 = omega (arith, mul-le-mul-right s u, suc-mul k s, div-mul-le-self 4048 s) in
               let d : 48 + k * s + i - 48 ≡ i + k * s = omega arith in
               let z : (i + k * s) % s ≡ i = add-mul-mod-self-right i k s ∙ mod-eq-of-lt w in
-              ap sizeHeld q ∙ at-pool (48 + k * s + i) f ∙ rw (e, d, z, ne-eqb i 0 (omega arith)) (go (leb 48 (48 + k * s + i)) (leb (48 + k * s + i) (lastStart s)) (isSet m p ((i + k * s) / s)));
-          high = λ x u v. at-pool x v ∙ rw (e, lt-leb x (lastStart s) (omega (arith, past-last s eight, mul-comm s (capacity s)))) (go′ (leb 48 x) (eqb ((x - 48) % s) 0) (isSet m p (blockNo s x)));
+              ap sizeHeld q ∙ at-pool (48 + k * s + i) f ∙ rw (e, d, z, ne-eqb i 0 (omega arith), and-false);
+          high = λ x u v. at-pool x v ∙ rw (e, lt-leb x (lastStart s) (omega (arith, past-last s eight, mul-comm s (capacity s))), and-false);
         }
-      where
-        go : (x y z : Bool) → (if x && y && false && z then s else 0) ≡ 0
-        go true true z = refl
-        go true false z = refl
-        go false y z = refl
-
-        go′ : (x y z : Bool) → (if x && false && y && z then s else 0) ≡ 0
-        go′ true y z = refl
-        go′ false y z = refl
 
     pool-roll : rollPool al A b m p ≡ listing sizeHeld (4096 * p) 4096
     unfolding rollPool

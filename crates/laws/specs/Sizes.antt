@@ -1,9 +1,10 @@
 -- What the laws know of the alignment, and of block sizes and capacities at it: 01 has 8, W-211 brings 16.
 -- Assumes nothing.
 use Prim.Native.Nat.{ℕ, _-_, _≤_, _<_}
-use native.Mathlib.Nat.{div-add-mod, mod-lt, mul-add, mul-one, mul-le-mul-left, mul-div-le, div-le-of-le-mul, div-lt-iff-lt-mul, le-div-iff-mul-le, div-mul-le-self}
+use native.Mathlib.Nat.{div-add-mod, mod-lt, mul-add, mul-one, mul-le-mul-left, mul-div-le, div-lt-iff-lt-mul, le-div-iff-mul-le, div-mul-le-self}
 use native.Mathlib.Omega.{arith}
 use Rattle.rules.specs.Blocks.{classOf, sizeOf, lastClass, capacity}
+use Rattle.books.specs.Starts.{capacity-le}
 
 -- an alignment at which the laws hold
 pub record Aligned (al : ℕ) : Type 0 where
@@ -18,7 +19,7 @@ module _ {al : ℕ} (L : Aligned al) (c : ℕ) (l : c ≤ lastClass al) where
   size-high = omega (arith, mul-add al c 1, mul-one al, mul-le-mul-left al l, mul-div-le 511 al, L .high)
 
   pub capacity-high : capacity (sizeOf al c) ≤ 506
-  capacity-high = div-le-of-le-mul (sizeOf al c) (omega (arith, size-low))
+  capacity-high = capacity-le (sizeOf al c) size-low
 
   pub capacity-low : 2 ≤ capacity (sizeOf al c)
   capacity-low = le-div-iff-mul-le {k = sizeOf al c} {x = 2} {y = 4048} (omega (arith, size-low)) .1 (omega (arith, size-high))

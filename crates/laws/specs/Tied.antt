@@ -10,7 +10,6 @@ use lib.Dec.{ltb, eqb}
 use lib.ListN.{length, set, take, drop, length-set, replicate}
 use lib.Seq.{sets, length-sets, getD-set-other}
 use borrow.Author.Tests.{eq-eqb, ne-eqb, ltb-true, ltb-false}
-use Rattle.rules.specs.declared.AskPlan.the-variants.{NoRoom}
 use Rattle.rules.specs.Say.{if_then_else_}
 use Rattle.rules.specs.Books.{Heap, at, inRange, exact, memoryLength, mapLength, arenas, pools}
 use Rattle.rules.specs.Blocks.{classOf, sizeOf, live, liveNumber, sizeAt}
@@ -29,7 +28,7 @@ use Rattle.laws.specs.Fresh.{fresh-sound}
 use Rattle.laws.specs.Bytes.{Outside, outside-less, text-part, byte-part, sets-off}
 use Rattle.laws.specs.Holding.{LiveAt, liveSize, holding, live-rows, class-is, in-memory, holding-live, holding-long, holding-some, dead-holding, Leaves}
 use Rattle.laws.specs.Written.{written-leaves}
-use Rattle.laws.specs.Calls.{shape-zero, plain-number, ask-size, ask-is, ask-leaves, size-number, back-dead, block-of, back-is, back-leaves}
+use Rattle.laws.specs.Calls.{shape-zero, DoneOrNot, done-or-not, ask-size, ask-is, ask-leaves, size-number, back-dead, block-of, back-is, back-leaves}
 use Rattle.laws.specs.Resized.{resize-size, resize-dead, resize-keeps, resize-none, resize-moves, differ, moved-leaves}
 use Rattle.laws.specs.History.{Event, formats, asks, gives, resizes, views, writes, rolls, pokes, Ledger, State, noted, numberOf, carried, after, run, NoSix}
 
@@ -70,8 +69,8 @@ module _ {al : ℕ} (L : Aligned al) (m₀ : List ℕ) where
       Q : Outcome → Type 0
       Q y = Good al m₀ (y .answer .number) (noted (y .answer .number) (y .heap) (x .ledger) (to (y .answer .offset) (bytes y) (x .ledger)))
 
-      served : (lo : 1 ≤ n) → (hi : n ≤ 512) → (askAnswer (plainAsk al (T .P) (T .rows) (classOf al n)) .number ≡ 0) ⊎ (plainAsk al (T .P) (T .rows) (classOf al n) ≡ NoRoom) → Q (ask al h n)
-      served lo hi (inr z) = rw (ask-is L (T .sound) n lo hi, z) (same T 4 refl (omega arith) (x .ledger))
+      served : (lo : 1 ≤ n) → (hi : n ≤ 512) → DoneOrNot al (T .P) (T .rows) (classOf al n) → Q (ask al h n)
+      served lo hi (inr z) = rw (ask-is L (T .sound) n lo hi, z .plan-is) (same T 4 refl (omega arith) (x .ledger))
       served lo hi (inl z) =
           rw (ap (λ (y : Outcome). y .answer .number) (ask-is L (T .sound) n lo hi) ∙ z) (
             (omega arith),
@@ -81,7 +80,7 @@ module _ {al : ℕ} (L : Aligned al) (m₀ : List ℕ) where
 
       go : ((1 ≤ n) × (n ≤ 512)) ⊎ (sizeNumber n ≡ 3) → Q (ask al h n)
       go (inr e) = rw (ask-size L (T .sound) n e) (same T 3 refl (omega arith) (x .ledger))
-      go (inl t) = served (t .0) (t .1) (plain-number al (T .P) (T .rows) (classOf al n))
+      go (inl t) = served (t .0) (t .1) (done-or-not al (T .P) (T .rows) (classOf al n))
 
   step-give : {x : State} → Tied al m₀ x → (o : ℕ) → Good al m₀ (numberOf al x (gives o)) (after al x (gives o))
   unfolding numberOf after
@@ -188,17 +187,17 @@ module _ {al : ℕ} (L : Aligned al) (m₀ : List ℕ) where
           (to-cong o (x .ledger) (holding al (T .A) (T .P) h) refl y (T .tie y))
 
       by-room : (lo : 1 ≤ n) (hi : n ≤ 512) (e : live al (T .A) (T .P) (h .books) (h .map) o ≡ true) → keeps (liveSize (block-of L S o e)) n ≡ false
-          → (askAnswer (plainAsk al (T .P) (T .rows) (classOf al n)) .number ≡ 0) ⊎ (plainAsk al (T .P) (T .rows) (classOf al n) ≡ NoRoom) → Q (resize al h o n)
+          → DoneOrNot al (T .P) (T .rows) (classOf al n) → Q (resize al h o n)
       by-room lo hi e q (inl z) =
           rw (resize-moves L S o n lo hi e z q, ne-eqb (askAnswer (plainAsk al (T .P) (T .rows) (classOf al n)) .offset) o (λ u. differ L S o n lo hi e z (sym u))) (
             (omega arith),
             leaves T (moved-leaves L S o n lo hi e z) _ (same-carried (askAnswer (plainAsk al (T .P) (T .rows) (classOf al n)) .offset) _),
           )
-      by-room lo hi e q (inr z) = rw (resize-none L S o n lo hi e q z) (same T 4 refl (omega arith) (x .ledger))
+      by-room lo hi e q (inr z) = rw (resize-none L S o n lo hi e q (z .plan-is)) (same T 4 refl (omega arith) (x .ledger))
 
       by-keep : (lo : 1 ≤ n) (hi : n ≤ 512) (e : live al (T .A) (T .P) (h .books) (h .map) o ≡ true) (b : Bool) → keeps (liveSize (block-of L S o e)) n ≡ b → Q (resize al h o n)
       by-keep lo hi e true q = rw (resize-keeps L S o n lo hi e q, eq-eqb o o refl) ((omega arith), T)
-      by-keep lo hi e false q = by-room lo hi e q (plain-number al (T .P) (T .rows) (classOf al n))
+      by-keep lo hi e false q = by-room lo hi e q (done-or-not al (T .P) (T .rows) (classOf al n))
 
       by-live : (lo : 1 ≤ n) (hi : n ≤ 512) (b : Bool) → live al (T .A) (T .P) (h .books) (h .map) o ≡ b → Q (resize al h o n)
       by-live lo hi false e = rw (resize-dead L S o n lo hi e) (same T 5 refl (omega arith) (x .ledger))
