@@ -8,13 +8,13 @@ use Prim.Native.Nat.{ℕ, suc, _+_, _*_, _-_, _≤_, _<_}
 use native.Mathlib.Nat.{mul-le-mul-right, mul-comm, div-add-mod', mod-lt}
 use native.Mathlib.Decide.{decLt}
 use native.Mathlib.Omega.{arith}
-use lib.Dec.{eqb, eqb·suc-zero}
+use lib.Dec.{eqb·suc-zero}
 use lib.ListN.{length}
 use borrow.Author.Tests.{eq-eqb, ne-eqb, le-leb, lt-leb, lt-ltb, le-ltb}
 use Rattle.rules.specs.declared.AskPlan.{AskPlan}
 use Rattle.rules.specs.declared.AskPlan.the-variants.{Follow, Ready, Last}
 use Rattle.rules.specs.Say.{if_then_else_, _▷_}
-use Rattle.rules.specs.Books.{Heap, at, putMapBit, classHead, poolWord, pool, offsetOf}
+use Rattle.rules.specs.Books.{Heap, at, putMapBit, classHead, poolWord, pool, none?, offsetOf}
 use Rattle.rules.specs.Blocks.{sizeOf, lastClass, startOf, lastStart, blockNo, capacity, linkAt}
 use Rattle.rules.specs.Lists.{nextAt, previousAt, poolLinks}
 use Rattle.rules.specs.Ask.{planAsk, spare, fromListed, fromFreeblock, noLink, afterAsk, askAnswer}
@@ -115,9 +115,12 @@ module _ {al A P p : ℕ} {h : Heap} {r : Plain} {ps : List ℕ} (L : Aligned al
     count-after : count (r ▷ setLive p k true) p ≡ suc (count r p)
     count-after = count-on r p k k-dead (omega (arith, k-low, cap-high))
 
-    -- the tests up to the freeblock's link
-    listed-first : (q : AskPlan) → (if eqb (linkAt (h .memory) (offsetOf p (startOf s k))) 0 then noLink al A P h c p else Follow p (startOf s k) (linkAt (h .memory) (offsetOf p (startOf s k)))) ≡ q
-        → (eqb (linkAt (h .memory) (offsetOf p (startOf s k))) 0 || spare al A P h c p (linkAt (h .memory) (offsetOf p (startOf s k)))) ≡ true → planAsk al A P h c ≡ q
+    -- the link in it
+    abbrev link : ℕ
+    link = linkAt (h .memory) (offsetOf p (startOf s k))
+
+    -- the tests up to that link
+    listed-first : (q : AskPlan) → (if none? link then noLink al A P h c p else Follow p (startOf s k) link) ≡ q → (none? link || spare al A P h c p link) ≡ true → planAsk al A P h c ≡ q
     unfolding planAsk fromListed fromFreeblock
     listed-first q e f =
         let z : suc p - 1 ≡ p = omega arith in
@@ -164,7 +167,7 @@ module _ {al A P p : ℕ} {h : Heap} {r : Plain} {ps : List ℕ} (L : Aligned al
     unfolding afterAsk askAnswer
     ask-follow j js more =
         asked (Follow p (startOf s k) (startOf s j)) r′
-        (listed-first _ (rw (link, ne-eqb (startOf s j) 0 (omega arith))) (rw (link, ne-eqb (startOf s j) 0 (omega arith), spare-is j j-low j-dead)))
+        (listed-first _ (rw (link-is, ne-eqb (startOf s j) 0 (omega arith))) (rw (link-is, ne-eqb (startOf s j) 0 (omega arith), spare-is j j-low j-dead)))
         (rw (lst, chn, more)) (rw (chn, more))
         (sound {h = h′} L K′ F′) (quiet-same {r = r′}) (λ _. hand-out p k lp k-low refl k-dead refl refl)
       where
@@ -177,8 +180,8 @@ module _ {al A P p : ℕ} {h : Heap} {r : Plain} {ps : List ℕ} (L : Aligned al
         C : Blocks s p (h .memory) (U .pool 1 p) (U .pool 5 p) (r .live p) (k ∷ j ∷ js) (r .virgin p)
         C = rw more at B
 
-        link : linkAt (h .memory) (offsetOf p (startOf s k)) ≡ startOf s j
-        link = C .chained .1 .0
+        link-is : link ≡ startOf s j
+        link-is = C .chained .1 .0
 
         j-low : j < capacity s
         j-low = omega (arith, C .below .1 .0, C .fits)
@@ -195,12 +198,12 @@ module _ {al A P p : ℕ} {h : Heap} {r : Plain} {ps : List ℕ} (L : Aligned al
         F′ : Says al A P U′ (h .memory) (h′ .map) r′
         F′ =
             served (j ∷ js) (r .virgin) (r .listed) (U′ .pool) (U .home) (U .listed) (λ y d. refl) (λ w y d. rw (ne-eqb y p d)) (λ y d. refl) (rw (eq-eqb p p refl))
-            (rw (eq-eqb p p refl) (refl, refl, refl)) (rw (eq-eqb p p refl, ← link) (rw more at (taken k B))) (λ _. omega arith)
+            (rw (eq-eqb p p refl) (refl, refl, refl)) (rw (eq-eqb p p refl, ← link-is) (rw more at (taken k B))) (λ _. omega arith)
             (stays-home (j ∷ js) (r .virgin) (omega (arith, room-is, ap length more, B .fits))) (F .lists .listed) (no-bytes p (h .memory))
 
     -- the chain ends with block k
     module _ (none : ks ≡ []) where
-      no-more : linkAt (h .memory) (offsetOf p (startOf s k)) ≡ 0
+      no-more : link ≡ 0
       no-more = (rw none at B) .chained .1
 
       full-room : suc (count r p) ≡ r .virgin p
@@ -259,7 +262,9 @@ module _ {al A P p : ℕ} {h : Heap} {r : Plain} {ps : List ℕ} (L : Aligned al
           let v : previousAt (poolLinks A) p ≡ poolWord A 3 p = omega arith in
           let t = member-links (K .listed) c lc p lp (member .is) in
           asked (Last p (startOf s k)) r′
-          (listed-first _ (rw (no-more, next-is, max-is, free-is, lt-leb (startOf s (r .virgin p)) (lastStart s) past, v, n, le-leb (pool A b 2 p) (A * P) (t .0), le-leb (pool A b 3 p) (A * P) (t .1))) (rw no-more))
+          (listed-first _
+          (rw (no-more, next-is, max-is, free-is, lt-leb (startOf s (r .virgin p)) (lastStart s) past, v, n, le-leb (pool A b 2 p) (A * P) (t .0), le-leb (pool A b 3 p) (A * P) (t .1)))
+          (rw no-more))
           (rw (lst, chn, none, le-ltb (r .virgin p) (capacity s) full)) (rw chn)
           (sound {h = h′} L K′ F′) (quiet-same {r = r′}) (λ _. hand-out p k lp k-low refl k-dead refl refl)
         where

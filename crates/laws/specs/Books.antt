@@ -65,30 +65,41 @@ pub record Books (A N : ℕ) (b : List ℕ) (U : View) : Type 0 where
 
 -- ---- changes of what is said
 abbrev pub poolTo : ℕ → ℕ → ℕ → View → View
-poolTo w n v U = record { head = U .head; pool = λ u y. if eqb y n && eqb u w then v else U .pool u y; arena = U .arena; home = U .home; base = U .base; listed = U .listed; freed = U .freed; arenas = U .arenas }
+poolTo w n v U =
+    record { head = U .head; pool = λ u y. if eqb y n && eqb u w then v else U .pool u y; arena = U .arena; home = U .home; base = U .base; listed = U .listed; freed = U .freed; arenas = U .arenas }
 
 abbrev pub arenaTo : ℕ → ℕ → ℕ → View → View
-arenaTo w a v U = record { head = U .head; pool = U .pool; arena = λ u x. if eqb x a && eqb u w then v else U .arena u x; home = U .home; base = U .base; listed = U .listed; freed = U .freed; arenas = U .arenas }
+arenaTo w a v U =
+    record { head = U .head; pool = U .pool; arena = λ u x. if eqb x a && eqb u w then v else U .arena u x; home = U .home; base = U .base; listed = U .listed; freed = U .freed; arenas = U .arenas }
 
 abbrev pub homeTo : ℕ → ℕ → View → View
-homeTo n v U = record { head = U .head; pool = U .pool; arena = U .arena; home = to n v (U .home); base = U .base; listed = U .listed; freed = U .freed; arenas = U .arenas }
+homeTo n v U =
+    record { head = U .head; pool = U .pool; arena = U .arena; home = to n v (U .home); base = U .base; listed = U .listed; freed = U .freed; arenas = U .arenas }
 
 abbrev pub baseTo : ℕ → ℕ → View → View
-baseTo a v U = record { head = U .head; pool = U .pool; arena = U .arena; home = U .home; base = to a v (U .base); listed = U .listed; freed = U .freed; arenas = U .arenas }
+baseTo a v U =
+    record { head = U .head; pool = U .pool; arena = U .arena; home = U .home; base = to a v (U .base); listed = U .listed; freed = U .freed; arenas = U .arenas }
 
 abbrev pub listedTo : ℕ → List ℕ → View → View
-listedTo c xs U = record { head = U .head; pool = U .pool; arena = U .arena; home = U .home; base = U .base; listed = to c xs (U .listed); freed = U .freed; arenas = U .arenas }
+listedTo c xs U =
+    record { head = U .head; pool = U .pool; arena = U .arena; home = U .home; base = U .base; listed = to c xs (U .listed); freed = U .freed; arenas = U .arenas }
 
 abbrev pub freedTo : ℕ → List ℕ → View → View
-freedTo a xs U = record { head = U .head; pool = U .pool; arena = U .arena; home = U .home; base = U .base; listed = U .listed; freed = to a xs (U .freed); arenas = U .arenas }
+freedTo a xs U =
+    record { head = U .head; pool = U .pool; arena = U .arena; home = U .home; base = U .base; listed = U .listed; freed = to a xs (U .freed); arenas = U .arenas }
 
 abbrev pub arenasTo : ℕ → List ℕ → View → View
-arenasTo i xs U = record { head = U .head; pool = U .pool; arena = U .arena; home = U .home; base = U .base; listed = U .listed; freed = U .freed; arenas = to i xs (U .arenas) }
+arenasTo i xs U =
+    record { head = U .head; pool = U .pool; arena = U .arena; home = U .home; base = U .base; listed = U .listed; freed = U .freed; arenas = to i xs (U .arenas) }
+
+-- the homes are others altogether
+abbrev pub homesTo : (ℕ → ℕ) → View → View
+homesTo home U =
+    record { head = U .head; pool = U .pool; arena = U .arena; home = home; base = U .base; listed = U .listed; freed = U .freed; arenas = U .arenas }
 
 -- the freed pools of arena a are on no list any more
 abbrev pub freedNone : ℕ → View → View
-freedNone a U =
-    record { head = U .head; pool = U .pool; arena = U .arena; home = λ y. if eqb (U .home y) (arenaWord freedHead a) then 1 else U .home y; base = U .base; listed = U .listed; freed = to a [] (U .freed); arenas = U .arenas }
+freedNone a U = U ▷ homesTo (λ y. if eqb (U .home y) (arenaWord freedHead a) then 1 else U .home y) ▷ freedTo a []
 
 -- ---- where the lists' words lie
 class-apart : (A N len : ℕ) → len ≡ 72 + 8 * A + 8 * N → Apart (poolWord A 2) (poolWord A 3) (λ c. c < 64) classHead N len
@@ -185,14 +196,19 @@ module _ {A N : ℕ} {b : List ℕ} {U : View} (K : Books A N b U) (c p : ℕ) (
           pools = λ w n k u. others (poolWord A w n) (λ m. link-apart A w n m k) (omega arith) ∙ K .pools w n k u;
           arenas = λ w a k u. low w a (k .0) u ∙ K .arenas w a k u;
           listed = F;
-          freed = singly-stay (record { heads = λ a k. low 3 a (omega arith) k; links = λ a y k m e. strange y (λ q. off a k .0 (ap (U .home) (sym q) ∙ e)) (λ q. absurd (omega arith)) }) (aside p v (λ a k. off a k)) (K .freed);
-          lists = doubly-stay (record { heads = λ i k. others i (λ n. omega arith) (omega arith); links = λ i a k m e. (low 4 a (omega arith) m, low 5 a (omega arith) m) }) (alike (λ y m. refl)) (K .lists);
+          freed = singly-stay
+              (record { heads = λ a k. low 3 a (omega arith) k; links = λ a y k m e. strange y (λ q. off a k .0 (ap (U .home) (sym q) ∙ e)) (λ q. absurd (omega arith)) })
+              (aside p v (λ a k. off a k)) (K .freed);
+          lists = doubly-stay (record { heads = λ i k. others i (λ n. omega arith) (omega arith); links = λ i a k m e. arena-links a m }) (alike (λ y m. refl)) (K .lists);
           loose = λ y m e. loose′ y m e (ℕ-discrete y p);
-          spent = λ a m e. let t = K .spent a m e in (low 4 a (omega arith) m ∙ t .0, low 5 a (omega arith) m ∙ t .1);
+          spent = λ a m e. let t = K .spent a m e in (arena-links a m .0 ∙ t .0, arena-links a m .1 ∙ t .1);
         }
       where
         low : (w a : ℕ) → w < 8 → a < A → at b′ (arenaWord w a) ≡ at b (arenaWord w a)
         low w a u m = others (arenaWord w a) (λ n. omega arith) (omega arith)
+
+        arena-links : (a : ℕ) → a < A → LinksSame (arenaWord 4) (arenaWord 5) b b′ a
+        arena-links a m = (low 4 a (omega arith) m, low 5 a (omega arith) m)
 
         loose′ : (y : ℕ) → y < N → to p v (U .home) y ≡ 0 → Dec (y ≡ p) → (pool A b′ 2 y ≡ 0) × (pool A b′ 3 y ≡ 0)
         loose′ y m e (yes q) = rw q (own (sym (to-same p v (U .home) y q) ∙ e))
@@ -250,7 +266,7 @@ module _ {A N : ℕ} {b : List ℕ} {U : View} (K : Books A N b U) (a : ℕ) (la
       (homes : Alike (λ c. c < 64) classHead N (U .home) home′)
       (still : (y : ℕ) → y < N → home′ y ≡ 0 → U .home y ≡ 0) where
     freed-moved : FreedLists A N b′ home′ (to a xs (U .freed))
-        → Books A N b′ (record { head = U .head; pool = U .pool; arena = U .arena; home = home′; base = U .base; listed = U .listed; freed = to a xs (U .freed); arenas = U .arenas })
+        → Books A N b′ (U ▷ homesTo home′ ▷ freedTo a xs)
     freed-moved F =
         record {
           words = len ∙ K .words;
@@ -258,7 +274,9 @@ module _ {A N : ℕ} {b : List ℕ} {U : View} (K : Books A N b U) (a : ℕ) (la
           spare = λ i u u′. others i (omega arith) (λ n _. omega arith) ∙ K .spare i u u′;
           pools = λ w n k u. others (poolWord A w n) (omega arith) (λ m _. link-apart A w n m k) ∙ K .pools w n k u;
           arenas = λ w x k u. low w x (k .0) (k .1) u ∙ K .arenas w x k u;
-          listed = doubly-stay (record { heads = λ c k. others (classHead c) (omega arith) (λ n _. omega arith); links = λ c y k m e. strange y m (λ f. absurd (omega (arith, free y f .0))) }) homes (K .listed);
+          listed = doubly-stay
+              (record { heads = λ c k. others (classHead c) (omega arith) (λ n _. omega arith); links = λ c y k m e. strange y m (λ f. absurd (omega (arith, free y f .0))) })
+              homes (K .listed);
           freed = F;
           lists = doubly-stay (record { heads = λ i k. others i (omega arith) (λ n _. omega arith); links = λ i x k m e. arena-links x m }) (alike (λ y m. refl)) (K .lists);
           loose = λ y m e. let s = strange y m (λ f. free y f .1 e) in let t = K .loose y m (still y m e) in (s .0 ∙ t .0, s .1 ∙ t .1);
@@ -288,7 +306,8 @@ module _ {A N : ℕ} {b : List ℕ} {U : View} (K : Books A N b U) (a : ℕ) (la
         (λ y q. rw q (e, rw (to-same p (arenaWord 3 a) (U .home) p refl) (λ z. absurd (omega arith))))
         (aside p (arenaWord 3 a) (λ c k. omega arith))
         (λ y m z. home-still (arenaWord 3 a) y (omega arith) z (ℕ-discrete y p))
-        (comes (K .freed) (Singly (poolWord A 2) (poolWord A 3) b′) a p la l (λ j d. to-other a (p ∷ U .freed a) (U .freed) j d) new old (λ j k q. omega arith) (λ j k. omega arith) (to-same a (p ∷ U .freed a) (U .freed) a refl))
+        (comes (K .freed) (Singly (poolWord A 2) (poolWord A 3) b′) a p la l (λ j d. to-other a (p ∷ U .freed a) (U .freed) j d) new old
+        (λ j k q. omega arith) (λ j k. omega arith) (to-same a (p ∷ U .freed a) (U .freed) a refl))
       where
         b′ : List ℕ
         b′ = b ▷ put (poolWord A 2 p) (at b (arenaWord 3 a)) ▷ put (poolWord A 3 p) 0 ▷ put (arenaWord 3 a) (linkTo p)
@@ -356,7 +375,8 @@ module _ {A N : ℕ} {b : List ℕ} {U : View} (K : Books A N b U) (a : ℕ) (la
       (λ y q. absurd q)
       (aside p 1 (λ c k. omega (arith, home-p)))
       (λ y m z. home-still p l 1 y (omega arith) z (ℕ-discrete y p))
-      (goes (K .freed) (Singly (poolWord A 2) (poolWord A 3) b′) a p la l (λ j d. to-other a ps (U .freed) j d) new (freed-others (pool A b 2 p)) 1 (K .freed .row a la .once) home-p (λ j k. omega arith) (λ j k q. omega arith)
+      (goes (K .freed) (Singly (poolWord A 2) (poolWord A 3) b′) a p la l (λ j d. to-other a ps (U .freed) j d) new (freed-others (pool A b 2 p))
+      1 (K .freed .row a la .once) home-p (λ j k. omega arith) (λ j k q. omega arith)
       (to-same a ps (U .freed) a refl ∙ sym (erase-front p ps (rw r at (K .freed .row a la .once))) ∙ ap (erase p) (sym r)))
     where
       b′ : List ℕ
@@ -377,7 +397,10 @@ module _ {A N : ℕ} {b : List ℕ} {U : View} (K : Books A N b U) (a : ℕ) (la
       (λ i d f. head-other 0 i d)
       (λ y m d. links-stand 0 y)
       (λ y q. absurd q)
-      (record { keep = λ c y k m e. kept y (λ q. absurd (omega arith)) ∙ e; back = λ c y k m e. back′ y (classHead c) (λ q. absurd (omega arith)) e (ℕ-discrete (U .home y) (arenaWord 3 a)) .0 })
+      (record {
+        keep = λ c y k m e. kept y (λ q. absurd (omega arith)) ∙ e;
+        back = λ c y k m e. back′ y (classHead c) (λ q. absurd (omega arith)) e (ℕ-discrete (U .home y) (arenaWord 3 a)) .0;
+      })
       (λ y m z. back′ y 0 (λ q. absurd (omega arith)) z (ℕ-discrete (U .home y) (arenaWord 3 a)) .0)
       (record {
         row = λ j k. row′ j k (ℕ-discrete j a);
@@ -404,7 +427,8 @@ module _ {A N : ℕ} {b : List ℕ} {U : View} (K : Books A N b U) (a : ℕ) (la
       members′ j k (yes q) = rw (q, to-same a [] (U .freed) a refl) tt
       members′ j k (no q) =
           rw (to-other a [] (U .freed) j q)
-          (all-map {R = At N home′ (arenaWord 3 j)} (λ y (t : At N (U .home) (arenaWord 3 j) y). record { low = t .low; is = kept y (λ e. q (omega (arith, t .is))) ∙ t .is }) (U .freed j) (K .freed .members j k))
+          (all-map {R = At N home′ (arenaWord 3 j)}
+          (λ y (t : At N (U .home) (arenaWord 3 j) y). record { low = t .low; is = kept y (λ e. q (omega (arith, t .is))) ∙ t .is }) (U .freed j) (K .freed .members j k))
 
       all′ : (j : ℕ) → j < A → (y : ℕ) → y < N → home′ y ≡ arenaWord 3 j → Dec (j ≡ a) → In y (to a [] (U .freed) j)
       all′ j k y m e (yes q) = let t = back′ y (arenaWord 3 j) (omega arith) e (ℕ-discrete (U .home y) (arenaWord 3 a)) in absurd (t .1 (t .0 ∙ ap (arenaWord 3) q))
@@ -425,7 +449,8 @@ module _ {A N : ℕ} {b : List ℕ} {U : View} (K : Books A N b U) (h a : ℕ) (
           first = λ i u. others i (λ x. omega arith) (omega arith) ∙ K .first i u;
           spare = λ i u u′. others i (λ x. omega arith) (omega arith) ∙ K .spare i u u′;
           pools = λ w n k u. pools w n (k .0) ∙ K .pools w n k u;
-          arenas = λ w x k u. others (arenaWord w x) (λ y. (arena-apart w x 4 y (k .0) (omega arith) (k .2), arena-apart w x 5 y (k .0) (omega arith) (k .3))) (omega arith) ∙ K .arenas w x k u;
+          arenas = λ w x k u.
+              others (arenaWord w x) (λ y. (arena-apart w x 4 y (k .0) (omega arith) (k .2), arena-apart w x 5 y (k .0) (omega arith) (k .3))) (omega arith) ∙ K .arenas w x k u;
           listed = doubly-stay (record { heads = λ c k. others (classHead c) (λ x. omega arith) (omega arith); links = λ c y k m e. links y }) (alike (λ y m. refl)) (K .listed);
           freed = singly-stay (record { heads = λ x k. others (arenaWord 3 x) (λ y. omega arith) (omega arith); links = λ x y k m e. links y }) (alike (λ y m. refl)) (K .freed);
           lists = F;

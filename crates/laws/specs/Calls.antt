@@ -1,6 +1,6 @@
 -- The calls of 01 over a sound heap: the tests of 1 and 2 pass, and ask and give back do the plain heap's step.
 -- Assumes nothing.
-use mathlib.Core.Path.{_≡_, refl, sym, _∙_}
+use mathlib.Core.Path.{_≡_, refl}
 use mathlib.Core.Logic.{_⊎_, inl, inr}
 use mathlib.Core.Bool.{Bool, true, false, _&&_}
 use mathlib.Core.List.{List, [], _∷_}
@@ -12,6 +12,7 @@ use lib.ListN.{length}
 use borrow.Author.Tests.{eq-eqb, ne-eqb, le-leb, le-ltb, leb-true}
 use Rattle.rules.specs.declared.AskPlan.{AskPlan}
 use Rattle.rules.specs.declared.AskPlan.the-variants.{NoRoom}
+use Rattle.rules.specs.declared.BackPlan.{BackPlan}
 use Rattle.rules.specs.declared.BackPlan.the-variants.{Joins, Stays, Empties, Returns, Releases}
 use Rattle.rules.specs.Say.{if_then_else_}
 use Rattle.rules.specs.Books.{Heap}
@@ -29,7 +30,7 @@ use Rattle.laws.specs.Sound.{Sound}
 use Rattle.laws.specs.Paths.{Asked, Backed}
 use Rattle.laws.specs.Emptied.{back-any}
 use Rattle.laws.specs.Sources.{ask-any}
-use Rattle.laws.specs.Holding.{LiveAt, live-rows, pool-is, start-at, class-is, holding, holding-new, holding-others, holding-gone, holding-kept, Leaves}
+use Rattle.laws.specs.Holding.{LiveAt, liveSize, live-rows, pool-is, start-at, class-is, holding, holding-new, holding-others, holding-gone, holding-kept, Leaves}
 
 -- rule 1: no 1 or 2
 pub shape-zero : {al A P : ℕ} {h : Heap} {r : Plain} → Sound al A P h r → shapeNumber h ≡ 0
@@ -123,15 +124,15 @@ size-number n = go (leb 1 n) (leb n 512) refl refl
 
 -- ---- give back
 -- every path of the plain heap is done, turns the block off and leaves the classes
-pub plain-back : (P : ℕ) (r : Plain) (p j o : ℕ)
+plain-back : (P : ℕ) (r : Plain) (p j o : ℕ)
     → (backAnswer o (plainBack P r p j) ≡ answerOf 0 o) × (backPlain P r p j .live ≡ to p (to j false (r .live p)) (r .live)) × (backPlain P r p j .class ≡ r .class)
 unfolding backAnswer
 plain-back P r p j o = go (none (r .chain p)) (eqb (count r p) 1) (eqb (free P r (p / P) + 1) P) (eqb (free P r (p / P)) 0)
   where
-    go : (t u v w : Bool)
-        → (backAnswer o (if t then Joins else (if u then (if v then Releases else (if w then Returns else Empties)) else Stays)) ≡ answerOf 0 o)
-        × (plainAfterBack P r p j (if t then Joins else (if u then (if v then Releases else (if w then Returns else Empties)) else Stays)) .live ≡ to p (to j false (r .live p)) (r .live))
-        × (plainAfterBack P r p j (if t then Joins else (if u then (if v then Releases else (if w then Returns else Empties)) else Stays)) .class ≡ r .class)
+    Q : BackPlan → Type 0
+    Q q = (backAnswer o q ≡ answerOf 0 o) × (plainAfterBack P r p j q .live ≡ to p (to j false (r .live p)) (r .live)) × (plainAfterBack P r p j q .class ≡ r .class)
+
+    go : (t u v w : Bool) → Q (if t then Joins else (if u then (if v then Releases else (if w then Returns else Empties)) else Stays))
     go true u v w = (refl, refl, refl)
     go false false v w = (refl, refl, refl)
     go false true true w = (refl, refl, refl)
@@ -150,8 +151,11 @@ module _ {al A P : ℕ} {h : Heap} {r : Plain} (L : Aligned al) (S : Sound al A 
     pub back-done : Backed al A P h r (block-of .pool) (block-of .block)
     back-done = back-any L S (block-of .pool) (block-of .block) (block-of .inside) (block-of .on)
 
-    pub back-is : giveBack al h o ≡ outcome (answerOf 0 o)
-        (afterBack al A P (r .class (block-of .pool)) (block-of .pool) (startOf (sizeOf al (r .class (block-of .pool))) (block-of .block)) (plainBack P r (block-of .pool) (block-of .block)) h)
+    -- what it leaves
+    abbrev backHeap : Heap
+    backHeap = afterBack al A P (r .class (block-of .pool)) (block-of .pool) (startOf (liveSize block-of) (block-of .block)) (plainBack P r (block-of .pool) (block-of .block)) h
+
+    pub back-is : giveBack al h o ≡ outcome (answerOf 0 o) backHeap
     unfolding giveBack backStep liveNumber
     back-is =
         rw (
@@ -170,15 +174,10 @@ module _ {al A P : ℕ} {h : Heap} {r : Plain} (L : Aligned al) (S : Sound al A 
     pub back-leaves : Leaves al A P h (giveBack al h o .heap) (backPlain P r (block-of .pool) (block-of .block)) (to o [] (holding al A P h))
     back-leaves = rw back-is (record { sound = back-done .sound; holds = λ x. go x (ℕ-discrete x o); first = back-done .quiet .first-bytes })
       where
-        t : LiveAt al A P r o
-        t = block-of
-
-        h′ : Heap
-        h′ = afterBack al A P (r .class (block-of .pool)) (block-of .pool) (startOf (sizeOf al (r .class (block-of .pool))) (block-of .block)) (plainBack P r (block-of .pool) (block-of .block)) h
-
-        z : (backAnswer o (plainBack P r (block-of .pool) (block-of .block)) ≡ answerOf 0 o) × (backPlain P r (block-of .pool) (block-of .block) .live ≡ to (block-of .pool) (to (block-of .block) false (r .live (block-of .pool))) (r .live)) × (backPlain P r (block-of .pool) (block-of .block) .class ≡ r .class)
-        z = plain-back P r (block-of .pool) (block-of .block) o
-
-        go : (x : ℕ) → Dec (x ≡ o) → holding al A P h′ x ≡ to o [] (holding al A P h) x
-        go x (yes q) = rw (eq-eqb x o q, q ∙ t .place) (holding-gone L S (back-done .sound) (back-done .quiet) (t .pool) (t .block) (t .inside) (t .class) (t .fits) (z .2) (z .1))
-        go x (no q) = rw (ne-eqb x o q) (holding-kept L S (back-done .sound) (back-done .quiet) (t .pool) (t .block) (t .inside) (t .class) (t .fits) (z .2) (z .1) x (λ k. q (k ∙ sym (t .place))))
+        go : (x : ℕ) → Dec (x ≡ o) → holding al A P backHeap x ≡ to o [] (holding al A P h) x
+        go x (yes q) =
+            let z = plain-back P r (block-of .pool) (block-of .block) o in
+            rw (eq-eqb x o q, q) (holding-gone L S (back-done .sound) (back-done .quiet) o block-of (z .2) (z .1))
+        go x (no q) =
+            let z = plain-back P r (block-of .pool) (block-of .block) o in
+            rw (ne-eqb x o q) (holding-kept L S (back-done .sound) (back-done .quiet) o block-of (z .2) (z .1) x q)

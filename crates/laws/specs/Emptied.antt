@@ -2,23 +2,23 @@
 -- Assumes nothing.
 use mathlib.Core.Path.{_≡_, refl, sym, ap, _∙_, subst}
 use mathlib.Core.Logic.{_≢_, inr}
-use mathlib.Core.Bool.{Bool, true, false, not, _&&_, true≢false}
+use mathlib.Core.Bool.{Bool, true, false, not, true≢false}
 use mathlib.Core.List.{List, [], _∷_}
 use Prim.Native.Nat.{ℕ, suc, _+_, _*_, _-_, _/_, _%_, _≤_, _<_}
 use native.Mathlib.Nat.{div-add-mod', mod-lt}
 use native.Mathlib.Decide.{ℕ-discrete, decLe}
 use native.Mathlib.Omega.{arith}
-use lib.Dec.{leb, eqb}
+use lib.Dec.{eqb}
 use lib.ListN.{replicate}
 use lib.Seq.{sets, set-getD}
 use borrow.Author.Tests.{eq-eqb, ne-eqb, le-leb, lt-ltb, le-ltb, ltb-true, ltb-false, not-true}
 use Rattle.rules.specs.declared.BackPlan.{BackPlan}
-use Rattle.rules.specs.declared.BackPlan.the-variants.{Damaged, Empties, Returns, Releases}
+use Rattle.rules.specs.declared.BackPlan.the-variants.{Empties, Returns, Releases}
 use Rattle.rules.specs.Say.{if_then_else_, _▷_}
 use Rattle.rules.specs.Books.{Heap, at, put, putMapBit, usableHead, unusedHead, classHead, freedHead, arenaWord, arena, freeblock, poolWord, pool}
 use Rattle.rules.specs.Blocks.{sizeOf, startOf, blockNo}
-use Rattle.rules.specs.Lists.{nextAt, previousAt, leave, join, arenaLinks, poolLinks}
-use Rattle.rules.specs.GiveBack.{planBack, emptying, afterBack}
+use Rattle.rules.specs.Lists.{nextAt, previousAt, leave, join, mayLeave, mayJoin, arenaLinks, poolLinks}
+use Rattle.rules.specs.GiveBack.{_⇛_, planBack, emptying, afterBack}
 use Rattle.books.specs.Starts.{start-is, number-is}
 use Rattle.books.specs.Known.{in-range}
 use Rattle.laws.specs.Update.{to, to-same, to-other, to-cong}
@@ -91,7 +91,8 @@ module _ {al A P p j i : ℕ} {h : Heap} {r : Plain} {is : List ℕ} (G : Given 
   all-dead x = go (decLe 512 x)
     where
       go : Dec (512 ≤ x) → gone .live p x ≡ false
-      go (yes q) = rw (eq-eqb p p refl) (to-other j false (r .live p) x (omega (arith, j-small G)) ∙ I G .blocks .rest x (omega (arith, I G .blocks .fits, capacity-high L c (I G .class-low))))
+      go (yes q) =
+          rw (eq-eqb p p refl) (to-other j false (r .live p) x (omega (arith, j-small G)) ∙ I G .blocks .rest x (omega (arith, I G .blocks .fits, capacity-high L c (I G .class-low))))
       go (no q) = none-many (gone .live p) 512 now-none x (omega arith)
 
   one-more : free P gone a ≡ suc (free P r a)
@@ -108,8 +109,9 @@ module _ {al A P p j i : ℕ} {h : Heap} {r : Plain} {is : List ℕ} (G : Given 
 
   -- ---- the tests of the path that empties a pool
   emptying-is : (q : BackPlan)
-      → (if eqb (free P r a + 1) P then (if leb (at b (nextAt arenaLinks a)) A && leb (at b (previousAt arenaLinks a)) A then (if leb (at b unusedHead) A then Releases else Damaged) else Damaged)
-      else if eqb (free P r a + 1) 1 then (if leb (at b usableHead) A then Returns else Damaged) else Empties) ≡ q
+      → (if eqb (free P r a + 1) P then mayLeave A arenaLinks a b ⇛ mayJoin A unusedHead b ⇛ Releases
+      else if eqb (free P r a + 1) 1 then mayJoin A usableHead b ⇛ Returns
+      else Empties) ≡ q
       → planBack al A P b c p ≡ q
   unfolding emptying
   emptying-is q e =
@@ -281,7 +283,8 @@ module _ {al A P p j i : ℕ} {h : Heap} {r : Plain} {is : List ℕ} (G : Given 
       own-links = K₇ .spent a la (to-same a 0 (U .base) a refl)
 
       last-words : (w : ℕ) → 6 ≤ w → w < 8 → at b₇ (arenaWord w a) ≡ 0
-      last-words w u v = K₇ .arenas w a (omega arith) la ∙ rw (eq-eqb a a refl, ne-eqb w 0 (omega arith), ne-eqb w 1 (omega arith), ne-eqb w 2 (omega arith)) (F .arena-zeros w a u v la)
+      last-words w u v =
+          K₇ .arenas w a (omega arith) la ∙ rw (eq-eqb a a refl, ne-eqb w 0 (omega arith), ne-eqb w 1 (omega arith), ne-eqb w 2 (omega arith)) (F .arena-zeros w a u v la)
 
       zeroed : sets (leave arenaLinks usableHead a b₅) (arenaWord 0 a) (replicate 8 0) ≡ b₇
       zeroed =

@@ -10,12 +10,12 @@ use lib.Dec.{eqb}
 use lib.ListN.{length}
 use borrow.Author.Tests.{eq-eqb, ne-eqb, le-leb}
 use Rattle.rules.specs.declared.BackPlan.{BackPlan}
-use Rattle.rules.specs.declared.BackPlan.the-variants.{Damaged, Joins, Stays}
+use Rattle.rules.specs.declared.BackPlan.the-variants.{Joins, Stays}
 use Rattle.rules.specs.Say.{if_then_else_, _▷_}
 use Rattle.rules.specs.Books.{Heap, at, put, putMapBit, classHead, freeblock, poolWord, pool, offsetOf}
 use Rattle.rules.specs.Blocks.{sizeOf, startOf, isStart, blockNo, capacity, putLink}
 use Rattle.rules.specs.Lists.{mayJoin}
-use Rattle.rules.specs.GiveBack.{planBack, emptying, afterBack}
+use Rattle.rules.specs.GiveBack.{_⇛_, planBack, emptying, afterBack}
 use Rattle.books.specs.Starts.{start-is, number-is}
 use Rattle.laws.specs.Update.{to, to-cong}
 use Rattle.laws.specs.Families.{head-link}
@@ -85,7 +85,7 @@ module _ {al A P p j : ℕ} {h : Heap} {r : Plain} (G : Given al A P h r p j) wh
 
   -- the tests of freeblock and count
   pub tested : (q : BackPlan) (v : ℕ) → pool A b 1 p ≡ v → (eqb v 0 || isStart s v) ≡ true
-      → (if eqb v 0 then (if mayJoin (A * P) (classHead c) b then Joins else Damaged) else if eqb (pool A b 0 p) 1 then emptying al A P b c p else Stays) ≡ q
+      → (if eqb v 0 then mayJoin (A * P) (classHead c) b ⇛ Joins else if eqb (pool A b 0 p) 1 then emptying al A P b c p else Stays) ≡ q
       → planBack al A P b c p ≡ q
   unfolding planBack
   tested q v e t g =

@@ -16,8 +16,8 @@ use Rattle.rules.specs.Books.{Heap, at, inRange, exact, memoryLength, booksLeng
 use Rattle.rules.specs.Blocks.{sizeOf, lastClass, capacity}
 use Rattle.books.specs.Known.{Shaped, shaped, in-range}
 use Rattle.laws.specs.Update.{is-false}
-use Rattle.laws.specs.Rows.{All}
-use Rattle.laws.specs.Families.{At, Family, alike, doubly-stay, singly-stay}
+use Rattle.laws.specs.Rows.{All, all-map}
+use Rattle.laws.specs.Families.{At, Family}
 use Rattle.laws.specs.Books.{View, Books, ArenaHead}
 use Rattle.laws.specs.Plain.{Plain, count, inUse, carved, free}
 use Rattle.laws.specs.Counting.{many-has}
@@ -287,7 +287,11 @@ module _ {al A P : ℕ} {h : Heap} {U : View} {r : Plain} (L : Aligned al) (K : 
         arenas-are = K .first 0 (omega arith) ∙ F .arenas-are;
         pools-are = K .first 1 (omega arith) ∙ F .pools-are;
         range = F .range;
-        lengths = rw (eq-eqb (length (h .memory)) (memoryLength A P) (F .bytes), eq-eqb (length (h .books)) (booksLength A P) (K .words ∙ omega arith), eq-eqb (length (h .map)) (mapLength A P) (F .maps));
+        lengths = rw (
+          eq-eqb (length (h .memory)) (memoryLength A P) (F .bytes),
+          eq-eqb (length (h .books)) (booksLength A P) (K .words ∙ omega arith),
+          eq-eqb (length (h .map)) (mapLength A P) (F .maps),
+        );
       }
 
   pools-low : 2 ≤ P
@@ -339,20 +343,22 @@ module _ {al A P : ℕ} {h : Heap} {U : View} {r : Plain} (L : Aligned al) (K : 
   lists : Lists al A P (h .books) r
   lists =
       record {
-        listed = renamed (F .lists .listed) (doubly-stay (record { heads = λ i k. refl; links = λ i y k l e. (refl, refl) }) (alike (λ y l. sym (F .pools y l .home-is))) (K .listed));
-        freed = renamed (F .lists .freed) (singly-stay (record { heads = λ i k. refl; links = λ i y k l e. (refl, refl) }) (alike (λ y l. sym (F .pools y l .home-is))) (K .freed));
-        arenas = renamed (λ i k. by-head i k (ℕ-discrete i 2)) (doubly-stay (record { heads = λ i k. refl; links = λ i y k l e. (refl, refl) }) (alike (λ y l. sym (F .arenas y l .base-is))) (K .lists));
+        listed = renamed (F .lists .listed) (λ y l. F .pools y l .home-is) (K .listed);
+        freed = renamed (F .lists .freed) (λ y l. F .pools y l .home-is) (K .freed);
+        arenas = renamed (λ i k. by-head i k (ℕ-discrete i 2)) (λ a l. F .arenas a l .base-is) (K .lists);
         full = λ n l e. K .loose n l (F .pools n l .home-is ∙ e);
         spent = λ a l e. K .spent a l (F .arenas a l .base-is ∙ e);
       }
     where
-      renamed : {Meets : ℕ → List ℕ → Type 0} {H : ℕ → Type 0} {place : ℕ → ℕ} {N : ℕ} {at-home : ℕ → ℕ} {rows rows′ : ℕ → List ℕ}
-          → ((i : ℕ) → H i → rows i ≡ rows′ i) → Family Meets H place N at-home rows → Family Meets H place N at-home rows′
-      renamed e G =
+      -- the same lists and homes, by other names
+      renamed : {Meets : ℕ → List ℕ → Type 0} {H : ℕ → Type 0} {place : ℕ → ℕ} {N : ℕ} {at-home at-home′ : ℕ → ℕ} {rows rows′ : ℕ → List ℕ}
+          → ((i : ℕ) → H i → rows i ≡ rows′ i) → ((y : ℕ) → y < N → at-home y ≡ at-home′ y) → Family Meets H place N at-home rows → Family Meets H place N at-home′ rows′
+      renamed {place = place} {N = N} {at-home = at-home} {at-home′ = at-home′} {rows = rows} e f G =
           record {
             row = λ i k. rw (← e i k) (G .row i k);
-            members = λ i k. rw (← e i k) (G .members i k);
-            all = λ i k y l f. rw (← e i k) (G .all i k y l f);
+            members = λ i k. rw (← e i k)
+                (all-map {R = At N at-home′ (place i)} (λ y (t : At N at-home (place i) y). record { low = t .low; is = sym (f y (t .low)) ∙ t .is }) (rows i) (G .members i k));
+            all = λ i k y l g. rw (← e i k) (G .all i k y l (f y l ∙ g));
           }
 
       by-head : (i : ℕ) → ArenaHead i → Dec (i ≡ 2) → U .arenas i ≡ arenaRows r i

@@ -133,166 +133,154 @@ module _ {al A P : ℕ} {h : Heap} {r : Plain} (L : Aligned al) (S : Sound al A 
     pub holding-more : 8 ≤ length (holding al A P h o)
     holding-more = omega (arith, holding-long, low)
 
--- ---- where live blocks and their bytes stand, so does what is held
-module _ {al A P : ℕ} {h h′ : Heap} {r r′ : Plain} (L : Aligned al) (S : Sound al A P h r) (S′ : Sound al A P h′ r′) (Q : Quiet al A P (h .memory) (h′ .memory) r′) where
-  -- an offset that is live before and after, in a pool of the same class
-  pub holding-same : (o : ℕ) → (LiveAt al A P r o → LiveAt al A P r′ o) → ((t : LiveAt al A P r′ o) → LiveAt al A P r o × (r .class (t .pool) ≡ r′ .class (t .pool)))
-      → holding al A P h′ o ≡ holding al A P h o
-  holding-same o f g = go (live al A P (h′ .books) (h′ .map) o) refl
-    where
-      go : (t : Bool) → live al A P (h′ .books) (h′ .map) o ≡ t → holding al A P h′ o ≡ holding al A P h o
-      go false e =
-          dead-holding al A P h′ o e
-          ∙ sym (dead-holding al A P h o (is-false (live al A P (h .books) (h .map) o) (λ u. true≢false (sym (rows-live L S′ o (f (live-rows L S o u))) ∙ e))))
-      go true e =
-          let t = live-rows L S′ o e in
-          let u = g t .0 in
-          let q : u .pool ≡ t .pool = sym (pool-is L S o u) ∙ pool-is L S′ o t in
-          let c : r .class (u .pool) ≡ r′ .class (t .pool) = ap (r .class) q ∙ g t .1 in
-          holding-live L S′ o t
-          ∙ part-same (h .memory) (h′ .memory) o (liveSize t) (Q .same-length)
-          (omega (arith, in-memory L S′ o t, Q .same-length))
-          (λ d v. subst (λ (x : ℕ). at (h′ .memory) (x + d) ≡ at (h .memory) (x + d)) (sym (t .place)) (Q .live-bytes (t .pool) (t .block) d (t .inside) (t .on) v))
-          ∙ sym (holding-live L S o u ∙ ap (λ (x : ℕ). part o (sizeOf al x) (h .memory)) c)
+-- ---- two sound heaps
+module _ {al A P : ℕ} {h h′ : Heap} {r r′ : Plain} (L : Aligned al) (S : Sound al A P h r) (S′ : Sound al A P h′ r′) where
+  -- the live blocks at one offset lie in one pool, and are one block of it if they are of one size
+  pub one-pool : (o : ℕ) (t : LiveAt al A P r o) (u : LiveAt al A P r′ o) → u .pool ≡ t .pool
+  one-pool o t u = sym (pool-is L S′ o u) ∙ pool-is L S o t
 
-  -- ---- an ask that hands out the block at o
-  module _ {c o : ℕ} (lc : c ≤ lastClass al) (H : Hand al A P r r′ c o) where
-    live-at : (y j : ℕ) → r′ .live y j ≡ to (H .pool) (to (H .block) true (r .live (H .pool))) (r .live) y j
-    live-at y j = ap (λ (g : ℕ → ℕ → Bool). g y j) (H .live-now)
+  pub one-block : (o : ℕ) (t : LiveAt al A P r o) (u : LiveAt al A P r′ o) → liveSize u ≡ liveSize t → u .block ≡ t .block
+  one-block o t u e = sym (number-at L S′ o u) ∙ ap (λ (s : ℕ). blockNo s (o % 4096)) e ∙ number-at L S o t
 
-    pub at-block : LiveAt al A P r′ o
-    at-block =
-        record {
-          pool = H .pool;
-          block = H .block;
-          place = rw (H .class-now) (H .place);
-          inside = H .inside;
-          class = rw (H .class-now) lc;
-          fits = rw (H .class-now) (H .fits);
-          on = live-at (H .pool) (H .block) ∙ rw (eq-eqb (H .pool) (H .pool) refl, eq-eqb (H .block) (H .block) refl);
-        }
-
-    pub at-class : r′ .class (at-block .pool) ≡ c
-    unfolding at-block
-    at-class = H .class-now
-
-    pub holding-new : holding al A P h′ o ≡ part o (sizeOf al c) (h′ .memory)
-    holding-new = holding-live L S′ o at-block ∙ ap (λ (x : ℕ). part o (sizeOf al x) (h′ .memory)) at-class
-
-    was-free : LiveAt al A P r o → ⊥
-    was-free t = go (H .kind)
+  -- ---- a step that touches no byte of a block that is live after it
+  module _ (Q : Quiet al A P (h .memory) (h′ .memory) r′) where
+    -- an offset that is live before and after, in a pool of the same class, holds the same
+    holding-same : (o : ℕ) → (LiveAt al A P r o → LiveAt al A P r′ o) → ((t : LiveAt al A P r′ o) → LiveAt al A P r o × (r .class (t .pool) ≡ r′ .class (t .pool)))
+        → holding al A P h′ o ≡ holding al A P h o
+    holding-same o f g = go (live al A P (h′ .books) (h′ .map) o) refl
       where
-        ends : startOf (sizeOf al c) (H .block) + sizeOf al c ≤ 4096
-        ends = block-ends (sizeOf al c) (H .block) (suc (H .block)) (omega arith) (H .fits)
+        go : (t : Bool) → live al A P (h′ .books) (h′ .map) o ≡ t → holding al A P h′ o ≡ holding al A P h o
+        go false e =
+            dead-holding al A P h′ o e
+            ∙ sym (dead-holding al A P h o (is-false (live al A P (h .books) (h .map) o) (λ u. true≢false (sym (rows-live L S′ o (f (live-rows L S o u))) ∙ e))))
+        go true e =
+            let t = live-rows L S′ o e in
+            let u = g t .0 in
+            let c : r .class (u .pool) ≡ r′ .class (t .pool) = ap (r .class) (sym (one-pool o u t)) ∙ g t .1 in
+            holding-live L S′ o t
+            ∙ part-same (h .memory) (h′ .memory) o (liveSize t) (Q .same-length) (omega (arith, in-memory L S′ o t, Q .same-length))
+            (λ d v. subst (λ (x : ℕ). at (h′ .memory) (x + d) ≡ at (h .memory) (x + d)) (sym (t .place)) (Q .live-bytes (t .pool) (t .block) d (t .inside) (t .on) v))
+            ∙ sym (holding-live L S o u ∙ ap (λ (x : ℕ). part o (sizeOf al x) (h .memory)) c)
 
-        q : t .pool ≡ H .pool
-        q = sym (pool-is L S o t) ∙ omega (arith, H .place, ends, size-low L c lc)
+    -- ---- an ask that hands out the block at o
+    module _ {c o : ℕ} (lc : c ≤ lastClass al) (H : Hand al A P r r′ c o) where
+      live-at : (y j : ℕ) → r′ .live y j ≡ to (H .pool) (to (H .block) true (r .live (H .pool))) (r .live) y j
+      live-at y j = ap (λ (g : ℕ → ℕ → Bool). g y j) (H .live-now)
 
-        go : (r .class (H .pool) ≡ c) ⊎ ((j : ℕ) → r .live (H .pool) j ≡ false) → ⊥
-        go (inr f) = true≢false (sym (t .on) ∙ ap (λ (x : ℕ). r .live x (t .block)) q ∙ f (t .block))
-        go (inl e) =
-            let c′ : r .class (t .pool) ≡ c = ap (r .class) q ∙ e in
-            let k : t .block ≡ H .block =
-            sym (number-at L S o t)
-            ∙ ap₂ (λ (x y : ℕ). blockNo (sizeOf al x) y) c′ (omega (arith, H .place, ends, size-low L c lc))
-            ∙ number-is (sizeOf al c) (H .block) (omega (arith, size-low L c lc)) in
-            true≢false (sym (t .on) ∙ ap₂ (r .live) q k ∙ H .was-dead)
+      pub at-block : LiveAt al A P r′ o
+      at-block =
+          record {
+            pool = H .pool;
+            block = H .block;
+            place = rw (H .class-now) (H .place);
+            inside = H .inside;
+            class = rw (H .class-now) lc;
+            fits = rw (H .class-now) (H .fits);
+            on = live-at (H .pool) (H .block) ∙ rw (eq-eqb (H .pool) (H .pool) refl, eq-eqb (H .block) (H .block) refl);
+          }
 
-    -- nothing was held there
-    pub holding-none : holding al A P h o ≡ []
-    holding-none = dead-holding al A P h o (is-false (live al A P (h .books) (h .map) o) (λ u. was-free (live-rows L S o u)))
+      pub at-class : r′ .class (at-block .pool) ≡ c
+      unfolding at-block
+      at-class = H .class-now
 
-    pub holding-others : (x : ℕ) → x ≢ o → holding al A P h′ x ≡ holding al A P h x
-    holding-others x d = holding-same x stays back
-      where
-        stays : LiveAt al A P r x → LiveAt al A P r′ x
-        stays t = go (ℕ-discrete (t .pool) (H .pool))
-          where
-            go : Dec (t .pool ≡ H .pool) → LiveAt al A P r′ x
-            go (no q) = live-still t (H .classes (t .pool) q) (live-at (t .pool) (t .block) ∙ rw (ne-eqb (t .pool) (H .pool) q) (t .on))
-            go (yes q) = pick (H .kind)
-              where
-                pick : (r .class (H .pool) ≡ c) ⊎ ((j : ℕ) → r .live (H .pool) j ≡ false) → LiveAt al A P r′ x
-                pick (inr f) = absurd (true≢false (sym (t .on) ∙ ap (λ (y : ℕ). r .live y (t .block)) q ∙ f (t .block)))
-                pick (inl e) = live-still t (rw q (H .class-now ∙ sym e)) (live-at (t .pool) (t .block) ∙ rw (eq-eqb (t .pool) (H .pool) q) (on′ (ℕ-discrete (t .block) (H .block))))
-                  where
-                    on′ : Dec (t .block ≡ H .block) → to (H .block) true (r .live (H .pool)) (t .block) ≡ true
-                    on′ (yes u) = rw (eq-eqb (t .block) (H .block) u)
-                    on′ (no u) = rw (ne-eqb (t .block) (H .block) u, ← q) (t .on)
+      pub holding-new : holding al A P h′ o ≡ part o (sizeOf al c) (h′ .memory)
+      holding-new = holding-live L S′ o at-block ∙ ap (λ (x : ℕ). part o (sizeOf al x) (h′ .memory)) at-class
 
-        back : (t : LiveAt al A P r′ x) → LiveAt al A P r x × (r .class (t .pool) ≡ r′ .class (t .pool))
-        back t = go (ℕ-discrete (t .pool) (H .pool))
-          where
-            same : r .class (t .pool) ≡ r′ .class (t .pool) → r .live (t .pool) (t .block) ≡ true → LiveAt al A P r x × (r .class (t .pool) ≡ r′ .class (t .pool))
-            same e f = (live-still t e f, e)
+      -- the block was not live: a live block there would have been of the pool, and so of its class and the same block
+      was-free : LiveAt al A P r o → ⊥
+      unfolding at-block
+      was-free t = go (H .kind)
+        where
+          q : t .pool ≡ H .pool
+          q = sym (one-pool o t at-block)
 
-            go : Dec (t .pool ≡ H .pool) → LiveAt al A P r x × (r .class (t .pool) ≡ r′ .class (t .pool))
-            go (no q) = same (sym (H .classes (t .pool) q)) (sym (rw (ne-eqb (t .pool) (H .pool) q) at (live-at (t .pool) (t .block))) ∙ t .on)
-            go (yes q) = other (ℕ-discrete (t .block) (H .block))
-              where
-                now : r′ .class (t .pool) ≡ c
-                now = ap (r′ .class) q ∙ H .class-now
+          go : (r .class (H .pool) ≡ c) ⊎ ((j : ℕ) → r .live (H .pool) j ≡ false) → ⊥
+          go (inr f) = true≢false (sym (t .on) ∙ ap (λ (x : ℕ). r .live x (t .block)) q ∙ f (t .block))
+          go (inl e) = true≢false (sym (t .on) ∙ ap₂ (r .live) q (sym (one-block o t at-block (ap (sizeOf al) (H .class-now ∙ sym (ap (r .class) q ∙ e))))) ∙ H .was-dead)
 
-                other : Dec (t .block ≡ H .block) → LiveAt al A P r x × (r .class (t .pool) ≡ r′ .class (t .pool))
-                other (yes u) = absurd (d (t .place ∙ ap₂ (λ (y z : ℕ). offsetOf y (startOf (sizeOf al (r′ .class (t .pool))) z)) q u ∙ ap (λ (y : ℕ). offsetOf (H .pool) (startOf (sizeOf al y) (H .block))) now ∙ sym (H .place)))
-                other (no u) = pick (H .kind)
-                  where
-                    on : r .live (H .pool) (t .block) ≡ true
-                    on = sym (rw (eq-eqb (t .pool) (H .pool) q, ne-eqb (t .block) (H .block) u) at (live-at (t .pool) (t .block))) ∙ t .on
+      -- nothing was held there
+      pub holding-none : holding al A P h o ≡ []
+      holding-none = dead-holding al A P h o (is-false (live al A P (h .books) (h .map) o) (λ u. was-free (live-rows L S o u)))
 
-                    pick : (r .class (H .pool) ≡ c) ⊎ ((j : ℕ) → r .live (H .pool) j ≡ false) → LiveAt al A P r x × (r .class (t .pool) ≡ r′ .class (t .pool))
-                    pick (inr f) = absurd (true≢false (sym on ∙ f (t .block)))
-                    pick (inl e) = same (ap (r .class) q ∙ e ∙ sym now) (rw q on)
+      pub holding-others : (x : ℕ) → x ≢ o → holding al A P h′ x ≡ holding al A P h x
+      holding-others x d = holding-same x stays back
+        where
+          -- another block of the pool says that the pool was of the class
+          of-class : (t : ℕ) → r .live (H .pool) t ≡ true → r .class (H .pool) ≡ c
+          of-class t on = go (H .kind)
+            where
+              go : (r .class (H .pool) ≡ c) ⊎ ((j : ℕ) → r .live (H .pool) j ≡ false) → r .class (H .pool) ≡ c
+              go (inl e) = e
+              go (inr f) = absurd (true≢false (sym on ∙ f t))
 
-  -- ---- a give-back of block j of pool p
-  module _ (p j : ℕ) (lp : p < A * P) (cl : r .class p ≤ lastClass al) (fits : j < capacity (sizeOf al (r .class p))) (class-same : r′ .class ≡ r .class)
-      (live-now : r′ .live ≡ to p (to j false (r .live p)) (r .live)) where
-    abbrev o : ℕ
-    o = offsetOf p (startOf (sizeOf al (r .class p)) j)
+          stays : LiveAt al A P r x → LiveAt al A P r′ x
+          stays t = go (ℕ-discrete (t .pool) (H .pool)) (ℕ-discrete (t .block) (H .block))
+            where
+              go : Dec (t .pool ≡ H .pool) → Dec (t .block ≡ H .block) → LiveAt al A P r′ x
+              go (no q) u = live-still t (H .classes (t .pool) q) (live-at (t .pool) (t .block) ∙ rw (ne-eqb (t .pool) (H .pool) q) (t .on))
+              go (yes q) u =
+                  live-still t (rw q (H .class-now ∙ sym (of-class (t .block) (rw (← q) (t .on)))))
+                  (live-at (t .pool) (t .block) ∙ rw (eq-eqb (t .pool) (H .pool) q) (on′ u))
+                where
+                  on′ : Dec (t .block ≡ H .block) → to (H .block) true (r .live (H .pool)) (t .block) ≡ true
+                  on′ (yes u) = rw (eq-eqb (t .block) (H .block) u)
+                  on′ (no u) = rw (ne-eqb (t .block) (H .block) u, ← q) (t .on)
 
-    off : (y i : ℕ) → r′ .live y i ≡ to p (to j false (r .live p)) (r .live) y i
-    off y i = ap (λ (g : ℕ → ℕ → Bool). g y i) live-now
+          back : (t : LiveAt al A P r′ x) → LiveAt al A P r x × (r .class (t .pool) ≡ r′ .class (t .pool))
+          back t = go (ℕ-discrete (t .pool) (H .pool)) (ℕ-discrete (t .block) (H .block))
+            where
+              same : r .class (t .pool) ≡ r′ .class (t .pool) → r .live (t .pool) (t .block) ≡ true → LiveAt al A P r x × (r .class (t .pool) ≡ r′ .class (t .pool))
+              same e f = (live-still t e f, e)
 
-    -- nothing is held there any more
-    pub holding-gone : holding al A P h′ o ≡ []
-    holding-gone =
-        dead-holding al A P h′ o (is-false (live al A P (h′ .books) (h′ .map) o) (λ u. gone (live-rows L S′ o u)))
-      where
-        gone : LiveAt al A P r′ o → ⊥
-        gone t =
-            let ends = block-ends (sizeOf al (r .class p)) j (suc j) (omega arith) fits in
-            let low = size-low L (r .class p) cl in
-            let q : t .pool ≡ p = sym (pool-is L S′ o t) ∙ omega (arith, ends, low) in
-            let c′ : r′ .class (t .pool) ≡ r .class p = ap (r′ .class) q ∙ ap (λ (g : ℕ → ℕ). g p) class-same in
-            let k : t .block ≡ j =
-            sym (number-at L S′ o t)
-            ∙ ap₂ (λ (x y : ℕ). blockNo (sizeOf al x) y) c′ (omega (arith, ends, low))
-            ∙ number-is (sizeOf al (r .class p)) j (omega (arith, low)) in
-            true≢false (sym (t .on) ∙ off (t .pool) (t .block) ∙ rw (eq-eqb (t .pool) p q, eq-eqb (t .block) j k))
+              now : t .pool ≡ H .pool → r′ .class (t .pool) ≡ c
+              now q = ap (r′ .class) q ∙ H .class-now
 
-    pub holding-kept : (x : ℕ) → x ≢ o → holding al A P h′ x ≡ holding al A P h x
-    holding-kept x d = holding-same x stays back
-      where
-        class-at : (y : ℕ) → r′ .class y ≡ r .class y
-        class-at y = ap (λ (g : ℕ → ℕ). g y) class-same
+              go : Dec (t .pool ≡ H .pool) → Dec (t .block ≡ H .block) → LiveAt al A P r x × (r .class (t .pool) ≡ r′ .class (t .pool))
+              go (no q) u = same (sym (H .classes (t .pool) q)) (sym (rw (ne-eqb (t .pool) (H .pool) q) at (live-at (t .pool) (t .block))) ∙ t .on)
+              go (yes q) (yes u) = absurd (d (t .place ∙ rw (now q, q, u) (sym (H .place))))
+              go (yes q) (no u) =
+                  let on : r .live (H .pool) (t .block) ≡ true = sym (rw (eq-eqb (t .pool) (H .pool) q, ne-eqb (t .block) (H .block) u) at (live-at (t .pool) (t .block))) ∙ t .on in
+                  same (ap (r .class) q ∙ of-class (t .block) on ∙ sym (now q)) (rw q on)
 
-        stays : LiveAt al A P r x → LiveAt al A P r′ x
-        stays t = live-still t (class-at (t .pool)) (off (t .pool) (t .block) ∙ go (ℕ-discrete (t .pool) p) (ℕ-discrete (t .block) j))
-          where
-            go : Dec (t .pool ≡ p) → Dec (t .block ≡ j) → to p (to j false (r .live p)) (r .live) (t .pool) (t .block) ≡ true
-            go (no q) u = rw (ne-eqb (t .pool) p q) (t .on)
-            go (yes q) (no u) = rw (eq-eqb (t .pool) p q, ne-eqb (t .block) j u, ← q) (t .on)
-            go (yes q) (yes u) = absurd (d (t .place ∙ ap₂ (λ (y z : ℕ). offsetOf y (startOf (sizeOf al (r .class y)) z)) q u))
+    -- ---- a give-back of the live block at o
+    module _ (o : ℕ) (t : LiveAt al A P r o) (class-same : r′ .class ≡ r .class) (live-now : r′ .live ≡ to (t .pool) (to (t .block) false (r .live (t .pool))) (r .live)) where
+      off : (y i : ℕ) → r′ .live y i ≡ to (t .pool) (to (t .block) false (r .live (t .pool))) (r .live) y i
+      off y i = ap (λ (g : ℕ → ℕ → Bool). g y i) live-now
 
-        back : (t : LiveAt al A P r′ x) → LiveAt al A P r x × (r .class (t .pool) ≡ r′ .class (t .pool))
-        back t =
-            let e = sym (class-at (t .pool)) in
-            (live-still t e (go (ℕ-discrete (t .pool) p) (ℕ-discrete (t .block) j) (sym (off (t .pool) (t .block)) ∙ t .on)), e)
-          where
-            go : Dec (t .pool ≡ p) → Dec (t .block ≡ j) → to p (to j false (r .live p)) (r .live) (t .pool) (t .block) ≡ true → r .live (t .pool) (t .block) ≡ true
-            go (no q) u e = rw (ne-eqb (t .pool) p q) at e
-            go (yes q) (no u) e = rw q (rw (eq-eqb (t .pool) p q, ne-eqb (t .block) j u) at e)
-            go (yes q) (yes u) e = absurd (true≢false (sym e ∙ rw (eq-eqb (t .pool) p q, eq-eqb (t .block) j u)))
+      class-at : (y : ℕ) → r′ .class y ≡ r .class y
+      class-at y = ap (λ (g : ℕ → ℕ). g y) class-same
+
+      -- nothing is held there any more
+      pub holding-gone : holding al A P h′ o ≡ []
+      holding-gone = dead-holding al A P h′ o (is-false (live al A P (h′ .books) (h′ .map) o) (λ e. gone (live-rows L S′ o e)))
+        where
+          gone : LiveAt al A P r′ o → ⊥
+          gone u =
+              let q : u .pool ≡ t .pool = one-pool o t u in
+              let k : u .block ≡ t .block = one-block o t u (ap (sizeOf al) (class-at (u .pool) ∙ ap (r .class) q)) in
+              true≢false (sym (u .on) ∙ off (u .pool) (u .block) ∙ rw (eq-eqb (u .pool) (t .pool) q, eq-eqb (u .block) (t .block) k))
+
+      pub holding-kept : (x : ℕ) → x ≢ o → holding al A P h′ x ≡ holding al A P h x
+      holding-kept x d = holding-same x stays back
+        where
+          stays : LiveAt al A P r x → LiveAt al A P r′ x
+          stays u = live-still u (class-at (u .pool)) (off (u .pool) (u .block) ∙ go (ℕ-discrete (u .pool) (t .pool)) (ℕ-discrete (u .block) (t .block)))
+            where
+              go : Dec (u .pool ≡ t .pool) → Dec (u .block ≡ t .block) → to (t .pool) (to (t .block) false (r .live (t .pool))) (r .live) (u .pool) (u .block) ≡ true
+              go (no q) k = rw (ne-eqb (u .pool) (t .pool) q) (u .on)
+              go (yes q) (no k) = rw (eq-eqb (u .pool) (t .pool) q, ne-eqb (u .block) (t .block) k, ← q) (u .on)
+              go (yes q) (yes k) = absurd (d (u .place ∙ ap₂ (λ (y z : ℕ). offsetOf y (startOf (sizeOf al (r .class y)) z)) q k ∙ sym (t .place)))
+
+          back : (u : LiveAt al A P r′ x) → LiveAt al A P r x × (r .class (u .pool) ≡ r′ .class (u .pool))
+          back u =
+              let e = sym (class-at (u .pool)) in
+              (live-still u e (go (ℕ-discrete (u .pool) (t .pool)) (ℕ-discrete (u .block) (t .block)) (sym (off (u .pool) (u .block)) ∙ u .on)), e)
+            where
+              go : Dec (u .pool ≡ t .pool) → Dec (u .block ≡ t .block) → to (t .pool) (to (t .block) false (r .live (t .pool))) (r .live) (u .pool) (u .block) ≡ true
+                  → r .live (u .pool) (u .block) ≡ true
+              go (no q) k e = rw (ne-eqb (u .pool) (t .pool) q) at e
+              go (yes q) (no k) e = rw q (rw (eq-eqb (u .pool) (t .pool) q, ne-eqb (u .block) (t .block) k) at e)
+              go (yes q) (yes k) e = absurd (true≢false (sym e ∙ rw (eq-eqb (u .pool) (t .pool) q, eq-eqb (u .block) (t .block) k)))
 
 -- ---- what a step leaves, the heap being h before it: a heap that holds the rows r, at each offset the bytes that g says, and the first 48 bytes of each pool
 pub record Leaves (al A P : ℕ) (h h′ : Heap) (r : Plain) (g : ℕ → List ℕ) : Type 0 where

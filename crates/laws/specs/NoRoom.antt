@@ -1,6 +1,6 @@
 -- When an ask finds no room: exactly if every pool holds a live block and every pool of the class is full of them.
 -- Assumes nothing.
-use mathlib.Core.Path.{_≡_, refl, sym, ap, _∙_, subst}
+use mathlib.Core.Path.{_≡_, refl, sym, ap, _∙_}
 use mathlib.Core.Logic.{_≢_, _⊎_, inl, inr}
 use mathlib.Core.Bool.{true, false, not, true≢false}
 use mathlib.Core.List.{List, [], _∷_}
@@ -39,7 +39,9 @@ module _ {al A P : ℕ} {h : Heap} {r : Plain} (L : Aligned al) (S : Sound al A 
 
     -- every pool is in use: its arena is open, and has no free pool
     all-used : (p : ℕ) → p < A * P → 1 ≤ count r p
-    all-used p l = ltb-true 0 (count r p) (not-false (inUse r p) (subst (λ (x : ℕ). not (inUse r x) ≡ false) (div-add-mod' p P) (none-many (λ i. not (inUse r (p / P * P + i))) P no-free (p % P) (mod-lt p (omega (arith, pools-low))))))
+    all-used p l =
+        let e : not (inUse r (p / P * P + p % P)) ≡ false = none-many (λ i. not (inUse r (p / P * P + i))) P no-free (p % P) (mod-lt p (omega (arith, pools-low))) in
+        ltb-true 0 (count r p) (not-false (inUse r p) (rw (div-add-mod' p P) at e))
       where
         la : p / P < A
         la = arena-low A P p pools-low l
@@ -48,7 +50,9 @@ module _ {al A P : ℕ} {h : Heap} {r : Plain} (L : Aligned al) (S : Sound al A 
         marked z = absurd (rw (none .unused) at (S .rule6 .arenas .all 3 (omega arith) (p / P) la (base-unused P r (p / P) z)))
 
         no-free : free P r (p / P) ≡ 0
-        no-free = let d : ¬ (1 ≤ free P r (p / P)) = (λ q. rw (none .usable) at (S .rule6 .arenas .all 2 (omega arith) (p / P) la (base-usable P r (p / P) marked (omega arith)))) in omega arith
+        no-free =
+            let d : ¬ (1 ≤ free P r (p / P)) = (λ q. rw (none .usable) at (S .rule6 .arenas .all 2 (omega arith) (p / P) la (base-usable P r (p / P) marked (omega arith)))) in
+            omega arith
 
     is-full : Full al A P h (classOf al n)
     is-full =
@@ -103,9 +107,11 @@ module _ {al A P : ℕ} {h : Heap} {r : Plain} (L : Aligned al) (S : Sound al A 
 
           none : (r .class (H .pool) ≡ classOf al n) ⊎ ((j : ℕ) → r .live (H .pool) j ≡ false) → ⊥
           none (inl c) =
+              let D = ask-done L S n low high in
               let o = offsetOf (H .pool) (startOf (sizeOf al (classOf al n)) (H .block)) in
               let e = Z .full-class (H .pool) (H .inside) (S .classes (H .pool) (H .inside) ∙ c) (H .block) (H .fits) in
-              absurd (omega (arith, holding-more L S o (live-rows L S o e), ap length (ap (holding al A P h) (sym (H .place)) ∙ holding-none L S (ask-done L S n low high .sound) (ask-done L S n low high .quiet) (has-class L n high) H)))
+              let z : holding al A P h o ≡ [] = ap (holding al A P h) (sym (H .place)) ∙ holding-none L S (D .sound) (D .quiet) (has-class L n high) H in
+              absurd (omega (arith, holding-more L S o (live-rows L S o e), ap length z))
           none (inr d) =
               let t = Z .held-all (H .pool) (H .inside) in
               let u = live-rows L S (t .offset) (t .is-live) in

@@ -130,7 +130,17 @@ count-off r p j d l =
 -- the rows after it: block j's bit is d, ks is the pool's chain; and the view
 abbrev pub insideRows : ℕ → ℕ → ℕ → List ℕ → (ℕ → ℕ) → (ℕ → List ℕ) → Plain → Plain
 insideRows p j d ks virgins listed r =
-    record { usable = r .usable; unused = r .unused; mark = r .mark; freed = r .freed; listed = listed; class = r .class; chain = to p ks (r .chain); virgin = virgins; live = to p (to j (eqb d 1) (r .live p)) (r .live) }
+    record {
+      usable = r .usable;
+      unused = r .unused;
+      mark = r .mark;
+      freed = r .freed;
+      listed = listed;
+      class = r .class;
+      chain = to p ks (r .chain);
+      virgin = virgins;
+      live = to p (to j (eqb d 1) (r .live p)) (r .live);
+    }
 
 abbrev pub insideView : (ℕ → ℕ → ℕ) → (ℕ → ℕ) → (ℕ → List ℕ) → View → View
 insideView pools homes listed U = record { head = U .head; pool = pools; arena = U .arena; home = homes; base = U .base; listed = listed; freed = U .freed; arenas = U .arenas }

@@ -5,7 +5,7 @@ use mathlib.Core.Path.{_≡_, refl, sym, ap, ap₂, _∙_, subst}
 use mathlib.Core.Logic.{_≢_, inl, inr}
 use mathlib.Core.Bool.{Bool, true, false}
 use mathlib.Core.List.{List, [], _++_}
-use Prim.Native.Nat.{ℕ, _+_, _%_, _≤_, min}
+use Prim.Native.Nat.{ℕ, _+_, _≤_, min}
 use native.Mathlib.Nat.{min-le-left, min-le-right}
 use native.Mathlib.Decide.{ℕ-discrete}
 use native.Mathlib.Omega.{arith}
@@ -14,7 +14,7 @@ use lib.Seq.{sets, length-sets, length-take-le, take-take, drop-at}
 use borrow.Author.Tests.{eq-eqb, ne-eqb, le-leb}
 use Rattle.rules.specs.declared.AskPlan.the-variants.{NoRoom}
 use Rattle.rules.specs.Books.{Heap}
-use Rattle.rules.specs.Blocks.{classOf, sizeOf, blockNo, live, liveNumber, sizeAt}
+use Rattle.rules.specs.Blocks.{classOf, sizeOf, live, liveNumber, sizeAt}
 use Rattle.rules.specs.Outcome.{Outcome, heapOf, refused, done, answerOf}
 use Rattle.rules.specs.Ask.{askAnswer, afterAsk, askStep}
 use Rattle.rules.specs.Resize.{keeps, giveOld, moved, resizeStep}
@@ -26,9 +26,9 @@ use Rattle.laws.specs.Sizes.{Aligned, size-low, has-class, class-fits}
 use Rattle.laws.specs.Sound.{Sound}
 use Rattle.laws.specs.Paths.{Hand, Asked}
 use Rattle.laws.specs.Bytes.{outside-less, part-long, sets-off, text-part}
-use Rattle.laws.specs.Holding.{LiveAt, liveSize, holding, live-rows, pool-is, number-at, class-is, rows-live, in-memory, at-block, at-class, holding-live, holding-long, holding-more, holding-some, holding-none, holding-others, Leaves}
-use Rattle.laws.specs.Calls.{shape-zero, DoneOrNot, done-or-not, ask-done, block-of, back-done, back-is, back-leaves}
-use Rattle.laws.specs.Written.{written-sound, written-leaves}
+use Rattle.laws.specs.Holding.{LiveAt, liveSize, holding, live-rows, class-is, rows-live, in-memory, one-pool, one-block, at-block, at-class, holding-live, holding-long, holding-more, holding-some, holding-none, holding-others, Leaves}
+use Rattle.laws.specs.Calls.{shape-zero, DoneOrNot, done-or-not, ask-done, block-of, back-is, back-leaves}
+use Rattle.laws.specs.Written.{written-leaves}
 use Rattle.laws.specs.History.{carried}
 
 module _ {al A P : ℕ} {h : Heap} {r : Plain} (L : Aligned al) (S : Sound al A P h r) (o n : ℕ) where
@@ -80,9 +80,6 @@ module _ {al A P : ℕ} {h : Heap} {r : Plain} (L : Aligned al) (S : Sound al A 
         u : LiveAt al A P (askPlain al P r n) o
         u = live-rows L (D .sound) o (holding-some al A P asked o (λ q. absurd (omega (arith, holding-more L S o t, ap length (sym old-stays ∙ q)))))
 
-        same-pool : u .pool ≡ t .pool
-        same-pool = sym (pool-is L (D .sound) o u) ∙ pool-is L S o t
-
         same-size : liveSize u ≡ liveSize t
         same-size = sym (holding-long L (D .sound) o u) ∙ ap length old-stays ∙ holding-long L S o t
 
@@ -108,8 +105,11 @@ module _ {al A P : ℕ} {h : Heap} {r : Plain} (L : Aligned al) (S : Sound al A 
         text-fits : length text ≤ liveSize new-at
         text-fits = omega (arith, text-long, new-size, min-le-left n (sizeAt al A (h .books) o), class-fits L n)
 
+        copy : Leaves al A P asked copied (askPlain al P r n) (to new (part new (liveSize new-at) (copied .memory)) (holding al A P asked))
+        copy = written-leaves L (D .sound) new new-at (copied .memory) (length-sets (asked .memory) new text) (λ i f. sets-off (asked .memory) new text i (outside-less text-fits f))
+
         copied-sound : Sound al A P copied (askPlain al P r n)
-        copied-sound = written-sound L (D .sound) new new-at (copied .memory) (length-sets (asked .memory) new text) (λ i f. sets-off (asked .memory) new text i (outside-less text-fits f))
+        copied-sound = copy .sound
 
         -- ---- the old block is given back
         still-live : live al A P (copied .books) (copied .map) o ≡ true
@@ -130,19 +130,16 @@ module _ {al A P : ℕ} {h : Heap} {r : Plain} (L : Aligned al) (S : Sound al A 
         moved-sound : Sound al A P (giveBack al copied o .heap) (backPlain P (askPlain al P r n) (t .pool) (t .block))
         moved-sound =
             subst (λ (x : Plain). Sound al A P (giveBack al copied o .heap) x) (ap₂ (backPlain P (askPlain al P r n)) same-pool same-block)
-            (subst (λ (y : Outcome). Sound al A P (y .heap) (backPlain P (askPlain al P r n) (v .pool) (v .block))) (sym (back-is L copied-sound o still-live)) (back-done L copied-sound o still-live .sound))
+            (back-leaves L copied-sound o still-live .sound)
           where
             v : LiveAt al A P (askPlain al P r n) o
             v = block-of L copied-sound o still-live
 
             same-pool : v .pool ≡ t .pool
-            same-pool = sym (pool-is L copied-sound o v) ∙ pool-is L S o t
+            same-pool = one-pool L S copied-sound o t v
 
             same-block : v .block ≡ t .block
-            same-block =
-                sym (number-at L copied-sound o v)
-                ∙ ap (λ (s : ℕ). blockNo s (o % 4096)) (ap (λ (p : ℕ). sizeOf al (askPlain al P r n .class p)) (same-pool ∙ sym (pool-is L S o t) ∙ pool-is L (D .sound) o u) ∙ same-size)
-                ∙ number-at L S o t
+            same-block = one-block L S copied-sound o t v (ap (λ (p : ℕ). sizeOf al (askPlain al P r n .class p)) (one-pool L (D .sound) copied-sound o u v) ∙ same-size)
 
         -- ---- what is held then: the copied bytes are the old block's, and the block at o is gone
         abbrev size : ℕ
@@ -153,7 +150,7 @@ module _ {al A P : ℕ} {h : Heap} {r : Plain} (L : Aligned al) (S : Sound al A 
 
         copied-holds : (y : ℕ) → holding al A P copied y ≡ to new (part new size (copied .memory)) (holding al A P h) y
         copied-holds y =
-            written-leaves L (D .sound) new new-at (copied .memory) (length-sets (asked .memory) new text) (λ i f. sets-off (asked .memory) new text i (outside-less text-fits f)) .holds y
+            copy .holds y
             ∙ ap (λ (s : ℕ). to new (part new s (copied .memory)) (holding al A P asked) y) new-size
             ∙ go (ℕ-discrete y new)
           where
@@ -162,7 +159,9 @@ module _ {al A P : ℕ} {h : Heap} {r : Plain} (L : Aligned al) (S : Sound al A 
             go (no q) = rw (ne-eqb y new q) (holding-others L S (D .sound) (D .quiet) (has-class L n hi) H y q)
 
         moved-holds : (y : ℕ) → holding al A P (giveBack al copied o .heap) y ≡ to o [] (to new (part new size (copied .memory)) (holding al A P h)) y
-        moved-holds y = back-leaves L copied-sound o still-live .holds y ∙ to-cong o (holding al A P copied) (to new (part new size (copied .memory)) (holding al A P h)) refl y (copied-holds y)
+        moved-holds y =
+            back-leaves L copied-sound o still-live .holds y
+            ∙ to-cong o (holding al A P copied) (to new (part new size (copied .memory)) (holding al A P h)) refl y (copied-holds y)
 
         new-fits : new + size ≤ length (asked .memory)
         new-fits = rw (← new-size) (in-memory L (D .sound) new new-at)
@@ -181,7 +180,10 @@ module _ {al A P : ℕ} {h : Heap} {r : Plain} (L : Aligned al) (S : Sound al A 
                 ∙ to-same new (part new size (copied .memory)) (holding al A P h) new refl
 
             w : LiveAt al A P (backPlain P (askPlain al P r n) (t .pool) (t .block)) new
-            w = live-rows L moved-sound new (holding-some al A P (giveBack al copied o .heap) new (λ q. absurd (omega (arith, ap length (sym here ∙ q), new-long, size-low L (classOf al n) (has-class L n hi)))))
+            w = live-rows L moved-sound new (holding-some al A P (giveBack al copied o .heap) new some)
+              where
+                some : holding al A P (giveBack al copied o .heap) new ≢ []
+                some q = omega (arith, ap length (sym here ∙ q), new-long, size-low L (classOf al n) (has-class L n hi))
 
             long : liveSize w ≡ size
             long = sym (holding-long L moved-sound new w) ∙ ap length here ∙ new-long
@@ -193,7 +195,7 @@ module _ {al A P : ℕ} {h : Heap} {r : Plain} (L : Aligned al) (S : Sound al A 
 
         new-bytes : take k (holding al A P h o) ++ drop k (part new size (copied .memory)) ≡ part new size (copied .memory)
         new-bytes =
-            let e : part new size (copied .memory) ≡ text ++ drop (length text) (part new size (asked .memory)) = text-part (asked .memory) text new size (omega (arith, text-long, min-le-left n (sizeAt al A (h .books) o), class-fits L n)) new-fits in
+            let e = text-part (asked .memory) text new size (omega (arith, text-fits, new-size)) new-fits in
             ap (λ (b : List ℕ). take k (holding al A P h o) ++ drop k b) e
             ∙ ap (λ (b : List ℕ). take k (holding al A P h o) ++ b) (drop-at text (drop (length text) (part new size (asked .memory))) k text-long)
             ∙ ap (λ (b : List ℕ). b ++ drop (length text) (part new size (asked .memory))) (sym text-is)
@@ -208,14 +210,15 @@ module _ {al A P : ℕ} {h : Heap} {r : Plain} (L : Aligned al) (S : Sound al A 
               holds = λ y. moved-holds y ∙ go y (ℕ-discrete y new) (ℕ-discrete y o);
               first = λ i l.
                   back-leaves L copied-sound o still-live .first i l
-                  ∙ written-leaves L (D .sound) new new-at (copied .memory) (length-sets (asked .memory) new text) (λ j f. sets-off (asked .memory) new text j (outside-less text-fits f)) .first i l
+                  ∙ copy .first i l
                   ∙ D .quiet .first-bytes i l;
             }
           where
             length-is : k ≡ min n (length (holding al A P h o))
             length-is = ap (min n) (size-is ∙ sym (holding-long L S o t))
 
-            go : (y : ℕ) → Dec (y ≡ new) → Dec (y ≡ o) → to o [] (to new (part new size (copied .memory)) (holding al A P h)) y ≡ carried al n o new (giveBack al copied o .heap .memory) (holding al A P h) y
+            go : (y : ℕ) → Dec (y ≡ new) → Dec (y ≡ o)
+                → to o [] (to new (part new size (copied .memory)) (holding al A P h)) y ≡ carried al n o new (giveBack al copied o .heap .memory) (holding al A P h) y
             go y (yes q) d =
                 rw (ne-eqb y o (λ v. differ (sym v ∙ q)), eq-eqb y new q, ← length-is)
                 (sym (ap (λ (b : List ℕ). take k (holding al A P h o) ++ drop k b) new-stays ∙ new-bytes))

@@ -2,26 +2,26 @@
 -- Assumes nothing.
 use mathlib.Core.Path.{_≡_, refl, sym, ap, ap₂, _∙_, subst}
 use mathlib.Core.Logic.{_≢_, inr}
-use mathlib.Core.Bool.{true, false, not, _&&_, _||_, true≢false, or-true}
+use mathlib.Core.Bool.{true, false, not, true≢false, or-true}
 use mathlib.Core.List.{List, [], _∷_}
 use Prim.Native.Nat.{ℕ, suc, _+_, _*_, _-_, _/_, _%_, _≤_, _<_}
 use native.Mathlib.Nat.{div-add-mod', mul-le-mul-right, suc-mul}
 use native.Mathlib.Decide.{ℕ-discrete, decLt}
 use native.Mathlib.Omega.{arith}
 use lib.Arith.{digits-div, digits-mod}
-use lib.Dec.{leb, ltb, eqb, eqb·suc-zero}
+use lib.Dec.{ltb, eqb, eqb·suc-zero}
 use lib.ListN.{length}
 use borrow.Author.Tests.{eq-eqb, ne-eqb, le-leb, lt-ltb, le-ltb}
 use Rattle.rules.specs.declared.Source.{Source}
 use Rattle.rules.specs.declared.Source.the-variants.{Freed, Carved, Opened}
 use Rattle.rules.specs.declared.AskPlan.{AskPlan}
-use Rattle.rules.specs.declared.AskPlan.the-variants.{NoRoom, Damaged, Again, Anew}
-use Rattle.rules.specs.Say.{if_then_else_, _▷_}
+use Rattle.rules.specs.declared.AskPlan.the-variants.{NoRoom, Again, Anew}
+use Rattle.rules.specs.Say.{_▷_}
 use Rattle.rules.specs.Books.{Heap, at, put, usableHead, unusedHead, classHead, carveMark, freePools, freedHead, arenaWord, arena, noClass, poolWord, pool, offsetOf}
 use Rattle.rules.specs.Blocks.{sizeOf, lastClass, startOf, linkAt}
 use Rattle.rules.specs.Lists.{nextAt, previousAt, leave, join, arenaLinks}
 use Rattle.rules.specs.Outcome.{heapOf}
-use Rattle.rules.specs.Ask.{planAsk, spare, fromUsable, fromFreed, fromMark, fromUnused, setAnew, takeAgain, sameClass, takeFrom, arenaOf, spend, afterAsk, askAnswer}
+use Rattle.rules.specs.Ask.{planAsk, spare, fromUsable, fromFreed, fromMark, fromUnused, counted, setAnew, takeAgain, sameClass, takeFrom, arenaOf, spend, afterAsk, askAnswer}
 use Rattle.books.specs.Starts.{start-is, number-is, first-block, second-block}
 use Rattle.books.specs.Known.{in-range}
 use Rattle.laws.specs.Update.{is-false, to, to-same, to-other, to-cong}
@@ -119,7 +119,7 @@ module _ {al A P c : ℕ} {h : Heap} {r : Plain} (L : Aligned al) (H : Held al A
         rw (class-empty, hd, eqb·suc-zero a, le-leb (suc a) A la, z) e
 
     -- the tests of its free pools, and of its links where it will leave
-    counted-is : (q : AskPlan) → (if leb 1 (arena b 2 a) && leb (arena b 2 a) P then (if not (eqb (arena b 2 a) 1) || (leb (at b (nextAt arenaLinks a)) A && leb (at b (previousAt arenaLinks a)) A) then q else Damaged) else Damaged) ≡ q
+    counted-is : (q : AskPlan) → counted al A P h c a q ≡ q
     counted-is q =
         let n : nextAt arenaLinks a ≡ arenaWord 4 a = omega arith in
         let v : previousAt arenaLinks a ≡ arenaWord 5 a = omega arith in
@@ -159,7 +159,13 @@ module _ {al A P c : ℕ} {h : Heap} {r : Plain} (L : Aligned al) (H : Held al A
             homes = λ y d. to-other p 1 (U .home) y d;
             home-p = to-same p 1 (U .home) p refl;
             arena = let R = F .arenas a la in
-                record { open-is = R .open-is; mark-is = R .mark-is; mark-high = R .mark-high; free-is = R .free-is; base-is = front .is ∙ sym (base-usable P (r ▷ setFreed a ps) a (open-free .0) (open-free .1)) };
+                record {
+                  open-is = R .open-is;
+                  mark-is = R .mark-is;
+                  mark-high = R .mark-high;
+                  free-is = R .free-is;
+                  base-is = front .is ∙ sym (base-usable P (r ▷ setFreed a ps) a (open-free .0) (open-free .1));
+                };
             lists = record {
               listed = F .lists .listed;
               freed = λ x l. to-cong a (U .freed) (r .freed) refl x (F .lists .freed x l);
@@ -177,7 +183,8 @@ module _ {al A P c : ℕ} {h : Heap} {r : Plain} (L : Aligned al) (H : Held al A
       freed-first q e =
           let hd : arena b freedHead a ≡ suc p = (rw row-is at (K .freed .row a la .walk)) .0 in
           let z : suc p - 1 ≡ p = omega arith in
-          usable-first q (rw (hd, eqb·suc-zero p, le-leb (suc p) (A * P) lp, z, le-leb (pool A b 2 p) (A * P) (next-low ps (rw row-is at (K .freed .row a la .walk)) (rw row-is at (inside (K .freed) a la)))) (counted-is (takeAgain al A P h c a p) ∙ e))
+          let n : pool A b 2 p ≤ A * P = next-low ps (rw row-is at (K .freed .row a la .walk)) (rw row-is at (inside (K .freed) a la)) in
+          usable-first q (rw (hd, eqb·suc-zero p, le-leb (suc p) (A * P) lp, z, le-leb (pool A b 2 p) (A * P) n) (counted-is (takeAgain al A P h c a p) ∙ e))
         where
           next-low : (xs : List ℕ) → Stack (λ n. at b (poolWord A 2 n)) (arena b freedHead a) (p ∷ xs) → All (λ y. y < A * P) (p ∷ xs) → pool A b 2 p ≤ A * P
           next-low [] w i = omega (arith, w .1)
@@ -226,7 +233,12 @@ module _ {al A P c : ℕ} {h : Heap} {r : Plain} (L : Aligned al) (H : Held al A
 
               spare-block : (x : ℕ) → x < r .virgin p → spare al A P h c p (startOf s x) ≡ true
               spare-block x l =
-                  rw (start-is s x (omega (arith, B .fits)), number-is s x (omega (arith, size-low L c lc)), F .bits p x lp (omega (arith, B .fits, capacity-high L c lc)), no-live L F p lp (was .0) x)
+                  rw (
+                    start-is s x (omega (arith, B .fits)),
+                    number-is s x (omega (arith, size-low L c lc)),
+                    F .bits p x lp (omega (arith, B .fits, capacity-high L c lc)),
+                    no-live L F p lp (was .0) x,
+                  )
 
               plan : planAsk al A P h c ≡ Again a p (startOf s k) (startOf s j)
               plan =
@@ -255,7 +267,8 @@ module _ {al A P c : ℕ} {h : Heap} {r : Plain} (L : Aligned al) (H : Held al A
               pick (yes t) = rw (lt-ltb 0 (count r (a * P + i)) t)
               pick (no t) =
                   let cv : carved P r (a * P + i) ≡ true = rw (digits-div a u, digits-mod a u) (lt-ltb i (r .mark a) (omega arith)) in
-                  absurd (rw (F .lists .freed a la ∙ fr) at (K .freed .all a la (a * P + i) ly (F .pools (a * P + i) ly .home-is ∙ home-freed al P r (a * P + i) (omega arith) cv ∙ ap (arenaWord freedHead) (digits-div a u))))
+                  let hm : U .home (a * P + i) ≡ arenaWord freedHead a = F .pools (a * P + i) ly .home-is ∙ home-freed al P r (a * P + i) (omega arith) cv ∙ ap (arenaWord freedHead) (digits-div a u) in
+                  absurd (rw (F .lists .freed a la ∙ fr) at (K .freed .all a la (a * P + i) ly hm))
 
       lpm : pm < A * P
       lpm = omega (arith, mul-le-mul-right P la, suc-mul a P, mark-room)
@@ -451,7 +464,8 @@ module _ {al A P c : ℕ} {h : Heap} {r : Plain} (L : Aligned al) (H : Held al A
               mark-is = rw (eq-eqb a a refl) mark-one;
               mark-high = rw (eq-eqb a a refl) (omega (arith, pools-low));
               free-is = rw (eq-eqb a a refl) (sym all-free);
-              base-is = to-same a 2 (to a 0 (U .base)) a refl ∙ sym (base-usable P (withArenas (a ∷ []) others (to a 1 (r .mark)) (r .freed) r) a marked′ (λ z. absurd (omega (arith, all-free, pools-low))));
+              base-is = to-same a 2 (to a 0 (U .base)) a refl
+                  ∙ sym (base-usable P (withArenas (a ∷ []) others (to a 1 (r .mark)) (r .freed) r) a marked′ (λ z. absurd (omega (arith, all-free, pools-low))));
             };
             lists = record {
               listed = F .lists .listed;

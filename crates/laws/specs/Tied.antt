@@ -137,7 +137,8 @@ module _ {al : ℕ} (L : Aligned al) (m₀ : List ℕ) where
           )
 
       go : (b : Bool) → live al (T .A) (T .P) (x .heap .books) (x .heap .map) o ≡ b
-          → Q (passing (passing (if b then 0 else 5) (λ k. k) (if ltb (sizeAt al (T .A) (x .heap .books) o) (length text) then 7 else 0)) (λ k. refused k (x .heap)) (done o (heapOf m′ (x .heap .books) (x .heap .map))))
+          → Q (passing (passing (if b then 0 else 5) (λ k. k) (if ltb (sizeAt al (T .A) (x .heap .books) o) (length text) then 7 else 0))
+          (λ k. refused k (x .heap)) (done o (heapOf m′ (x .heap .books) (x .heap .map))))
       go false e = same T 5 refl (omega arith) (x .ledger)
       go true e = fits (live-rows L (T .sound) o e) (ltb (sizeAt al (T .A) (x .heap .books) o) (length text)) refl
 
@@ -151,7 +152,11 @@ module _ {al : ℕ} (L : Aligned al) (m₀ : List ℕ) where
       go : (b : Bool) → ltb d (length (x .ledger o)) ≡ b
           → Good al m₀ 0 (if b then record { heap = heapOf m′ (x .heap .books) (x .heap .map); ledger = to o (set (x .ledger o) d v) (x .ledger) } else x)
       go false e = ((omega arith), T)
-      go true e = ((omega arith), held-bytes T o t m′ (set (x .ledger o) d v) (length-set (x .heap .memory) (o + d) v) away (ap (λ (b : List ℕ). set b d v) (bytes-are T o t) ∙ sym (byte-part (x .heap .memory) o (liveSize t) d v inside)))
+      go true e = (
+        (omega arith),
+        held-bytes T o t m′ (set (x .ledger o) d v) (length-set (x .heap .memory) (o + d) v) away
+            (ap (λ (b : List ℕ). set b d v) (bytes-are T o t) ∙ sym (byte-part (x .heap .memory) o (liveSize t) d v inside)),
+      )
         where
           some : d < length (x .ledger o)
           some = ltb-true d (length (x .ledger o)) e
@@ -177,7 +182,9 @@ module _ {al : ℕ} (L : Aligned al) (m₀ : List ℕ) where
       S = T .sound
 
       Q : Outcome → Type 0
-      Q y = Good al m₀ (y .answer .number) (noted (y .answer .number) (y .heap) (x .ledger) (if eqb (y .answer .offset) o then x .ledger else carried al n o (y .answer .offset) (y .heap .memory) (x .ledger)))
+      Q y =
+          Good al m₀ (y .answer .number)
+          (noted (y .answer .number) (y .heap) (x .ledger) (if eqb (y .answer .offset) o then x .ledger else carried al n o (y .answer .offset) (y .heap .memory) (x .ledger)))
 
       -- the ledger carries what the heap does
       same-carried : (o₁ : ℕ) (m : List ℕ) (y : ℕ) → carried al n o o₁ m (x .ledger) y ≡ carried al n o o₁ m (holding al (T .A) (T .P) h) y
@@ -244,11 +251,11 @@ module _ {al : ℕ} (L : Aligned al) (m₀ : List ℕ) where
 
   roll-number : {x : State} → Tied al m₀ x → (words : List ℕ) → rollCall al (x .heap) words .answer .number ≢ 6
   unfolding rollCall roomNumber
-  roll-number {x} T words = rw (shape-zero (T .sound)) (go (ltb (length words) (length (rollOf al (x .heap)))))
+  roll-number {x} T words = rw (shape-zero (T .sound)) (go (ltb (length words) (length (rollOf al (x .heap)))) (length (rollOf al (x .heap)) / 2) _)
     where
-      go : (b : Bool) → passing (if b then 7 else 0) (λ k. rollOutcome k 0 words) (rollOutcome 0 (length (rollOf al (x .heap)) / 2) (rollOf al (x .heap) ++ drop (length (rollOf al (x .heap))) words)) .answer .number ≢ 6
-      go true = omega arith
-      go false = omega arith
+      go : (b : Bool) (k : ℕ) (ws : List ℕ) → passing (if b then 7 else 0) (λ k. rollOutcome k 0 words) (rollOutcome 0 k ws) .answer .number ≢ 6
+      go true k ws = omega arith
+      go false k ws = omega arith
 
   -- ---- any event
   step : {x : State} → Tied al m₀ x → (e : Event) → Good al m₀ (numberOf al x e) (after al x e)
