@@ -22,6 +22,10 @@ outside-less l (inr a) = inr (omega arith)
 abbrev pub Clear : ℕ → ℕ → ℕ → ℕ → Type 0
 Clear o s x t = (o + s ≤ x) ⊎ (x + t ≤ o)
 
+pub clear-outside : (o s x t d : ℕ) → Clear o s x t → d < t → Outside o s (x + d)
+clear-outside o s x t d (inl a) l = inr (omega arith)
+clear-outside o s x t d (inr a) l = inl (omega arith)
+
 -- a part that lies in memory is as long as it says
 pub part-long : (m : List ℕ) (o s : ℕ) → o + s ≤ length m → length (part o s m) ≡ s
 part-long m o s l = length-take-le s (drop o m) (omega (arith, length-drop o m))

@@ -1,4 +1,4 @@
--- The calls of 01 over a sound heap: the tests of 1 and 2 pass, and ask and give back do the plain heap's step.
+-- The calls of 01 over a sound heap: the tests of 1 and 2 pass, and ask and give back do the plain heap's step, which is never damage; and what they leave to be held.
 -- Assumes nothing.
 use mathlib.Core.Path.{_≡_, refl}
 use mathlib.Core.Logic.{_⊎_, inl, inr}

@@ -18,12 +18,13 @@ use Rattle.laws.specs.Update.{to, to-same, to-other}
 use Rattle.laws.specs.Rows.{All, Not, Once, all-map}
 use Rattle.laws.specs.Plain.{howMany}
 use Rattle.laws.specs.Counting.{many-same, many-more, many-all, many-cut}
-use Rattle.laws.specs.Bytes.{Outside, Clear}
+use Rattle.laws.specs.Bytes.{Outside, outside-less, Clear, clear-outside}
 
 -- ---- the four bytes of a link
 four : (v : ℕ) → v < 4294967296 → v % 256 + v / 256 % 256 * 256 + v / 65536 % 256 * 65536 + v / 16777216 % 256 * 16777216 ≡ v
 four v h = rw (← div-div-eq-div-mul v 256 256, ← div-div-eq-div-mul v 65536 256, ← div-div-eq-div-mul v 256 256) (omega arith)
 
+-- a link that is put is read again, and the other bytes stand
 pub link-same : (m : List ℕ) (o v : ℕ) → o + 3 < length m → v < 4294967296 → linkAt (putLink o v m) o ≡ v
 unfolding linkAt putLink
 link-same m o v h l =
@@ -79,11 +80,7 @@ module _ (size : ℕ → ℕ) (p j n k : ℕ) (other : p ≡ n → j ≢ k) (e :
 
   -- byte d of the second is none of the first
   pub block-outside : (d : ℕ) → d < size n → Outside (offsetOf p (startOf (size p) j)) (size p) (offsetOf n (startOf (size n) k) + d)
-  block-outside d l = go pools-apart
-    where
-      go : Clear (offsetOf p (startOf (size p) j)) (size p) (offsetOf n (startOf (size n) k)) (size n) → Outside (offsetOf p (startOf (size p) j)) (size p) (offsetOf n (startOf (size n) k) + d)
-      go (inl a) = inr (omega arith)
-      go (inr a) = inl (omega arith)
+  block-outside d l = clear-outside (offsetOf p (startOf (size p) j)) (size p) (offsetOf n (startOf (size n) k)) (size n) d pools-apart l
 
 -- the first 48 bytes of a pool are in no block
 pub first-outside : (s n k i : ℕ) → startOf s k + s ≤ 4096 → i % 4096 < 48 → Outside (offsetOf n (startOf s k)) s i
@@ -179,11 +176,8 @@ module _ {s n : ℕ} {m : List ℕ} {free next : ℕ} {live : ℕ → Bool} {cha
       → Blocks s n m′ free next live chain virgin
   written m′ k l d same =
       framed m′ (all-map {R = λ j. linkAt m′ (offsetOf n (startOf s j)) ≡ linkAt m (offsetOf n (startOf s j))}
-      (λ j (q : k ≢ j). link-bytes m m′ (offsetOf n (startOf s j)) (λ d u. same (offsetOf n (startOf s j) + d) (off j d u (blocks-apart s n k j q)))) chain d)
-    where
-      off : (j d : ℕ) → d < 4 → Clear (offsetOf n (startOf s k)) s (offsetOf n (startOf s j)) s → Outside (offsetOf n (startOf s k)) 4 (offsetOf n (startOf s j) + d)
-      off j d u (inl h) = inr (omega arith)
-      off j d u (inr h) = inl (omega arith)
+      (λ j (q : k ≢ j). link-bytes m m′ (offsetOf n (startOf s j))
+      (λ d u. same (offsetOf n (startOf s j) + d) (outside-less l (clear-outside (offsetOf n (startOf s k)) s (offsetOf n (startOf s j)) s d (blocks-apart s n k j q) (omega arith))))) chain d)
 
 -- ---- the front of the chain is taken
 pub taken : {s n : ℕ} {m : List ℕ} {free next : ℕ} {live : ℕ → Bool} {ks : List ℕ} {virgin : ℕ} (k : ℕ) → Blocks s n m free next live (k ∷ ks) virgin

@@ -10,6 +10,7 @@ use Rattle.rules.specs.Say.{if_then_else_}
 use Rattle.laws.specs.Update.{is-false}
 use Rattle.laws.specs.Plain.{howMany}
 
+-- what a number counts for
 abbrev one : Bool → ℕ
 one t = if t then 1 else 0
 
@@ -32,6 +33,7 @@ many-more f g x (suc n) l p q s = go (ℕ-discrete n x) (λ h. many-more f g x n
     go (yes e) h = rw (e, p, q) (omega (arith, rw e at (many-same f g n (λ k m. s k (omega arith)))))
     go (no d) h = rw (s n d, h (omega arith)) (omega arith)
 
+-- no number passes; every one; some
 pub many-none : (f : ℕ → Bool) (n : ℕ) → ((k : ℕ) → k < n → f k ≡ false) → howMany f n ≡ 0
 unfolding howMany
 many-none f zero e = refl

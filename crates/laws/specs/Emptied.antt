@@ -134,6 +134,7 @@ module _ {al A P p j i : ℕ} {h : Heap} {r : Plain} {is : List ℕ} (G : Given 
       ) e)
 
   -- ---- ".. it leaves its class list and goes to the front of its arena's freed pools, .. and free pools rises by 1."
+  -- b₃ are the books once it has left, b₄ once it is among the freed, b₅ with the free pools; U₄ and U₅ are what they say
   abbrev b₃ : List ℕ
   b₃ = leave (poolLinks A) (classHead c) p (b₂ G)
 

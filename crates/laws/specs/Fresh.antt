@@ -27,7 +27,7 @@ use Rattle.laws.specs.Sizes.{Aligned}
 use Rattle.laws.specs.Sound.{home, base, arenaRows, Sound}
 use Rattle.laws.specs.Held.{Says, viewOf, home-away, base-unused, sound}
 
--- ---- the records
+-- ---- the records, of eight words each
 -- what holds of each of the eight words of a record
 each-word : (Q : ℕ → Type 0) → Q 0 × Q 1 × Q 2 × Q 3 × Q 4 × Q 5 × Q 6 × Q 7 → (w : ℕ) → w < 8 → Q w
 each-word Q q zero u = q .0
@@ -40,7 +40,7 @@ each-word Q q (suc (suc (suc (suc (suc (suc zero)))))) u = q .6
 each-word Q q (suc (suc (suc (suc (suc (suc (suc zero))))))) u = q .7
 each-word Q q (suc (suc (suc (suc (suc (suc (suc (suc w)))))))) u = absurd (omega arith)
 
--- word w of record a, in a list of records of eight words
+-- word w of the record after the first
 eight : (a w : ℕ) → 8 * suc a + w ≡ suc (suc (suc (suc (suc (suc (suc (suc (8 * a + w))))))))
 eight a w = omega arith
 

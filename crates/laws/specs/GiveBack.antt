@@ -92,6 +92,7 @@ module _ {al A P p j : ℕ} {h : Heap} {r : Plain} (G : Given al A P h r p j) wh
       rw (e, t, le-leb 1 (pool A b 0 p) (omega (arith, count-is, some)), le-leb (pool A b 0 p) 506 (omega (arith, count-is, room-is, I .blocks .fits, cap-high))) g
 
   -- ---- "Clear the bit; write the old freeblock as the block's link; freeblock is the block; count falls by 1."
+  -- b₁ are the books after the first of their two writes, b₂ after both; U₂ is what they say then, and m₂ is memory
   abbrev pub b₁ : List ℕ
   b₁ = put (poolWord A 1 p) f b
 

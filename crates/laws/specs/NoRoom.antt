@@ -1,4 +1,5 @@
--- When an ask finds no room: exactly if every pool holds a live block and every pool of the class is full of them.
+-- When an ask finds no room: exactly if every pool holds a live block and every pool of the class is full of them. It finds none exactly with three lists empty, and these hold just the
+-- closed arenas, the open ones with a free pool, and the pools of the class with a spare block.
 -- Assumes nothing.
 use mathlib.Core.Path.{_≡_, refl, sym, ap, _∙_}
 use mathlib.Core.Logic.{_≢_, _⊎_, inl, inr}

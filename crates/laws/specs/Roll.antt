@@ -1,4 +1,5 @@
--- The roll, of any books and map: offset and size of what the live test finds at each offset, by rising offset.
+-- The roll, of any books and map: offset and size of what the live test finds at each offset, by rising offset. Roll call goes from pool to pool and block to block, and between the
+-- blocks the live test finds nothing.
 -- Assumes nothing.
 use mathlib.Core.Path.{_≡_, refl, sym, ap, ap₂, _∙_}
 use mathlib.Core.Logic.{_≢_}
@@ -26,6 +27,7 @@ unfolding listing
 listing-same f g e o zero = refl
 listing-same f g e o (suc n) = rw (e o, listing-same f g e (suc o) n)
 
+-- nothing is listed where nothing is held
 listing-none : (g : ℕ → ℕ) (o n : ℕ) → ((i : ℕ) → i < n → g (o + i) ≡ 0) → listing g o n ≡ []
 unfolding listing
 listing-none g o zero e = refl
@@ -33,6 +35,7 @@ listing-none g o (suc n) e =
     let z : g o ≡ 0 = ap g (sym (add-zero o)) ∙ e 0 (omega arith) in
     rw z (listing-none g (suc o) n (λ i l. let q : suc o + i ≡ o + suc i = omega arith in ap g q ∙ e (suc i) (omega arith)))
 
+-- the list over m and n offsets is the list over m, then the one over n
 listing-add : (g : ℕ → ℕ) (o m n : ℕ) → listing g o (m + n) ≡ listing g o m ++ listing g (o + m) n
 unfolding listing
 listing-add g o zero n =
@@ -87,6 +90,7 @@ record Holds (g : ℕ → ℕ) (p s : ℕ) (set : ℕ → Bool) : Type 0 where
   high : (x : ℕ) → 48 + capacity s * s ≤ x → x < 4096 → g (4096 * p + x) ≡ 0
 
 module _ {g : ℕ → ℕ} {p s : ℕ} (m : List ℕ) (H : Holds g p s (λ k. isSet m p k)) where
+  -- the bytes of one block are listed as the block, if its bit is set
   one-block : (k : ℕ) → k < capacity s → listing g (4096 * p + 48 + k * s) s ≡ (if isSet m p k then offsetOf p (startOf s k) ∷ s ∷ [] else [])
   unfolding listing
   one-block k l =
@@ -102,6 +106,7 @@ module _ {g : ℕ → ℕ} {p s : ℕ} (m : List ℕ) (H : Holds g p s (λ k. is
       go true = rw (ne-eqb s 0 (omega (arith, H .some)))
       go false = refl
 
+  -- and so n blocks from k on
   blocks-are : (k n : ℕ) → k + n ≤ capacity s → rollBlocks m p s k n ≡ listing g (4096 * p + 48 + k * s) (n * s)
   unfolding rollBlocks
   blocks-are k zero l =
@@ -113,6 +118,7 @@ module _ {g : ℕ → ℕ} {p s : ℕ} (m : List ℕ) (H : Holds g p s (λ k. is
       ap₂ (λ (x y : List ℕ). x ++ y) (sym (one-block k (omega arith))) (blocks-are (suc k) n (omega arith) ∙ ap (λ (x : ℕ). listing g x (n * s)) (sym t))
       ∙ sym (ap (listing g (4096 * p + 48 + k * s)) q ∙ listing-add g (4096 * p + 48 + k * s) s (n * s))
 
+  -- a pool is its first 48 bytes, its blocks and what is left, and nothing is held in the first and the last
   pool-is : rollBlocks m p s 0 (capacity s) ≡ listing g (4096 * p) 4096
   pool-is =
       let z : 4096 * p + 48 + 0 * s ≡ 4096 * p + 48 = omega arith in
@@ -146,6 +152,7 @@ module _ {al : ℕ} (L : Aligned al) (A P : ℕ) (b m : List ℕ) where
         let e : (4096 * p + x) % 4096 ≡ x = omega arith in
         rw (d, e, lt-ltb (4096 * p + x) (memoryLength A P) (omega arith))
 
+    -- a pool of no class holds nothing; one of a class holds the blocks whose bits are set
     no-class : leb c (lastClass al) ≡ false → listing sizeHeld (4096 * p) 4096 ≡ []
     no-class e = listing-none sizeHeld (4096 * p) 4096 (λ i u. at-pool i u ∙ rw e)
 
@@ -176,6 +183,7 @@ module _ {al : ℕ} (L : Aligned al) (A P : ℕ) (b m : List ℕ) where
         go true e = pool-is m (holds e (size-low L c (leb-true c (lastClass al) e)))
         go false e = sym (no-class e)
 
+  -- pool by pool
   pools-roll : (p n : ℕ) → p + n ≤ A * P → rollPools al A b m p n ≡ listing sizeHeld (4096 * p) (n * 4096)
   unfolding rollPools
   pools-roll p zero l = sym (listing-none sizeHeld (4096 * p) 0 (λ i u. absurd (omega arith)))

@@ -88,6 +88,7 @@ module _ {al A P c : ℕ} {h : Heap} {r : Plain} (L : Aligned al) (H : Held al A
           kind = inr (no-live L F p (O .inside) (O .idle));
         }
 
+    -- q is the source by name, and the last two are what the plain heap and the rules make of it
     ask-anew : (q : Source) → planAsk al A P h c ≡ Anew q p → plainAsk al P r c ≡ Anew q p
         → plainAfterAsk al P r c (Anew q p) ≡ newRows c p (withArenas (spentUsable (eqb (free P r a) 1) a us) un mark freed r)
         → spend al A P c (arenaOf al A P c q) (takeFrom al A P c q p h) ≡ heapOf (h .memory) (spentBooks a b₁) (h .map) → Asked al A P h r c
@@ -407,7 +408,7 @@ module _ {al A P c : ℕ} {h : Heap} {r : Plain} (L : Aligned al) (H : Held al A
       idle-o : count r po ≡ 0
       idle-o = idle-away po lpo (away po of-o)
 
-      -- ---- the books, write by write
+      -- ---- the books, write by write: b₂ once the arena is on the usable list, b₄ with its first two words, b₇ with all of them and the pool's class; U₂ and U₇ are what they say
       abbrev b₂ : List ℕ
       b₂ = join arenaLinks usableHead a (leave arenaLinks unusedHead a b)
 

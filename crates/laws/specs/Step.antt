@@ -1,4 +1,5 @@
--- A step that changes pool p of its arena a, and the bit of one block of p: what it has to show, and that the view after it says the rows after it.
+-- A step that changes pool p of its arena a, and the bit of one block of p: what it has to show, and that the view after it says the rows after it. What the view says of the others it
+-- said before, for their words, rows and bytes stand.
 -- Assumes nothing.
 use mathlib.Core.Path.{_≡_, refl, sym, ap, ap₂, _∙_}
 use mathlib.Core.Logic.{_≢_, inl, inr}
@@ -34,7 +35,7 @@ pub record Aside (p a : ℕ) (r r′ : Plain) : Type 0 where
   pub virgins : (y : ℕ) → y ≢ p → r′ .virgin y ≡ r .virgin y
   pub lives : (y : ℕ) → y ≢ p → r′ .live y ≡ r .live y
 
--- ---- the words but for pool p's and arena a's
+-- ---- the words but for pool p's and arena a's; of theirs, those that are always 0 stand too
 pub record Still (p a : ℕ) (U U′ : View) : Type 0 where
   pub heads : (i : ℕ) → U′ .head i ≡ U .head i
   pub pools : (w y : ℕ) → y ≢ p → U′ .pool w y ≡ U .pool w y

@@ -1,4 +1,5 @@
--- What holds after every history of calls from a format that is done: the demands, as theorems.
+-- What holds after every history of calls from a format that is done: the demands, as theorems. Each is read off what holds of the heap at the end (Tied): it is sound, and the ledger has
+-- what it holds.
 -- Assumes nothing.
 use mathlib.Core.Path.{_≡_, refl, sym, ap, ap₂, _∙_}
 use mathlib.Core.Logic.{_≢_, _⊎_}
