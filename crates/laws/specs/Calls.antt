@@ -85,9 +85,6 @@ module _ {al A P : ℕ} {h : Heap} {r : Plain} (L : Aligned al) (S : Sound al A 
   ask-size e = rw (shape-zero S, e)
 
   module _ (low : 1 ≤ n) (high : n ≤ 512) where
-    abbrev pub c : ℕ
-    c = classOf al n
-
     pub ask-done : Asked al A P h r (classOf al n)
     ask-done = ask-any L S (classOf al n) (has-class L n high)
 
@@ -148,7 +145,7 @@ module _ {al A P : ℕ} {h : Heap} {r : Plain} (L : Aligned al) (S : Sound al A 
     pub block-of : LiveAt al A P r o
     block-of = live-rows L S o e
 
-    pub back-done : Backed al A P h r (block-of .pool) (block-of .block)
+    back-done : Backed al A P h r (block-of .pool) (block-of .block)
     back-done = back-any L S (block-of .pool) (block-of .block) (block-of .inside) (block-of .on)
 
     -- what it leaves

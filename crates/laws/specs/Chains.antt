@@ -25,7 +25,7 @@ four : (v : ℕ) → v < 4294967296 → v % 256 + v / 256 % 256 * 256 + v / 6553
 four v h = rw (← div-div-eq-div-mul v 256 256, ← div-div-eq-div-mul v 65536 256, ← div-div-eq-div-mul v 256 256) (omega arith)
 
 -- a link that is put is read again, and the other bytes stand
-pub link-same : (m : List ℕ) (o v : ℕ) → o + 3 < length m → v < 4294967296 → linkAt (putLink o v m) o ≡ v
+link-same : (m : List ℕ) (o v : ℕ) → o + 3 < length m → v < 4294967296 → linkAt (putLink o v m) o ≡ v
 unfolding linkAt putLink
 link-same m o v h l =
     let l₀ : o < length m = omega arith in
@@ -61,7 +61,7 @@ pub block-ends : (s k v : ℕ) → k < v → v ≤ capacity s → startOf s k + 
 block-ends s k v l f = omega (arith, mul-le-mul-right s l, mul-le-mul-right s f, suc-mul k s, div-mul-le-self 4048 s)
 
 -- two blocks of one pool do not meet
-pub blocks-apart : (s n j k : ℕ) → j ≢ k → Clear (offsetOf n (startOf s j)) s (offsetOf n (startOf s k)) s
+blocks-apart : (s n j k : ℕ) → j ≢ k → Clear (offsetOf n (startOf s j)) s (offsetOf n (startOf s k)) s
 blocks-apart s n j k d = go (decLt j k)
   where
     go : Dec (j < k) → Clear (offsetOf n (startOf s j)) s (offsetOf n (startOf s k)) s
@@ -96,7 +96,7 @@ abbrev pub among : ℕ → List ℕ → Bool
 among k [] = false
 among k (j ∷ js) = eqb k j || among k js
 
-pub among-not : (k : ℕ) (ks : List ℕ) → Not k ks → among k ks ≡ false
+among-not : (k : ℕ) (ks : List ℕ) → Not k ks → among k ks ≡ false
 among-not k [] n = refl
 among-not k (j ∷ js) n = rw (ne-eqb k j (n .0)) (among-not k js (n .1))
 
@@ -172,7 +172,7 @@ module _ {s n : ℕ} {m : List ℕ} {free next : ℕ} {live : ℕ → Bool} {cha
       }
 
   -- only the bytes of the first four of block k may differ, where k is not on the chain
-  pub written : (m′ : List ℕ) (k : ℕ) → 4 ≤ s → Not k chain → ((i : ℕ) → Outside (offsetOf n (startOf s k)) 4 i → at m′ i ≡ at m i)
+  written : (m′ : List ℕ) (k : ℕ) → 4 ≤ s → Not k chain → ((i : ℕ) → Outside (offsetOf n (startOf s k)) 4 i → at m′ i ≡ at m i)
       → Blocks s n m′ free next live chain virgin
   written m′ k l d same =
       framed m′ (all-map {R = λ j. linkAt m′ (offsetOf n (startOf s j)) ≡ linkAt m (offsetOf n (startOf s j))}

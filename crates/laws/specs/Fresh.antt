@@ -86,7 +86,7 @@ module _ (A P : ℕ) where
   length-heads : length heads ≡ 72
   length-heads = refl
 
-  pub length-fresh : length (freshBooks A P) ≡ 72 + 8 * A + 8 * (A * P)
+  length-fresh : length (freshBooks A P) ≡ 72 + 8 * A + 8 * (A * P)
   unfolding freshBooks
   length-fresh =
       omega (arith, length-append heads records, length-heads, length-append (freshArenas 0 A) (freshPools (A * P)), length-arenas 0 A, length-pools (A * P))
@@ -95,15 +95,15 @@ module _ (A P : ℕ) where
   unfolding freshBooks
   head-word i l = List·getD-append heads records 0 i (rw length-heads l)
 
-  pub first-words : (at (freshBooks A P) 0 ≡ A) × (at (freshBooks A P) 1 ≡ P) × (at (freshBooks A P) 2 ≡ 0) × (at (freshBooks A P) 3 ≡ 1)
+  first-words : (at (freshBooks A P) 0 ≡ A) × (at (freshBooks A P) 1 ≡ P) × (at (freshBooks A P) 2 ≡ 0) × (at (freshBooks A P) 3 ≡ 1)
   first-words = (head-word 0 (omega arith), head-word 1 (omega arith), head-word 2 (omega arith), head-word 3 (omega arith))
 
-  pub other-heads : (i : ℕ) → 4 ≤ i → i < 72 → at (freshBooks A P) i ≡ 0
+  other-heads : (i : ℕ) → 4 ≤ i → i < 72 → at (freshBooks A P) i ≡ 0
   other-heads i u v =
       let e : i ≡ suc (suc (suc (suc (i - 4)))) = omega arith in
       head-word i v ∙ ap (at heads) e ∙ getD-replicate 68 (i - 4) 0 0 (omega arith)
 
-  pub arena-word : (w a : ℕ) → w < 8 → a < A
+  arena-word : (w a : ℕ) → w < 8 → a < A
       → at (freshBooks A P) (arenaWord w a) ≡ (if eqb w 4 then (if eqb (A - suc a) 0 then 0 else linkTo (0 + a + 1)) else if eqb w 5 then 0 + a else 0)
   unfolding freshBooks
   arena-word w a u l =
@@ -113,7 +113,7 @@ module _ (A P : ℕ) where
       ∙ List·getD-append (freshArenas 0 A) (freshPools (A * P)) 0 (8 * a + w) (omega (arith, length-arenas 0 A))
       ∙ arena-words 0 A a w l u
 
-  pub pool-word : (w n : ℕ) → w < 8 → n < A * P → at (freshBooks A P) (poolWord A w n) ≡ (if eqb w 4 then noClass else 0)
+  pool-word : (w n : ℕ) → w < 8 → n < A * P → at (freshBooks A P) (poolWord A w n) ≡ (if eqb w 4 then noClass else 0)
   unfolding freshBooks
   pool-word w n u l =
       let e : poolWord A w n ≡ 72 + (8 * A + (8 * n + w)) = omega arith in

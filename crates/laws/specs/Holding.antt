@@ -98,7 +98,7 @@ module _ {al A P : ℕ} {h : Heap} {r : Plain} (L : Aligned al) (S : Sound al A 
     pub start-at : o % 4096 ≡ startOf (liveSize t) (t .block)
     start-at = omega (arith, t .place, live-ends t, low)
 
-    pub number-at : blockNo (liveSize t) (o % 4096) ≡ t .block
+    number-at : blockNo (liveSize t) (o % 4096) ≡ t .block
     number-at = ap (blockNo (liveSize t)) start-at ∙ number-is (liveSize t) (t .block) (omega (arith, low))
 
     pub class-is : classAt A (h .books) o ≡ r .class (t .pool)

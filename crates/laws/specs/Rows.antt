@@ -49,15 +49,15 @@ all-every f [] = tt
 all-every f (x ∷ xs) = (f x, all-every f xs)
 
 module _ (Q : ℕ → Type 0) where
-  pub all-left : (xs ys : List ℕ) → All Q (xs ++ ys) → All Q xs
+  all-left : (xs ys : List ℕ) → All Q (xs ++ ys) → All Q xs
   all-left [] ys a = tt
   all-left (x ∷ xs) ys a = (a .0, all-left xs ys (a .1))
 
-  pub all-right : (xs ys : List ℕ) → All Q (xs ++ ys) → All Q ys
+  all-right : (xs ys : List ℕ) → All Q (xs ++ ys) → All Q ys
   all-right [] ys a = a
   all-right (x ∷ xs) ys a = all-right xs ys (a .1)
 
-  pub all-join : (xs ys : List ℕ) → All Q xs → All Q ys → All Q (xs ++ ys)
+  all-join : (xs ys : List ℕ) → All Q xs → All Q ys → All Q (xs ++ ys)
   all-join [] ys a b = b
   all-join (x ∷ xs) ys a b = (a .0, all-join xs ys (a .1) b)
 
@@ -80,7 +80,7 @@ erase-not : (x : ℕ) (xs : List ℕ) → Not x xs → erase x xs ≡ xs
 erase-not x [] n = refl
 erase-not x (y ∷ ys) n = rw (ne-eqb x y (n .0), erase-not x ys (n .1))
 
-pub erase-split : (x : ℕ) (pre post : List ℕ) → Once (pre ++ x ∷ post) → erase x (pre ++ x ∷ post) ≡ pre ++ post
+erase-split : (x : ℕ) (pre post : List ℕ) → Once (pre ++ x ∷ post) → erase x (pre ++ x ∷ post) ≡ pre ++ post
 erase-split x [] post o = rw (eq-eqb x x refl) (erase-not x post (o .0))
 erase-split x (y ∷ pre) post o =
     let n : y ≢ x = all-right (λ z. y ≢ z) pre (x ∷ post) (o .0) .0 in

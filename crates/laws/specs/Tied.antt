@@ -41,6 +41,34 @@ pub record Tied (al : ℕ) (m₀ : List ℕ) (x : State) : Type 0 where
   pub tie : (o : ℕ) → x .ledger o ≡ holding al A P (x .heap) o
   pub first : (i : ℕ) → i % 4096 < 48 → at (x .heap .memory) i ≡ at m₀ i
 
+-- ---- format
+module _ {al : ℕ} (L : Aligned al) where
+  -- a fresh heap is tied to the empty ledger
+  fresh-tied : (m m₁ : List ℕ) (A P : ℕ) → inRange A P ≡ true → length m ≡ memoryLength A P → ((i : ℕ) → i % 4096 < 48 → at m i ≡ at m₁ i)
+      → Tied al m₁ (record { heap = heapOf m (freshBooks A P) (replicate (mapLength A P) 0); ledger = λ o. [] })
+  fresh-tied m m₁ A P e l f =
+      record { A = A; P = P; rows = fresh A; sound = S; tie = λ o. sym (dead-holding al A P (heapOf m (freshBooks A P) (replicate (mapLength A P) 0)) o (dark o)); first = f }
+    where
+      S : Sound al A P (heapOf m (freshBooks A P) (replicate (mapLength A P) 0)) (fresh A)
+      S = fresh-sound al A P L m e l
+
+      dark : (o : ℕ) → live al A P (freshBooks A P) (replicate (mapLength A P) 0) o ≡ false
+      dark o = is-false (live al A P (freshBooks A P) (replicate (mapLength A P) 0) o) (λ z. false≢true (live-rows L S o z .on))
+
+  -- a first format that is done, over any buffers
+  pub first-format : (h : Heap) (A P : ℕ) → format h A P .answer .number ≡ 0 → Tied al (h .memory) (record { heap = format h A P .heap; ledger = λ o. [] })
+  unfolding format fitNumber
+  first-format h A P ok = go (inRange A P) (exact A P h) refl refl ok
+    where
+      Q : Outcome → Type 0
+      Q y = y .answer .number ≡ 0 → Tied al (h .memory) (record { heap = y .heap; ledger = λ o. [] })
+
+      go : (t u : Bool) → inRange A P ≡ t → exact A P h ≡ u
+          → Q (passing (if not t then 1 else if not u then 2 else 0) (λ k. refused k h) (done 0 (heapOf (h .memory) (freshBooks A P) (replicate (mapLength A P) 0))))
+      go false u e f z = absurd (omega arith)
+      go true false e f z = absurd (omega arith)
+      go true true e f z = fresh-tied (h .memory) (h .memory) A P e (shaped h A P e f .memory) (λ i u. refl)
+
 -- ---- one event
 -- its number is not 6, and the state after it is tied
 abbrev Good : ℕ → List ℕ → ℕ → State → Type 0
@@ -214,18 +242,6 @@ module _ {al : ℕ} (L : Aligned al) (m₀ : List ℕ) where
       by-size (inr e) = rw (resize-size L S o n e) (same T 3 refl (omega arith) (x .ledger))
       by-size (inl t) = by-live (t .0) (t .1) (live al (T .A) (T .P) (h .books) (h .map) o) refl
 
-  -- a fresh heap is tied to the empty ledger
-  fresh-tied : (m : List ℕ) (m₁ : List ℕ) (A P : ℕ) → inRange A P ≡ true → length m ≡ memoryLength A P → ((i : ℕ) → i % 4096 < 48 → at m i ≡ at m₁ i)
-      → Tied al m₁ (record { heap = heapOf m (freshBooks A P) (replicate (mapLength A P) 0); ledger = λ o. [] })
-  fresh-tied m m₁ A P e l f =
-      record { A = A; P = P; rows = fresh A; sound = S; tie = λ o. sym (dead-holding al A P (heapOf m (freshBooks A P) (replicate (mapLength A P) 0)) o (dark o)); first = f }
-    where
-      S : Sound al A P (heapOf m (freshBooks A P) (replicate (mapLength A P) 0)) (fresh A)
-      S = fresh-sound al A P L m e l
-
-      dark : (o : ℕ) → live al A P (freshBooks A P) (replicate (mapLength A P) 0) o ≡ false
-      dark o = is-false (live al A P (freshBooks A P) (replicate (mapLength A P) 0) o) (λ z. false≢true (live-rows L S o z .on))
-
   -- a format that is done leaves a fresh heap, and an empty ledger
   step-format : {x : State} → Tied al m₀ x → (A P : ℕ) → Good al m₀ (numberOf al x (formats A P)) (after al x (formats A P))
   unfolding numberOf after format fitNumber
@@ -238,7 +254,7 @@ module _ {al : ℕ} (L : Aligned al) (m₀ : List ℕ) where
           → Q (passing (if not t then 1 else if not u then 2 else 0) (λ k. refused k (x .heap)) (done 0 (heapOf (x .heap .memory) (freshBooks A P) (replicate (mapLength A P) 0))))
       go false u e f = same T 1 refl (omega arith) (x .ledger)
       go true false e f = same T 2 refl (omega arith) (x .ledger)
-      go true true e f = ((omega arith), fresh-tied (x .heap .memory) m₀ A P e (shaped (x .heap) A P e f .memory) (T .first))
+      go true true e f = ((omega arith), fresh-tied L (x .heap .memory) m₀ A P e (shaped (x .heap) A P e f .memory) (T .first))
 
   -- view and roll call never give 6
   view-number : {x : State} → Tied al m₀ x → (o : ℕ) → viewSize al (x .heap) o .number ≢ 6
@@ -274,20 +290,3 @@ module _ {al : ℕ} (L : Aligned al) (m₀ : List ℕ) where
   unfolding run
   tied T [] = (tt, T)
   tied T (e ∷ es) = let s = step T e in let t = tied (s .1) es in ((s .0, t .0), t .1)
-
-  -- a first format that is done, over any buffers
-  pub begins-tied : (h : Heap) (A P : ℕ) → format h A P .answer .number ≡ 0 → Tied al (h .memory) (record { heap = format h A P .heap; ledger = λ o. [] })
-  unfolding format fitNumber
-  begins-tied h A P ok = go (inRange A P) (exact A P h) refl refl ok
-    where
-      Q : Outcome → Type 0
-      Q y = y .answer .number ≡ 0 → Tied al (h .memory) (record { heap = y .heap; ledger = λ o. [] })
-
-      go : (t u : Bool) → inRange A P ≡ t → exact A P h ≡ u
-          → Q (passing (if not t then 1 else if not u then 2 else 0) (λ k. refused k h) (done 0 (heapOf (h .memory) (freshBooks A P) (replicate (mapLength A P) 0))))
-      go false u e f z = absurd (omega arith)
-      go true false e f z = absurd (omega arith)
-      go true true e f z = fresh-tied (h .memory) (h .memory) A P e (shaped h A P e f .memory) (λ i u. refl)
-
-pub first-format : {al : ℕ} → Aligned al → (h : Heap) (A P : ℕ) → format h A P .answer .number ≡ 0 → Tied al (h .memory) (record { heap = format h A P .heap; ledger = λ o. [] })
-first-format L h A P ok = begins-tied L (h .memory) h A P ok

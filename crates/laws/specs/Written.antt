@@ -58,7 +58,7 @@ module _ {al A P : ℕ} {h : Heap} {r : Plain} (L : Aligned al) (S : Sound al A 
       off (no q) = all-every {Q = λ k. t .pool ≡ n → t .block ≢ k} (λ k e. absurd (q e)) chain
 
   -- a holder's bytes keep the heap sound, and its rows
-  pub written-sound : Sound al A P (heapOf m′ (h .books) (h .map)) r
+  written-sound : Sound al A P (heapOf m′ (h .books) (h .map)) r
   written-sound = sound {h = heapOf m′ (h .books) (h .map)} L (H .books) F′
     where
       F : Says al A P (H .view) (h .memory) (h .map) r
