@@ -48,21 +48,15 @@ pub all-every : {Q : ℕ → Type 0} (f : (y : ℕ) → Q y) (xs : List ℕ) →
 all-every f [] = tt
 all-every f (x ∷ xs) = (f x, all-every f xs)
 
+-- of x in its place, and of the others
 module _ (Q : ℕ → Type 0) where
-  all-left : (xs ys : List ℕ) → All Q (xs ++ ys) → All Q xs
-  all-left [] ys a = tt
-  all-left (x ∷ xs) ys a = (a .0, all-left xs ys (a .1))
-
-  all-right : (xs ys : List ℕ) → All Q (xs ++ ys) → All Q ys
-  all-right [] ys a = a
-  all-right (x ∷ xs) ys a = all-right xs ys (a .1)
-
-  all-join : (xs ys : List ℕ) → All Q xs → All Q ys → All Q (xs ++ ys)
-  all-join [] ys a b = b
-  all-join (x ∷ xs) ys a b = (a .0, all-join xs ys (a .1) b)
+  all-at : (x : ℕ) (xs ys : List ℕ) → All Q (xs ++ x ∷ ys) → Q x
+  all-at x [] ys a = a .0
+  all-at x (y ∷ xs) ys a = all-at x xs ys (a .1)
 
   pub all-drop : (x : ℕ) (xs ys : List ℕ) → All Q (xs ++ x ∷ ys) → All Q (xs ++ ys)
-  all-drop x xs ys a = all-join xs ys (all-left xs (x ∷ ys) a) (all-right xs (x ∷ ys) a .1)
+  all-drop x [] ys a = a .1
+  all-drop x (y ∷ xs) ys a = (a .0, all-drop x xs ys (a .1))
 
 -- ---- a member in its place
 pub record Split (x : ℕ) (xs : List ℕ) : Type 0 where
@@ -76,6 +70,7 @@ split x (y ∷ ys) (inr i) =
     let s : Split x ys = split x ys i in
     record { pre = y ∷ s .pre; post = s .post; is = ap (λ (l : List ℕ). y ∷ l) (s .is) }
 
+-- erased, the row is what stands before it and behind it, each once
 erase-not : (x : ℕ) (xs : List ℕ) → Not x xs → erase x xs ≡ xs
 erase-not x [] n = refl
 erase-not x (y ∷ ys) n = rw (ne-eqb x y (n .0), erase-not x ys (n .1))
@@ -83,13 +78,12 @@ erase-not x (y ∷ ys) n = rw (ne-eqb x y (n .0), erase-not x ys (n .1))
 erase-split : (x : ℕ) (pre post : List ℕ) → Once (pre ++ x ∷ post) → erase x (pre ++ x ∷ post) ≡ pre ++ post
 erase-split x [] post o = rw (eq-eqb x x refl) (erase-not x post (o .0))
 erase-split x (y ∷ pre) post o =
-    let n : y ≢ x = all-right (λ z. y ≢ z) pre (x ∷ post) (o .0) .0 in
+    let n : y ≢ x = all-at (λ z. y ≢ z) x pre post (o .0) in
     rw (ne-eqb x y (flip n)) (ap (λ (l : List ℕ). y ∷ l) (erase-split x pre post (o .1)))
 
 pub erase-is : (x : ℕ) (xs : List ℕ) (s : Split x xs) → Once xs → erase x xs ≡ s .pre ++ s .post
 erase-is x xs s o = ap (erase x) (s .is) ∙ erase-split x (s .pre) (s .post) (rw (s .is) at o)
 
--- the front is erased
 pub erase-front : (x : ℕ) (xs : List ℕ) → Once (x ∷ xs) → erase x (x ∷ xs) ≡ xs
 erase-front x xs o = erase-split x [] xs o
 
@@ -101,12 +95,11 @@ in-drop x y (z ∷ pre) post n (inr i) = inr (in-drop x y pre post n i)
 
 once-drop : (x : ℕ) (pre post : List ℕ) → Once (pre ++ x ∷ post) → Once (pre ++ post)
 once-drop x [] post o = o .1
-once-drop x (b ∷ pre) post o =
-    (all-drop (λ y. b ≢ y) x pre post (o .0), once-drop x pre post (o .1))
+once-drop x (b ∷ pre) post o = (all-drop (λ y. b ≢ y) x pre post (o .0), once-drop x pre post (o .1))
 
 pub once-gone : (x : ℕ) (pre post : List ℕ) → Once (pre ++ x ∷ post) → Not x (pre ++ post)
 once-gone x [] post o = o .0
-once-gone x (y ∷ pre) post o = (flip (all-right (λ z. y ≢ z) pre (x ∷ post) (o .0) .0), once-gone x pre post (o .1))
+once-gone x (y ∷ pre) post o = (flip (all-at (λ z. y ≢ z) x pre post (o .0)), once-gone x pre post (o .1))
 
 -- ---- doubly linked rows
 -- from the link k, with the link p behind it, exactly xs is met
@@ -216,7 +209,7 @@ module _ {next prev next′ prev′ : ℕ → ℕ} {x h h′ : ℕ} (l : Left x 
       (all-map (λ y (n : x ≢ y). l .prev-same y (flip n)) post (o .0))
       (o .1) (s .1 .1))
   leave-seg (b ∷ pre) k k′ p f g a o s =
-      let other : b ≢ x = all-right (λ y. b ≢ y) pre (x ∷ post) (o .0) .0 in (
+      let other : b ≢ x = all-at (λ y. b ≢ y) x pre post (o .0) in (
         g (seg-prev next prev x post pre (next b) (suc b) p (a .1) (a .0) (s .1 .1)) ∙ s .0,
         (
           l .prev-same b other (λ e. next-in (λ y. b ≢ y) next prev x pre post (next b) (suc b) (o .0) (s .1 .1) b e refl) ∙ s .1 .0,
