@@ -253,7 +253,8 @@ module _ {al A P p j i : ℕ} {h : Heap} {r : Plain} {is : List ℕ} (G : Given 
       let v : previousAt arenaLinks a ≡ arenaWord 5 a = omega arith in
       let t = member-links (K .lists) 2 (omega arith) a la usable-a in
       backed Releases r′
-      (emptying-is Releases (rw (eq-eqb (free P r a + 1) P all, v, n, le-leb (arena b 4 a) A (t .0), le-leb (arena b 5 a) A (t .1), le-leb (at b unusedHead) A (head-link (K .lists) 3 (omega arith)))))
+      (emptying-is Releases
+      (rw (eq-eqb (free P r a + 1) P all, v, n, le-leb (arena b 4 a) A (t .0), le-leb (arena b 5 a) A (t .1), le-leb (at b unusedHead) A (head-link (K .lists) 3 (omega arith)))))
       (rw (chn, last, eq-eqb (free P r a + 1) P all)) refl
       (sound {h = h′} L K₈ F′) (quiet-link L F′ p j (pool A b freeblock p) (I G .class-low) (j-low G) (dead-after G))
     where

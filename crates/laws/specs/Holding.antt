@@ -28,7 +28,7 @@ use Rattle.laws.specs.Bytes.{part-long, part-same}
 unfoldable pub holding : ℕ → ℕ → ℕ → Heap → ℕ → List ℕ
 holding al A P h o = if live al A P (h .books) (h .map) o then part o (sizeAt al A (h .books) o) (h .memory) else []
 
--- ---- the rows have block k of pool p live, at offset o
+-- ---- the rows have a live block at offset o: which block of which pool
 pub record LiveAt (al A P : ℕ) (r : Plain) (o : ℕ) : Type 0 where
   pub pool : ℕ
   pub block : ℕ

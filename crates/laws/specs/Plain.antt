@@ -66,31 +66,40 @@ rest (x ∷ xs) = xs
 
 -- ---- changes
 abbrev pub setUsable : List ℕ → Plain → Plain
-setUsable xs r = record { usable = xs; unused = r .unused; mark = r .mark; freed = r .freed; listed = r .listed; class = r .class; chain = r .chain; virgin = r .virgin; live = r .live }
+setUsable xs r =
+    record { usable = xs; unused = r .unused; mark = r .mark; freed = r .freed; listed = r .listed; class = r .class; chain = r .chain; virgin = r .virgin; live = r .live }
 
 abbrev pub setUnused : List ℕ → Plain → Plain
-setUnused xs r = record { usable = r .usable; unused = xs; mark = r .mark; freed = r .freed; listed = r .listed; class = r .class; chain = r .chain; virgin = r .virgin; live = r .live }
+setUnused xs r =
+    record { usable = r .usable; unused = xs; mark = r .mark; freed = r .freed; listed = r .listed; class = r .class; chain = r .chain; virgin = r .virgin; live = r .live }
 
 abbrev pub setMark : ℕ → ℕ → Plain → Plain
-setMark a v r = record { usable = r .usable; unused = r .unused; mark = to a v (r .mark); freed = r .freed; listed = r .listed; class = r .class; chain = r .chain; virgin = r .virgin; live = r .live }
+setMark a v r =
+    record { usable = r .usable; unused = r .unused; mark = to a v (r .mark); freed = r .freed; listed = r .listed; class = r .class; chain = r .chain; virgin = r .virgin; live = r .live }
 
 abbrev pub setFreed : ℕ → List ℕ → Plain → Plain
-setFreed a xs r = record { usable = r .usable; unused = r .unused; mark = r .mark; freed = to a xs (r .freed); listed = r .listed; class = r .class; chain = r .chain; virgin = r .virgin; live = r .live }
+setFreed a xs r =
+    record { usable = r .usable; unused = r .unused; mark = r .mark; freed = to a xs (r .freed); listed = r .listed; class = r .class; chain = r .chain; virgin = r .virgin; live = r .live }
 
 abbrev pub setListed : ℕ → List ℕ → Plain → Plain
-setListed c xs r = record { usable = r .usable; unused = r .unused; mark = r .mark; freed = r .freed; listed = to c xs (r .listed); class = r .class; chain = r .chain; virgin = r .virgin; live = r .live }
+setListed c xs r =
+    record { usable = r .usable; unused = r .unused; mark = r .mark; freed = r .freed; listed = to c xs (r .listed); class = r .class; chain = r .chain; virgin = r .virgin; live = r .live }
 
 abbrev pub setClass : ℕ → ℕ → Plain → Plain
-setClass p v r = record { usable = r .usable; unused = r .unused; mark = r .mark; freed = r .freed; listed = r .listed; class = to p v (r .class); chain = r .chain; virgin = r .virgin; live = r .live }
+setClass p v r =
+    record { usable = r .usable; unused = r .unused; mark = r .mark; freed = r .freed; listed = r .listed; class = to p v (r .class); chain = r .chain; virgin = r .virgin; live = r .live }
 
 abbrev pub setChain : ℕ → List ℕ → Plain → Plain
-setChain p xs r = record { usable = r .usable; unused = r .unused; mark = r .mark; freed = r .freed; listed = r .listed; class = r .class; chain = to p xs (r .chain); virgin = r .virgin; live = r .live }
+setChain p xs r =
+    record { usable = r .usable; unused = r .unused; mark = r .mark; freed = r .freed; listed = r .listed; class = r .class; chain = to p xs (r .chain); virgin = r .virgin; live = r .live }
 
 abbrev pub setVirgin : ℕ → ℕ → Plain → Plain
-setVirgin p v r = record { usable = r .usable; unused = r .unused; mark = r .mark; freed = r .freed; listed = r .listed; class = r .class; chain = r .chain; virgin = to p v (r .virgin); live = r .live }
+setVirgin p v r =
+    record { usable = r .usable; unused = r .unused; mark = r .mark; freed = r .freed; listed = r .listed; class = r .class; chain = r .chain; virgin = to p v (r .virgin); live = r .live }
 
 abbrev pub setLive : ℕ → ℕ → Bool → Plain → Plain
-setLive p k d r = record { usable = r .usable; unused = r .unused; mark = r .mark; freed = r .freed; listed = r .listed; class = r .class; chain = r .chain; virgin = r .virgin; live = to p (to k d (r .live p)) (r .live) }
+setLive p k d r =
+    record { usable = r .usable; unused = r .unused; mark = r .mark; freed = r .freed; listed = r .listed; class = r .class; chain = r .chain; virgin = r .virgin; live = to p (to k d (r .live p)) (r .live) }
 
 -- ---- format: every arena is closed and unused, in rising order
 -- k numbers from i on

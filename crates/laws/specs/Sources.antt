@@ -264,12 +264,14 @@ module _ {al A P c : ℕ} {h : Heap} {r : Plain} (L : Aligned al) (H : Held al A
               ly : a * P + i < A * P
               ly = omega (arith, mul-le-mul-right P la, suc-mul a P)
 
+              freed-at : count r (a * P + i) ≡ 0 → U .home (a * P + i) ≡ arenaWord freedHead a
+              freed-at z =
+                  let cv : carved P r (a * P + i) ≡ true = rw (digits-div a u, digits-mod a u) (lt-ltb i (r .mark a) (omega arith)) in
+                  F .pools (a * P + i) ly .home-is ∙ home-freed al P r (a * P + i) z cv ∙ ap (arenaWord freedHead) (digits-div a u)
+
               pick : Dec (0 < count r (a * P + i)) → not (inUse r (a * P + i)) ≡ false
               pick (yes t) = rw (lt-ltb 0 (count r (a * P + i)) t)
-              pick (no t) =
-                  let cv : carved P r (a * P + i) ≡ true = rw (digits-div a u, digits-mod a u) (lt-ltb i (r .mark a) (omega arith)) in
-                  let hm : U .home (a * P + i) ≡ arenaWord freedHead a = F .pools (a * P + i) ly .home-is ∙ home-freed al P r (a * P + i) (omega arith) cv ∙ ap (arenaWord freedHead) (digits-div a u) in
-                  absurd (rw (F .lists .freed a la ∙ fr) at (K .freed .all a la (a * P + i) ly hm))
+              pick (no t) = absurd (rw (F .lists .freed a la ∙ fr) at (K .freed .all a la (a * P + i) ly (freed-at (omega arith))))
 
       lpm : pm < A * P
       lpm = omega (arith, mul-le-mul-right P la, suc-mul a P, mark-room)
