@@ -14,15 +14,14 @@ use borrow.Author.Tests.{eq-eqb, ne-eqb, le-leb, lt-leb, lt-ltb, le-ltb}
 use Rattle.rules.specs.declared.AskPlan.{AskPlan}
 use Rattle.rules.specs.declared.AskPlan.the-variants.{Follow, Ready, Last}
 use Rattle.rules.specs.Say.{if_then_else_, _▷_}
-use Rattle.rules.specs.Books.{Heap, at, putMapBit, classHead, poolWord, pool, none?, offsetOf}
+use Rattle.rules.specs.Books.{Heap, at, putMapBit, classHead, pool, none?, offsetOf}
 use Rattle.rules.specs.Blocks.{sizeOf, lastClass, startOf, lastStart, blockNo, capacity, linkAt}
-use Rattle.rules.specs.Lists.{nextAt, previousAt, poolLinks}
 use Rattle.rules.specs.Ask.{planAsk, spare, fromListed, fromFreeblock, noLink, afterAsk, askAnswer}
 use Rattle.books.specs.Starts.{start-is, number-is}
 use Rattle.laws.specs.Update.{to, to-other, to-cong}
 use Rattle.laws.specs.Rows.{erase}
-use Rattle.laws.specs.Families.{At, member-links}
-use Rattle.laws.specs.Books.{View, Books, put-pool, pool-leaves, poolTo, homeTo, listedTo}
+use Rattle.laws.specs.Families.{At}
+use Rattle.laws.specs.Books.{View, Books, put-pool, pool-may-leave, pool-leaves, poolTo, homeTo, listedTo}
 use Rattle.laws.specs.Plain.{Plain, count, carved, setChain, setLive, setVirgin, setListed}
 use Rattle.laws.specs.Counting.{many-has}
 use Rattle.laws.specs.Sizes.{Aligned, size-low, size-high, capacity-high}
@@ -258,13 +257,8 @@ module _ {al A P p : ℕ} {h : Heap} {r : Plain} {ps : List ℕ} (L : Aligned al
       ask-last : capacity s ≤ r .virgin p → Asked al A P h r c
       unfolding afterAsk noLink askAnswer
       ask-last full =
-          let n : nextAt (poolLinks A) p ≡ poolWord A 2 p = omega arith in
-          let v : previousAt (poolLinks A) p ≡ poolWord A 3 p = omega arith in
-          let t = member-links (K .listed) c lc p lp (member .is) in
           asked (Last p (startOf s k)) r′
-          (listed-first _
-          (rw (no-more, next-is, max-is, free-is, lt-leb (startOf s (r .virgin p)) (lastStart s) past, v, n, le-leb (pool A b 2 p) (A * P) (t .0), le-leb (pool A b 3 p) (A * P) (t .1)))
-          (rw no-more))
+          (listed-first _ (rw (no-more, next-is, max-is, free-is, lt-leb (startOf s (r .virgin p)) (lastStart s) past, pool-may-leave K c p lc lp (member .is))) (rw no-more))
           (rw (lst, chn, none, le-ltb (r .virgin p) (capacity s) full)) (rw chn)
           (sound {h = h′} L K′ F′) (quiet-same {r = r′}) (λ _. hand-out p k lp k-low refl k-dead refl refl)
         where

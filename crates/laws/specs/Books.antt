@@ -2,7 +2,7 @@
 -- Assumes nothing.
 use mathlib.Core.Path.{_≡_, refl, sym, ap, _∙_, subst}
 use mathlib.Core.Logic.{_≢_, Ne·symm as flip}
-use mathlib.Core.Bool.{_&&_}
+use mathlib.Core.Bool.{true, _&&_}
 use mathlib.Core.List.{List, [], _∷_}
 use Prim.Native.Nat.{ℕ, suc, _+_, _*_, _<_, _≤_}
 use native.Mathlib.Decide.{ℕ-discrete}
@@ -10,10 +10,10 @@ use native.Mathlib.Omega.{arith}
 use lib.Dec.{eqb}
 use lib.ListN.{length, set, length-set}
 use lib.Seq.{getD-set-same, getD-set-other, lt-length-set, set-comm}
-use borrow.Author.Tests.{eq-eqb, ne-eqb}
+use borrow.Author.Tests.{eq-eqb, ne-eqb, le-leb}
 use Rattle.rules.specs.Say.{if_then_else_, _▷_}
 use Rattle.rules.specs.Books.{at, put, classHead, freedHead, arenaNext, arenaPrevious, arenaWord, arena, poolNext, poolPrevious, poolWord, pool, linkTo}
-use Rattle.rules.specs.Lists.{leave, join, arenaLinks, poolLinks}
+use Rattle.rules.specs.Lists.{nextAt, previousAt, leave, join, mayLeave, arenaLinks, poolLinks}
 use Rattle.laws.specs.Update.{to, to-same, to-other}
 use Rattle.laws.specs.Rows.{All, Not, In, erase, erase-front, all-map, all-every}
 use Rattle.laws.specs.Linked.{Doubly, Singly, joined, left, leave-is, join-is, joined-other, left-other, joined-length, left-length, left-own, LinksSame, singly-same, singly-comes, singly-goes}
@@ -221,7 +221,14 @@ module _ {A N : ℕ} {b : List ℕ} {U : View} (K : Books A N b U) (c p : ℕ) (
   apart : Apart (poolWord A 2) (poolWord A 3) (λ c. c < 64) classHead N (length b)
   apart = class-apart A N (length b) (K .words)
 
-  -- "To leave a list"
+  -- "To leave a list": its links may be used, and what is said then
+  pub pool-may-leave : U .home p ≡ classHead c → mayLeave N (poolLinks A) p b ≡ true
+  pool-may-leave e =
+      let n : nextAt (poolLinks A) p ≡ poolWord A 2 p = omega arith in
+      let v : previousAt (poolLinks A) p ≡ poolWord A 3 p = omega arith in
+      let t = member-links (K .listed) c lc p l e in
+      rw (v, n, le-leb (pool A b 2 p) N (t .0), le-leb (pool A b 3 p) N (t .1))
+
   pub pool-leaves : U .home p ≡ classHead c → Books A N (leave (poolLinks A) (classHead c) p b) (U ▷ homeTo p 0 ▷ listedTo c (erase p (U .listed c)))
   pool-leaves e =
       rw (leave-is (poolWord A 2) (poolWord A 3) (poolLinks A) (λ y. omega arith) (λ y. omega arith) (classHead c) p b)
@@ -473,6 +480,13 @@ module _ {A N : ℕ} {b : List ℕ} {U : View} (K : Books A N b U) (h a : ℕ) (
   heads-apart = head-apart A N (length b) (K .words)
 
   -- "To leave a list"
+  pub arena-may-leave : U .base a ≡ h → mayLeave A arenaLinks a b ≡ true
+  arena-may-leave e =
+      let n : nextAt arenaLinks a ≡ arenaWord 4 a = omega arith in
+      let v : previousAt arenaLinks a ≡ arenaWord 5 a = omega arith in
+      let t = member-links (K .lists) h hh a la e in
+      rw (v, n, le-leb (arena b 4 a) A (t .0), le-leb (arena b 5 a) A (t .1))
+
   pub arena-leaves : U .base a ≡ h → Books A N (leave arenaLinks h a b) (U ▷ baseTo a 0 ▷ arenasTo h (erase a (U .arenas h)))
   arena-leaves e =
       let links = member-links (K .lists) h hh a la e in

@@ -17,14 +17,14 @@ use Rattle.rules.specs.declared.BackPlan.the-variants.{Empties, Returns, Releas
 use Rattle.rules.specs.Say.{if_then_else_, _▷_}
 use Rattle.rules.specs.Books.{Heap, at, put, putMapBit, usableHead, unusedHead, classHead, freedHead, arenaWord, arena, freeblock, poolWord, pool}
 use Rattle.rules.specs.Blocks.{sizeOf, startOf, blockNo}
-use Rattle.rules.specs.Lists.{nextAt, previousAt, leave, join, mayLeave, mayJoin, arenaLinks, poolLinks}
+use Rattle.rules.specs.Lists.{leave, join, mayLeave, mayJoin, arenaLinks, poolLinks}
 use Rattle.rules.specs.GiveBack.{_⇛_, planBack, emptying, afterBack}
 use Rattle.books.specs.Starts.{start-is, number-is}
 use Rattle.books.specs.Known.{in-range}
 use Rattle.laws.specs.Update.{to, to-same, to-other, to-cong}
 use Rattle.laws.specs.Rows.{erase}
-use Rattle.laws.specs.Families.{member-links, head-link, stack-link}
-use Rattle.laws.specs.Books.{View, Books, put-arena, pool-leaves, freed-comes, freed-cleared, arena-leaves, arena-joins, arenaTo, homeTo, baseTo, listedTo, freedTo, arenasTo, freedNone}
+use Rattle.laws.specs.Families.{head-link, stack-link}
+use Rattle.laws.specs.Books.{View, Books, put-arena, pool-may-leave, pool-leaves, freed-comes, freed-cleared, arena-may-leave, arena-leaves, arena-joins, arenaTo, homeTo, baseTo, listedTo, freedTo, arenasTo, freedNone}
 use Rattle.laws.specs.Plain.{Plain, count, inUse, carved, free, setChain, setLive, setListed, setFreed, setUsable, setUnused, setMark}
 use Rattle.laws.specs.Counting.{many-more, many-le, all-many, none-many}
 use Rattle.laws.specs.Sizes.{Aligned, capacity-high, capacity-low}
@@ -115,19 +115,13 @@ module _ {al A P p j i : ℕ} {h : Heap} {r : Plain} {is : List ℕ} (G : Given 
       → planBack al A P b c p ≡ q
   unfolding emptying
   emptying-is q e =
-      let n : nextAt (poolLinks A) p ≡ poolWord A 2 p = omega arith in
-      let v : previousAt (poolLinks A) p ≡ poolWord A 3 p = omega arith in
-      let t = member-links (K .listed) c (c-low G) p lp home-p in
       tested G q (startOf (sizeOf al c) i) (free-is G ∙ C .chained .0)
       (rw (ne-eqb (startOf (sizeOf al c) i) 0 (omega arith), start-is (sizeOf al c) i (omega (arith, C .below .0, C .fits))))
       (rw (
         ne-eqb (startOf (sizeOf al c) i) 0 (omega arith),
         count-is G,
         last,
-        v,
-        n,
-        le-leb (pool A b 2 p) (A * P) (t .0),
-        le-leb (pool A b 3 p) (A * P) (t .1),
+        pool-may-leave K c p (c-low G) lp home-p,
         le-leb (arena b freedHead a) (A * P) (stack-link (K .freed) a la),
         le-leb (arena b 2 a) (P - 1) (rw free-word low-free),
         free-word,
@@ -249,12 +243,8 @@ module _ {al A P p j i : ℕ} {h : Heap} {r : Plain} {is : List ℕ} (G : Given 
   back-releases : free P r a + 1 ≡ P → Backed al A P h r p j
   unfolding afterBack
   back-releases all =
-      let n : nextAt arenaLinks a ≡ arenaWord 4 a = omega arith in
-      let v : previousAt arenaLinks a ≡ arenaWord 5 a = omega arith in
-      let t = member-links (K .lists) 2 (omega arith) a la usable-a in
       backed Releases r′
-      (emptying-is Releases
-      (rw (eq-eqb (free P r a + 1) P all, v, n, le-leb (arena b 4 a) A (t .0), le-leb (arena b 5 a) A (t .1), le-leb (at b unusedHead) A (head-link (K .lists) 3 (omega arith)))))
+      (emptying-is Releases (rw (eq-eqb (free P r a + 1) P all, arena-may-leave K 2 a (omega arith) la usable-a, le-leb (at b unusedHead) A (head-link (K .lists) 3 (omega arith)))))
       (rw (chn, last, eq-eqb (free P r a + 1) P all)) refl
       (sound {h = h′} L K₈ F′) (quiet-link L F′ p j (pool A b freeblock p) (I G .class-low) (j-low G) (dead-after G))
     where

@@ -19,7 +19,7 @@ use Rattle.rules.specs.declared.AskPlan.the-variants.{NoRoom, Again, Anew}
 use Rattle.rules.specs.Say.{_▷_}
 use Rattle.rules.specs.Books.{Heap, at, put, usableHead, unusedHead, classHead, carveMark, freePools, freedHead, arenaWord, arena, noClass, poolWord, pool, offsetOf}
 use Rattle.rules.specs.Blocks.{sizeOf, lastClass, startOf, linkAt}
-use Rattle.rules.specs.Lists.{nextAt, previousAt, leave, join, arenaLinks}
+use Rattle.rules.specs.Lists.{leave, join, arenaLinks}
 use Rattle.rules.specs.Outcome.{heapOf}
 use Rattle.rules.specs.Ask.{planAsk, spare, fromUsable, fromFreed, fromMark, fromUnused, counted, setAnew, takeAgain, sameClass, takeFrom, arenaOf, spend, afterAsk, askAnswer}
 use Rattle.books.specs.Starts.{start-is, number-is, first-block, second-block}
@@ -27,8 +27,8 @@ use Rattle.books.specs.Known.{in-range}
 use Rattle.laws.specs.Update.{is-false, to, to-same, to-other, to-cong}
 use Rattle.laws.specs.Rows.{All, erase, erase-front}
 use Rattle.laws.specs.Linked.{Stack}
-use Rattle.laws.specs.Families.{At, inside, member-links}
-use Rattle.laws.specs.Books.{View, Books, put-pool, put-arena, freed-goes, arena-leaves, arena-joins, poolTo, arenaTo, homeTo, baseTo, freedTo, arenasTo}
+use Rattle.laws.specs.Families.{At, inside}
+use Rattle.laws.specs.Books.{View, Books, put-pool, put-arena, freed-goes, arena-may-leave, arena-leaves, arena-joins, poolTo, arenaTo, homeTo, baseTo, freedTo, arenasTo}
 use Rattle.laws.specs.Plain.{Plain, count, inUse, carved, free, setChain, setLive, setListed, setFreed, setMark, planAsk as plainAsk, afterAsk as plainAfterAsk}
 use Rattle.laws.specs.Counting.{many-none, many-all, many-le}
 use Rattle.laws.specs.Sizes.{Aligned, size-low, size-high, capacity-high, capacity-low, class-low}
@@ -122,16 +122,10 @@ module _ {al A P c : ℕ} {h : Heap} {r : Plain} (L : Aligned al) (H : Held al A
     -- the tests of its free pools, and of its links where it will leave
     counted-is : (q : AskPlan) → counted al A P h c a q ≡ q
     counted-is q =
-        let n : nextAt arenaLinks a ≡ arenaWord 4 a = omega arith in
-        let v : previousAt arenaLinks a ≡ arenaWord 5 a = omega arith in
-        let t = member-links (K .lists) 2 (omega arith) a la (front .is) in
         rw (
           le-leb 1 (arena b 2 a) (omega (arith, free-word, open-free .1)),
           le-leb (arena b 2 a) P (rw free-word (many-le (λ i. not (inUse r (a * P + i))) P)),
-          v,
-          n,
-          le-leb (arena b 4 a) A (t .0),
-          le-leb (arena b 5 a) A (t .1),
+          arena-may-leave K 2 a (omega arith) la (front .is),
           or-true,
         )
 
@@ -497,12 +491,9 @@ module _ {al A P c : ℕ} {h : Heap} {r : Plain} (L : Aligned al) (H : Held al A
       ask-open =
           let hd : at b unusedHead ≡ suc a = (rw (F .lists .unused ∙ un) at (K .lists .row 3 (omega arith) .row .walk)) .0 in
           let z : suc a - 1 ≡ a = omega arith in
-          let n : nextAt arenaLinks a ≡ arenaWord 4 a = omega arith in
-          let v : previousAt arenaLinks a ≡ arenaWord 5 a = omega arith in
-          let m = member-links (K .lists) 3 (omega arith) a lo (first .is) in
           let u = spare-two po lpo idle-o in
           ask-anew from-unused (Opened a)
-          (rw (class-empty, no-usable, hd, eqb·suc-zero a, le-leb (suc a) A lo, z, v, n, le-leb (arena b 4 a) A (m .0), le-leb (arena b 5 a) A (m .1), u .0, u .1))
+          (rw (class-empty, no-usable, hd, eqb·suc-zero a, le-leb (suc a) A lo, z, arena-may-leave K 3 a (omega arith) lo (first .is), u .0, u .1))
           (rw (lst, none, un)) (rw (un, ne-eqb (free P r a) 1 (omega (arith, all-free, pools-low)))) (spend-is al A P c a (takeFrom al A P c (Opened a) po h))
 
 -- ---- every ask for a class
