@@ -16,7 +16,7 @@ use Rattle.rules.specs.declared.AskPlan.the-variants.{Follow, Ready, Last}
 use Rattle.rules.specs.Say.{if_then_else_, _▷_}
 use Rattle.rules.specs.Books.{Heap, at, putMapBit, classHead, pool, none?, offsetOf}
 use Rattle.rules.specs.Blocks.{sizeOf, lastClass, startOf, lastStart, blockNo, capacity, linkAt}
-use Rattle.rules.specs.Ask.{planAsk, spare, fromListed, fromFreeblock, noLink, afterAsk, askAnswer}
+use Rattle.rules.specs.Ask.{frontOf, planAsk, spare, fromListed, fromFreeblock, noLink, afterAsk, askAnswer}
 use Rattle.books.specs.Starts.{start-is, number-is}
 use Rattle.laws.specs.Update.{to, to-other, to-cong}
 use Rattle.laws.specs.Rows.{erase}
@@ -30,6 +30,10 @@ use Rattle.laws.specs.Sound.{home, Sound}
 use Rattle.laws.specs.Held.{Says, Held, held, sound, listed-is, home-listed, home-full, InClassOf, classed}
 use Rattle.laws.specs.Step.{BytesAfter, link-after, no-bytes}
 use Rattle.laws.specs.Paths.{quiet-same, quiet-link, hand-out, Asked, asked, count-on, insideRows, insideView, inner}
+
+-- a list whose head is a link to x goes on from x
+pub front-of : {l x most : ℕ} → l ≡ suc x → x < most → (front : ℕ → AskPlan) (otherwise : AskPlan) → frontOf l most front otherwise ≡ front x
+front-of {l} {x} {most} e u front otherwise = let z : suc x - 1 ≡ x = omega arith in rw (e, eqb·suc-zero x, le-leb (suc x) most u, z)
 
 -- past the last block of a pool no other fits
 pub past-last : (s : ℕ) → 8 ≤ s → 4048 < s * capacity s + s
@@ -122,12 +126,7 @@ module _ {al A P p : ℕ} {h : Heap} {r : Plain} {ps : List ℕ} (L : Aligned al
     listed-first : (q : AskPlan) → (if none? link then noLink al A P h c p else Follow p (startOf s k) link) ≡ q → (none? link || spare al A P h c p link) ≡ true → planAsk al A P h c ≡ q
     unfolding planAsk fromListed fromFreeblock
     listed-first q e f =
-        let z : suc p - 1 ≡ p = omega arith in
-        rw (
-          head-is,
-          eqb·suc-zero p,
-          le-leb (suc p) (A * P) lp,
-          z,
+        front-of head-is lp (fromListed al A P h c) _ ∙ rw (
           class-is,
           eq-eqb c c refl,
           max-is,

@@ -4,12 +4,12 @@ use mathlib.Core.Path.{_≡_, refl, sym, ap, ap₂, _∙_, subst}
 use mathlib.Core.Logic.{_≢_, inr}
 use mathlib.Core.Bool.{true, false, not, true≢false, or-true}
 use mathlib.Core.List.{List, [], _∷_}
-use Prim.Native.Nat.{ℕ, suc, _+_, _*_, _-_, _/_, _%_, _≤_, _<_}
+use Prim.Native.Nat.{ℕ, suc, _+_, _*_, _/_, _%_, _≤_, _<_}
 use native.Mathlib.Nat.{div-add-mod', mul-le-mul-right, suc-mul}
 use native.Mathlib.Decide.{ℕ-discrete, decLt}
 use native.Mathlib.Omega.{arith}
 use lib.Arith.{digits-div, digits-mod}
-use lib.Dec.{ltb, eqb, eqb·suc-zero}
+use lib.Dec.{ltb, eqb}
 use lib.ListN.{length}
 use borrow.Author.Tests.{eq-eqb, ne-eqb, le-leb, lt-ltb, le-ltb}
 use Rattle.rules.specs.declared.Source.{Source}
@@ -37,7 +37,7 @@ use Rattle.laws.specs.Sound.{Sound}
 use Rattle.laws.specs.Held.{Held, held, InClassOf, classed, use-class, no-freed, freed-is, usable-is, unused-is, home-freed, home-away, base-usable}
 use Rattle.laws.specs.Paths.{quiet-same, Hand, hand-out, Asked, asked}
 use Rattle.laws.specs.Emptied.{put-zero}
-use Rattle.laws.specs.AskListed.{ask-listed}
+use Rattle.laws.specs.AskListed.{front-of, ask-listed}
 use Rattle.laws.specs.Taken.{no-live, spentBooks, spend-is, spentUsable, spend-rows, withArenas, From, newRows, set-anew, taken-again}
 
 -- ---- a heap, and the wanted class c, whose list is empty
@@ -116,8 +116,7 @@ module _ {al A P c : ℕ} {h : Heap} {r : Plain} (L : Aligned al) (H : Held al A
     unfolding planAsk
     usable-first q e =
         let hd : at b usableHead ≡ suc a = (rw (F .lists .usable ∙ us) at (K .lists .row 2 (omega arith) .row .walk)) .0 in
-        let z : suc a - 1 ≡ a = omega arith in
-        rw (class-empty, hd, eqb·suc-zero a, le-leb (suc a) A la, z) e
+        rw class-empty (front-of hd la (fromUsable al A P h c) _ ∙ e)
 
     -- the tests of its free pools, and of its links where it will leave
     counted-is : (q : AskPlan) → counted al A P h c a q ≡ q
@@ -177,9 +176,8 @@ module _ {al A P c : ℕ} {h : Heap} {r : Plain} (L : Aligned al) (H : Held al A
       unfolding fromUsable fromFreed
       freed-first q e =
           let hd : arena b freedHead a ≡ suc p = (rw row-is at (K .freed .row a la .walk)) .0 in
-          let z : suc p - 1 ≡ p = omega arith in
           let n : pool A b 2 p ≤ A * P = next-low ps (rw row-is at (K .freed .row a la .walk)) (rw row-is at (inside (K .freed) a la)) in
-          usable-first q (rw (hd, eqb·suc-zero p, le-leb (suc p) (A * P) lp, z, le-leb (pool A b 2 p) (A * P) n) (counted-is (takeAgain al A P h c a p) ∙ e))
+          usable-first q (front-of hd lp (fromFreed al A P h c a) _ ∙ rw (le-leb (pool A b 2 p) (A * P) n) (counted-is (takeAgain al A P h c a p) ∙ e))
         where
           next-low : (xs : List ℕ) → Stack (λ n. at b (poolWord A 2 n)) (arena b freedHead a) (p ∷ xs) → All (λ y. y < A * P) (p ∷ xs) → pool A b 2 p ≤ A * P
           next-low [] w i = omega (arith, w .1)
@@ -490,10 +488,9 @@ module _ {al A P c : ℕ} {h : Heap} {r : Plain} (L : Aligned al) (H : Held al A
       unfolding planAsk takeFrom setAnew fromUnused
       ask-open =
           let hd : at b unusedHead ≡ suc a = (rw (F .lists .unused ∙ un) at (K .lists .row 3 (omega arith) .row .walk)) .0 in
-          let z : suc a - 1 ≡ a = omega arith in
           let u = spare-two po lpo idle-o in
           ask-anew from-unused (Opened a)
-          (rw (class-empty, no-usable, hd, eqb·suc-zero a, le-leb (suc a) A lo, z, arena-may-leave K 3 a (omega arith) lo (first .is), u .0, u .1))
+          (rw (class-empty, no-usable) (front-of hd lo (fromUnused al A P h c) _ ∙ rw (arena-may-leave K 3 a (omega arith) lo (first .is), u .0, u .1)))
           (rw (lst, none, un)) (rw (un, ne-eqb (free P r a) 1 (omega (arith, all-free, pools-low)))) (spend-is al A P c a (takeFrom al A P c (Opened a) po h))
 
 -- ---- every ask for a class
