@@ -218,8 +218,8 @@ module _ {A N : ℕ} {b : List ℕ} {U : View} (K : Books A N b U) (c p : ℕ) (
             let t = K .loose y m f in
             (s .0 ∙ t .0, s .1 ∙ t .1)
 
-  apart : Apart (poolWord A 2) (poolWord A 3) (λ c. c < 64) classHead N (length b)
-  apart = class-apart A N (length b) (K .words)
+  classes-apart : Apart (poolWord A 2) (poolWord A 3) (λ c. c < 64) classHead N (length b)
+  classes-apart = class-apart A N (length b) (K .words)
 
   -- "To leave a list": its links may be used, and what is said then
   pub pool-may-leave : U .home p ≡ classHead c → mayLeave N (poolLinks A) p b ≡ true
@@ -234,8 +234,8 @@ module _ {A N : ℕ} {b : List ℕ} {U : View} (K : Books A N b U) (c p : ℕ) (
       rw (leave-is (poolWord A 2) (poolWord A 3) (poolLinks A) (λ y. omega arith) (λ y. omega arith) (classHead c) p b)
       (pool-moved (left (poolWord A 2) (poolWord A 3) (classHead c) p b) 0 (left-length (poolWord A 2) (poolWord A 3) (classHead c) p b)
       (λ i f d. left-other (poolWord A 2) (poolWord A 3) (classHead c) p i b (f p .0) (f p .1) d (λ y _. f y .0) (λ y _. f y .1))
-      (leave-keeps (K .listed) c lc p l e apart) (λ a k. omega arith) (λ _. left-own b (apart .lay c lc) p l)
-      (erase p (U .listed c)) (leaves (K .listed) c lc p l e apart 0 (λ j k. omega arith)))
+      (leave-keeps (K .listed) c lc p l e classes-apart) (λ a k. omega arith) (λ _. left-own b (classes-apart .lay c lc) p l)
+      (erase p (U .listed c)) (leaves (K .listed) c lc p l e classes-apart 0 (λ j k. omega arith)))
 
   -- "To join at the front": a pool that is on no list
   pub pool-joins : U .home p < 2 → Books A N (join (poolLinks A) (classHead c) p b) (U ▷ homeTo p (classHead c) ▷ listedTo c (p ∷ U .listed c))
@@ -243,8 +243,8 @@ module _ {A N : ℕ} {b : List ℕ} {U : View} (K : Books A N b U) (c p : ℕ) (
       rw (join-is (poolWord A 2) (poolWord A 3) (poolLinks A) (λ y. omega arith) (λ y. omega arith) (classHead c) p b)
       (pool-moved (joined (poolWord A 2) (poolWord A 3) (classHead c) p b) (classHead c) (joined-length (poolWord A 2) (poolWord A 3) (classHead c) p b)
       (λ i f d. joined-other (poolWord A 2) (poolWord A 3) (classHead c) p i b (f p .0) (f p .1) d (λ y _. f y .1))
-      (join-keeps (K .listed) c lc p l (λ j k. omega arith) apart) (λ a k. omega arith) (λ q. absurd (omega arith))
-      (p ∷ U .listed c) (joins (K .listed) c lc p l (λ j k. omega arith) apart))
+      (join-keeps (K .listed) c lc p l (λ j k. omega arith) classes-apart) (λ a k. omega arith) (λ q. absurd (omega arith))
+      (p ∷ U .listed c) (joins (K .listed) c lc p l (λ j k. omega arith) classes-apart))
 
   -- "The pool goes alone on the class list": the same, where the list is empty
   pub pool-alone : U .home p < 2 → U .listed c ≡ []

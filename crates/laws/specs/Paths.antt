@@ -158,6 +158,7 @@ module _ {al A P p : ℕ} {U : View} {m k : List ℕ} {r : Plain} (L : Aligned a
   free-still : (x : ℕ) → free P (r ▷ setLive p j (eqb d 1)) x ≡ free P r x
   free-still x = many-same (λ i. not (inUse r (x * P + i))) (λ i. not (inUse (r ▷ setLive p j (eqb d 1)) (x * P + i))) P (λ i l. ap not (in-use (x * P + i)))
 
+  -- ks is the pool's chain then, virgins and listed are the rows', and pools, homes and lists the view's
   pub inner : (ks : List ℕ) (virgins : ℕ → ℕ) (listed : ℕ → List ℕ) (pools : ℕ → ℕ → ℕ) (homes : ℕ → ℕ) (lists : ℕ → List ℕ) {m′ : List ℕ}
       → ((y : ℕ) → y ≢ p → virgins y ≡ r .virgin y) → ((w y : ℕ) → y ≢ p → pools w y ≡ U .pool w y) → pools 7 p ≡ U .pool 7 p → ((y : ℕ) → y ≢ p → homes y ≡ U .home y)
       → ((c : ℕ) → c < 64 → lists c ≡ listed c) → BytesAfter p m m′
