@@ -5,10 +5,10 @@ use mathlib.Core.Logic.{_≢_, inr}
 use mathlib.Core.Bool.{true, false, not, true≢false, or-true}
 use mathlib.Core.List.{List, [], _∷_}
 use Prim.Native.Nat.{ℕ, suc, _+_, _*_, _/_, _%_, _≤_, _<_}
-use native.Mathlib.Nat.{div-add-mod', mul-le-mul-right, suc-mul}
+use native.Mathlib.Nat.{div-add-mod'}
 use native.Mathlib.Decide.{ℕ-discrete, decLt}
 use native.Mathlib.Omega.{arith}
-use lib.Arith.{digits-div, digits-mod}
+use lib.Arith.{digits-lt, digits-div, digits-mod}
 use lib.Dec.{ltb, eqb}
 use lib.ListN.{length}
 use borrow.Author.Tests.{eq-eqb, ne-eqb, le-leb, lt-ltb, le-ltb}
@@ -240,8 +240,9 @@ module _ {al A P c : ℕ} {h : Heap} {r : Plain} (L : Aligned al) (H : Held al A
 
     -- ---- "else carve the pool at the mark"
     module _ (fr : r .freed a ≡ []) where
-      abbrev pm : ℕ
-      pm = a * P + r .mark a
+      -- the pool at the mark
+      abbrev markPool : ℕ
+      markPool = a * P + r .mark a
 
       freed-empty : arena b freedHead a ≡ 0
       freed-empty = rw (F .lists .freed a la ∙ fr) at (K .freed .row a la .walk)
@@ -254,7 +255,7 @@ module _ {al A P c : ℕ} {h : Heap} {r : Plain} (L : Aligned al) (H : Held al A
           busy q i u = pick (decLt 0 (count r (a * P + i)))
             where
               ly : a * P + i < A * P
-              ly = omega (arith, mul-le-mul-right P la, suc-mul a P)
+              ly = digits-lt la u
 
               freed-at : count r (a * P + i) ≡ 0 → U .home (a * P + i) ≡ arenaWord freedHead a
               freed-at z =
@@ -265,45 +266,45 @@ module _ {al A P c : ℕ} {h : Heap} {r : Plain} (L : Aligned al) (H : Held al A
               pick (yes t) = rw (lt-ltb 0 (count r (a * P + i)) t)
               pick (no t) = absurd (rw (F .lists .freed a la ∙ fr) at (K .freed .all a la (a * P + i) ly (freed-at (omega arith))))
 
-      lpm : pm < A * P
-      lpm = omega (arith, mul-le-mul-right P la, suc-mul a P, mark-room)
+      mark-inside : markPool < A * P
+      mark-inside = digits-lt la mark-room
 
-      of-a : pm / P ≡ a
-      of-a = digits-div a mark-room
+      mark-of : markPool / P ≡ a
+      mark-of = digits-div a mark-room
 
-      at-mark : pm % P ≡ r .mark a
+      at-mark : markPool % P ≡ r .mark a
       at-mark = digits-mod a mark-room
 
-      uncarved : carved P r pm ≡ false
-      uncarved = rw (of-a, at-mark) (le-ltb (r .mark a) (r .mark a) (omega arith))
+      uncarved : carved P r markPool ≡ false
+      uncarved = rw (mark-of, at-mark) (le-ltb (r .mark a) (r .mark a) (omega arith))
 
       mark-word : arena b 1 a ≡ r .mark a
       mark-word = K .arenas 1 a (omega arith) la ∙ F .arenas a la .mark-is
 
       abbrev up : ℕ
-      up = at (put (poolWord A 4 pm) noClass b) (arenaWord 1 a) + 1
+      up = at (put (poolWord A 4 markPool) noClass b) (arenaWord 1 a) + 1
 
       up-is : up ≡ r .mark a + 1
-      up-is = ap (λ (x : ℕ). x + 1) (put-pool K 4 pm noClass (omega arith) lpm .arenas 1 a (omega arith) la ∙ F .arenas a la .mark-is)
+      up-is = ap (λ (x : ℕ). x + 1) (put-pool K 4 markPool noClass (omega arith) mark-inside .arenas 1 a (omega arith) la ∙ F .arenas a la .mark-is)
 
-      from-mark : From al A P pm a (put (arenaWord carveMark a) up (put (poolWord A 4 pm) noClass b)) U (U ▷ poolTo 4 pm noClass ▷ arenaTo 1 a up) r
+      from-mark : From al A P markPool a (put (arenaWord carveMark a) up (put (poolWord A 4 markPool) noClass b)) U (U ▷ poolTo 4 markPool noClass ▷ arenaTo 1 a up) r
           (r .usable) (r .unused) (to a (r .mark a + 1) (r .mark)) (r .freed)
       from-mark =
           record {
-            books = put-arena (put-pool K 4 pm noClass (omega arith) lpm) 1 a up (omega arith) la;
-            inside = lpm;
-            of = of-a;
-            idle = idle-away pm lpm uncarved;
+            books = put-arena (put-pool K 4 markPool noClass (omega arith) mark-inside) 1 a up (omega arith) la;
+            inside = mark-inside;
+            of = mark-of;
+            idle = idle-away markPool mark-inside uncarved;
             still = record {
               heads = λ i. refl;
-              pools = λ w y d. rw (ne-eqb y pm d);
-              spare = rw (eq-eqb pm pm refl);
+              pools = λ w y d. rw (ne-eqb y markPool d);
+              spare = rw (eq-eqb markPool markPool refl);
               arenas = λ w x d. rw (ne-eqb x a d);
               spares = λ w u. rw (eq-eqb a a refl, ne-eqb w 1 (omega arith));
               bases = λ x d. refl;
             };
             homes = λ y d. refl;
-            home-p = F .pools pm lpm .home-is ∙ home-away al P r pm (idle-away pm lpm uncarved) uncarved;
+            home-p = F .pools markPool mark-inside .home-is ∙ home-away al P r markPool (idle-away markPool mark-inside uncarved) uncarved;
             arena = record {
               open-is = rw (eq-eqb a a refl, ne-eqb (r .mark a + 1) 0 (omega arith)) (F .arenas a la .open-is ∙ rw (ne-eqb (r .mark a) 0 (open-free .0)));
               mark-is = rw (eq-eqb a a refl) up-is;
@@ -314,14 +315,14 @@ module _ {al A P c : ℕ} {h : Heap} {r : Plain} (L : Aligned al) (H : Held al A
             lists = record { listed = F .lists .listed; freed = F .lists .freed; usable = F .lists .usable; unused = F .lists .unused };
             marked = marked′;
             marks = λ x d. to-other a (r .mark a + 1) (r .mark) x d;
-            carved-p = rw (of-a, at-mark, eq-eqb a a refl) (lt-ltb (r .mark a) (r .mark a + 1) (omega arith));
+            carved-p = rw (mark-of, at-mark, eq-eqb a a refl) (lt-ltb (r .mark a) (r .mark a + 1) (omega arith));
             carved-others = λ y l d. others-carved y d (ℕ-discrete (y / P) a);
           }
         where
           marked′ : to a (r .mark a + 1) (r .mark) a ≢ 0
           marked′ = rw (eq-eqb a a refl) (omega arith)
 
-          others-carved : (y : ℕ) → y ≢ pm → Dec (y / P ≡ a) → carved P (r ▷ setMark a (r .mark a + 1)) y ≡ carved P r y
+          others-carved : (y : ℕ) → y ≢ markPool → Dec (y / P ≡ a) → carved P (r ▷ setMark a (r .mark a + 1)) y ≡ carved P r y
           others-carved y d (no q) = rw (ne-eqb (y / P) a q)
           others-carved y d (yes q) = rw (q, eq-eqb a a refl) (near (decLt (y % P) (r .mark a)))
             where
@@ -335,9 +336,9 @@ module _ {al A P c : ℕ} {h : Heap} {r : Plain} (L : Aligned al) (H : Held al A
       ask-carve : Asked al A P h r c
       unfolding takeFrom setAnew fromUsable fromMark
       ask-carve =
-          let t = spare-two pm lpm (idle-away pm lpm uncarved) in
-          ask-anew from-mark (Carved a) (usable-first (Anew (Carved a) pm) (rw (freed-empty, mark-word, lt-ltb (r .mark a) P mark-room, t .0, t .1) (counted-is (Anew (Carved a) pm))))
-          (rw (lst, us, fr)) (ap (newRows c pm) (spend-rows (eqb (free P r a) 1) a (r ▷ setMark a (r .mark a + 1)))) (spend-is al A P c a (takeFrom al A P c (Carved a) pm h))
+          let t = spare-two markPool mark-inside (idle-away markPool mark-inside uncarved) in
+          ask-anew from-mark (Carved a) (usable-first (Anew (Carved a) markPool) (rw (freed-empty, mark-word, lt-ltb (r .mark a) P mark-room, t .0, t .1) (counted-is (Anew (Carved a) markPool))))
+          (rw (lst, us, fr)) (ap (newRows c markPool) (spend-rows (eqb (free P r a) 1) a (r ▷ setMark a (r .mark a + 1)))) (spend-is al A P c a (takeFrom al A P c (Carved a) markPool h))
 
     -- one of the three
     ask-usable : Asked al A P h r c
@@ -366,41 +367,39 @@ module _ {al A P c : ℕ} {h : Heap} {r : Plain} (L : Aligned al) (H : Held al A
       first : At A (U .base) 3 a
       first = (rw (F .lists .unused ∙ un) at (K .lists .members 3 (omega arith))) .0
 
-      lo : a < A
-      lo = first .low
+      la′ : a < A
+      la′ = first .low
 
       closed : r .mark a ≡ 0
-      closed = unused-is P r a (sym (F .arenas a lo .base-is) ∙ first .is)
+      closed = unused-is P r a (sym (F .arenas a la′ .base-is) ∙ first .is)
 
       -- its pools are not carved, so none of them is in use
       away : (y : ℕ) → y / P ≡ a → carved P r y ≡ false
       away y e = rw (e, closed) (le-ltb (y % P) 0 (omega arith))
 
-      in-heap : (i : ℕ) → i < P → a * P + i < A * P
-      in-heap i u = omega (arith, mul-le-mul-right P lo, suc-mul a P)
-
       all-free : free P r a ≡ P
       all-free =
           many-all (λ i. not (inUse r (a * P + i))) P
-          (λ i u. rw (le-ltb 0 (count r (a * P + i)) (omega (arith, idle-away (a * P + i) (in-heap i u) (away (a * P + i) (digits-div a u))))))
+          (λ i u. rw (le-ltb 0 (count r (a * P + i)) (omega (arith, idle-away (a * P + i) (digits-lt la′ u) (away (a * P + i) (digits-div a u))))))
 
-      abbrev po : ℕ
-      po = a * P
+      -- its first pool
+      abbrev firstPool : ℕ
+      firstPool = a * P
 
-      po-is : a * P ≡ a * P + 0
-      po-is = omega arith
+      first-is : a * P ≡ a * P + 0
+      first-is = omega arith
 
-      lpo : po < A * P
-      lpo = omega (arith, in-heap 0 (omega (arith, pools-low)))
+      first-inside : firstPool < A * P
+      first-inside = rw first-is (digits-lt la′ (omega (arith, pools-low)))
 
-      of-o : po / P ≡ a
-      of-o = ap (λ (x : ℕ). x / P) po-is ∙ digits-div a (omega (arith, pools-low))
+      first-of : firstPool / P ≡ a
+      first-of = ap (λ (x : ℕ). x / P) first-is ∙ digits-div a (omega (arith, pools-low))
 
-      at-zero : po % P ≡ 0
-      at-zero = ap (λ (x : ℕ). x % P) po-is ∙ digits-mod a (omega (arith, pools-low))
+      at-zero : firstPool % P ≡ 0
+      at-zero = ap (λ (x : ℕ). x % P) first-is ∙ digits-mod a (omega (arith, pools-low))
 
-      idle-o : count r po ≡ 0
-      idle-o = idle-away po lpo (away po of-o)
+      first-idle : count r firstPool ≡ 0
+      first-idle = idle-away firstPool first-inside (away firstPool first-of)
 
       -- ---- the books, write by write: b₂ once the arena is on the usable list, b₄ with its first two words, b₇ with all of them and the pool's class; U₂ and U₇ are what they say
       abbrev b₂ : List ℕ
@@ -414,46 +413,46 @@ module _ {al A P c : ℕ} {h : Heap} {r : Plain} (L : Aligned al) (H : Held al A
 
       K₄ : Books A (A * P) b₄ (U₂ ▷ arenaTo 0 a 1 ▷ arenaTo 1 a 0)
       K₄ =
-          put-arena (put-arena (arena-joins (arena-leaves K 3 a (omega arith) lo (first .is)) 2 a (omega arith) lo (to-same a 0 (U .base) a refl)) 0 a 1 (omega arith) lo) 1 a 0 (omega arith) lo
+          put-arena (put-arena (arena-joins (arena-leaves K 3 a (omega arith) la′ (first .is)) 2 a (omega arith) la′ (to-same a 0 (U .base) a refl)) 0 a 1 (omega arith) la′) 1 a 0 (omega arith) la′
 
       -- its freed-pool head is 0 already
       head-zero : put (arenaWord freedHead a) 0 b₄ ≡ b₄
-      head-zero = put-zero b₄ (arenaWord freedHead a) (rw (no-freed L K F a lo closed) at (K₄ .freed .row a lo .walk))
+      head-zero = put-zero b₄ (arenaWord freedHead a) (rw (no-freed L K F a la′ closed) at (K₄ .freed .row a la′ .walk))
 
       abbrev b₇ : List ℕ
-      b₇ = b₄ ▷ put (arenaWord freedHead a) 0 ▷ put (arenaWord freePools a) P ▷ put (poolWord A 4 po) noClass
+      b₇ = b₄ ▷ put (arenaWord freedHead a) 0 ▷ put (arenaWord freePools a) P ▷ put (poolWord A 4 firstPool) noClass
 
       abbrev U₇ : View
-      U₇ = U₂ ▷ arenaTo 0 a 1 ▷ arenaTo 1 a 0 ▷ arenaTo 2 a P ▷ poolTo 4 po noClass
+      U₇ = U₂ ▷ arenaTo 0 a 1 ▷ arenaTo 1 a 0 ▷ arenaTo 2 a P ▷ poolTo 4 firstPool noClass
 
       K₇ : Books A (A * P) b₇ U₇
       K₇ =
-          subst (λ (x : List ℕ). Books A (A * P) (put (poolWord A 4 po) noClass (put (arenaWord freePools a) P x)) U₇) (sym head-zero)
-          (put-pool (put-arena K₄ 2 a P (omega arith) lo) 4 po noClass (omega arith) lpo)
+          subst (λ (x : List ℕ). Books A (A * P) (put (poolWord A 4 firstPool) noClass (put (arenaWord freePools a) P x)) U₇) (sym head-zero)
+          (put-pool (put-arena K₄ 2 a P (omega arith) la′) 4 firstPool noClass (omega arith) first-inside)
 
       abbrev mark₁ : ℕ
       mark₁ = at b₇ (arenaWord 1 a) + 1
 
       mark-one : mark₁ ≡ 1
-      mark-one = let e : at b₇ (arenaWord 1 a) ≡ 0 = K₇ .arenas 1 a (omega arith) lo ∙ rw (eq-eqb a a refl) in omega arith
+      mark-one = let e : at b₇ (arenaWord 1 a) ≡ 0 = K₇ .arenas 1 a (omega arith) la′ ∙ rw (eq-eqb a a refl) in omega arith
 
-      from-unused : From al A P po a (put (arenaWord carveMark a) mark₁ b₇) U (U₇ ▷ arenaTo 1 a mark₁) r (a ∷ []) others (to a 1 (r .mark)) (r .freed)
+      from-unused : From al A P firstPool a (put (arenaWord carveMark a) mark₁ b₇) U (U₇ ▷ arenaTo 1 a mark₁) r (a ∷ []) others (to a 1 (r .mark)) (r .freed)
       from-unused =
           record {
-            books = put-arena K₇ 1 a mark₁ (omega arith) lo;
-            inside = lpo;
-            of = of-o;
-            idle = idle-o;
+            books = put-arena K₇ 1 a mark₁ (omega arith) la′;
+            inside = first-inside;
+            of = first-of;
+            idle = first-idle;
             still = record {
               heads = λ i. refl;
-              pools = λ w y d. rw (ne-eqb y po d);
-              spare = rw (eq-eqb po po refl);
+              pools = λ w y d. rw (ne-eqb y firstPool d);
+              spare = rw (eq-eqb firstPool firstPool refl);
               arenas = λ w x d. rw (ne-eqb x a d);
               spares = λ w u. rw (eq-eqb a a refl, ne-eqb w 1 (omega arith), ne-eqb w 2 (omega arith), ne-eqb w 0 (omega arith));
               bases = λ x d. rw (ne-eqb x a d);
             };
             homes = λ y d. refl;
-            home-p = F .pools po lpo .home-is ∙ home-away al P r po idle-o (away po of-o);
+            home-p = F .pools firstPool first-inside .home-is ∙ home-away al P r firstPool first-idle (away firstPool first-of);
             arena = record {
               open-is = rw (eq-eqb a a refl);
               mark-is = rw (eq-eqb a a refl) mark-one;
@@ -470,14 +469,14 @@ module _ {al A P c : ℕ} {h : Heap} {r : Plain} (L : Aligned al) (H : Held al A
             };
             marked = marked′;
             marks = λ x d. to-other a 1 (r .mark) x d;
-            carved-p = rw (of-o, at-zero, eq-eqb a a refl);
+            carved-p = rw (first-of, at-zero, eq-eqb a a refl);
             carved-others = λ y l d. others-carved y d (ℕ-discrete (y / P) a);
           }
         where
           marked′ : to a 1 (r .mark) a ≢ 0
           marked′ = rw (eq-eqb a a refl) (omega arith)
 
-          others-carved : (y : ℕ) → y ≢ po → Dec (y / P ≡ a) → carved P (r ▷ setMark a 1) y ≡ carved P r y
+          others-carved : (y : ℕ) → y ≢ firstPool → Dec (y / P ≡ a) → carved P (r ▷ setMark a 1) y ≡ carved P r y
           others-carved y d (no q) = rw (ne-eqb (y / P) a q)
           others-carved y d (yes q) = rw (q, eq-eqb a a refl, closed) (le-ltb (y % P) 1 ne ∙ sym (le-ltb (y % P) 0 (omega arith)))
             where
@@ -488,10 +487,10 @@ module _ {al A P c : ℕ} {h : Heap} {r : Plain} (L : Aligned al) (H : Held al A
       unfolding planAsk takeFrom setAnew fromUnused
       ask-open =
           let hd : at b unusedHead ≡ suc a = (rw (F .lists .unused ∙ un) at (K .lists .row 3 (omega arith) .row .walk)) .0 in
-          let u = spare-two po lpo idle-o in
+          let u = spare-two firstPool first-inside first-idle in
           ask-anew from-unused (Opened a)
-          (rw (class-empty, no-usable) (front-of hd lo (fromUnused al A P h c) _ ∙ rw (arena-may-leave K 3 a (omega arith) lo (first .is), u .0, u .1)))
-          (rw (lst, none, un)) (rw (un, ne-eqb (free P r a) 1 (omega (arith, all-free, pools-low)))) (spend-is al A P c a (takeFrom al A P c (Opened a) po h))
+          (rw (class-empty, no-usable) (front-of hd la′ (fromUnused al A P h c) _ ∙ rw (arena-may-leave K 3 a (omega arith) la′ (first .is), u .0, u .1)))
+          (rw (lst, none, un)) (rw (un, ne-eqb (free P r a) 1 (omega (arith, all-free, pools-low)))) (spend-is al A P c a (takeFrom al A P c (Opened a) firstPool h))
 
 -- ---- every ask for a class
 pub ask-any : {al A P : ℕ} {h : Heap} {r : Plain} → Aligned al → Sound al A P h r → (c : ℕ) → c ≤ lastClass al → Asked al A P h r c
