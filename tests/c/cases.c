@@ -143,8 +143,9 @@ static void k7_to_k10(void)
 {
     fresh(1, 16);
     EXPECT(is(ASK(0), HESKAVERN_BAD_SIZE, 0));
-    EXPECT(is(ASK(513), HESKAVERN_BAD_SIZE, 0));
-    EXPECT(done(ASK(512), 48));
+    EXPECT(HESKAVERN_LARGEST == 512);
+    EXPECT(is(ASK(HESKAVERN_LARGEST + 1), HESKAVERN_BAD_SIZE, 0));
+    EXPECT(done(ASK(HESKAVERN_LARGEST), 48));
     EXPECT(*pool_word(0, MAXNEXTOFFSET) == 3584);
     fresh(1, 16);
     EXPECT(done(ASK(100), 48));
@@ -290,7 +291,7 @@ static void expect_refused(uint32_t number)
     EXPECT(is(GIVE_BACK(48), number, 0));
     EXPECT(is(RESIZE(48, 100), number, 0));
     EXPECT(is(VIEW_SIZE(48), number, 0));
-    EXPECT(heskavern_view(HEAP, 48).size == 0);
+    EXPECT(heskavern_view(HEAP, 48).bytes == memory && heskavern_view(HEAP, 48).size == 0);
     EXPECT(is(WRITE(48, "owed", 4), number, 0));
     EXPECT(is(ROLL_CALL(100), number, 0));
     EXPECT(unchanged());
