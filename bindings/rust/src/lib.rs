@@ -20,7 +20,8 @@
 //! # Ok::<(), Refusal>(())
 //! ```
 //!
-//! The calls are those of `libheskavern.a`, whose source is proved (docs/PROMISES.md in the repository). This crate adds types, and nothing to what they do.
+//! The calls are those of `libheskavern.a`, for x86-64 Linux, whose source is proved (docs/PROMISES.md in the repository). This crate adds types, and nothing
+//! to what they do.
 //!
 //! Without the feature `std`, which is on by default, the crate needs `core` alone; then [`Refusal`] is no `std::error::Error`.
 #![no_std]
