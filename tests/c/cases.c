@@ -236,6 +236,8 @@ static void view_and_write(void)
     EXPECT(part.bytes == memory + 48 && part.size == 16);
     EXPECT(memcmp(part.bytes, "payee", 5) == 0 && filled(part.bytes + 5, 11));
     EXPECT(done(WRITE(48, "", 0), 48));
+    EXPECT(done(WRITE(48, books, 4), 48)); /* buffers that are only read may overlap */
+    EXPECT(memcmp(memory + 48, books, 4) == 0);
     EXPECT(done(WRITE(48, "sixteen letters.", 16), 48));
     remember();
     EXPECT(is(WRITE(48, "seventeen letters", 17), HESKAVERN_DOES_NOT_FIT, 0));
