@@ -15,7 +15,7 @@
 #include <unistd.h>
 
 enum { PAIRS = 8192, WARM = 2048, WINDOWS = 32 };                               /* of the mixed trace; a visit runs one window of it */
-enum { RUNS = 32, SHORTEST_RUN = 50, LONGEST_RUN = 400, RUN_WINDOWS = 8 };      /* of the statement's trace */
+enum { RUNS = 32, SHORTEST_RUN = 50, LONGEST_RUN = 400, RUN_WINDOWS = 8, TEXT = 40 };   /* of the statement's trace; its texts have 1 to 40 bytes */
 enum { ROLL_ARENAS = 4, ROLL_POOLS = 64, CALLS = 8 };                           /* of roll call and format; a visit times so many calls */
 enum { CHILD_ROUNDS = 25, MOST_ROUNDS = 10000 };
 
@@ -65,7 +65,7 @@ static void make_traces(void)
         mixed[i] = (struct step){(uint16_t)below(SLOTS), (uint16_t)between(1, 512)};
     for (size_t w = 0; w < RUN_WINDOWS; w++) {
         for (size_t i = 0; i < RUNS * LONGEST_RUN; i++)
-            texts[w][i] = (struct step){0, (uint16_t)between(1, 40)};
+            texts[w][i] = (struct step){0, (uint16_t)between(1, TEXT)};
         for (size_t i = 0; i < RUNS; i++)
             runs[w][i] = (uint16_t)between(SHORTEST_RUN, LONGEST_RUN);
     }
@@ -218,12 +218,12 @@ static bool can_roll(const struct variant *v)
     return v->roll_call != NULL;
 }
 
-/* A heap that was full of blocks for texts of 1 to 40 bytes, of which this share, in thousandths, is still live. */
-static void make_roll_heap(uint32_t share)
+/* A heap that was full of blocks for 1 to so many bytes, of which this share, in thousandths, is still live. */
+static void make_roll_heap(uint32_t largest, uint32_t share)
 {
     if (heskavern_format(ROLL_HEAP, ROLL_ARENAS, ROLL_POOLS).number != HESKAVERN_DONE)
         fail("this library", "a format was refused");
-    while (heskavern_ask(ROLL_HEAP, between(1, 40)).number == HESKAVERN_DONE)
+    while (heskavern_ask(ROLL_HEAP, between(1, largest)).number == HESKAVERN_DONE)
         ;
     uint32_t all = heskavern_roll_call(ROLL_HEAP, roll, sizeof roll / sizeof *roll).value;
     live = (uint32_t)((uint64_t)all * share / 1000);
@@ -238,19 +238,25 @@ static void make_roll_heap(uint32_t share)
 static void prepare_roll_1(const struct variant *v)
 {
     if (v == variants[0])
-        make_roll_heap(1);
+        make_roll_heap(TEXT, 1);
+}
+
+static void prepare_roll_wide(const struct variant *v)
+{
+    if (v == variants[0])
+        make_roll_heap(HESKAVERN_LARGEST, 1);
 }
 
 static void prepare_roll_100(const struct variant *v)
 {
     if (v == variants[0])
-        make_roll_heap(100);
+        make_roll_heap(TEXT, 100);
 }
 
 static void prepare_roll_900(const struct variant *v)
 {
     if (v == variants[0])
-        make_roll_heap(900);
+        make_roll_heap(TEXT, 900);
 }
 
 static double visit_roll(const struct variant *v, size_t round)
@@ -424,6 +430,7 @@ static const struct task tasks[] = {
     {"write 200 bytes (source: memcpy): ns", can_write, prepare_write, visit_write_200},
     {"view_size: ns", can_write, prepare_write, visit_view},
     {"roll call, 0.1 % live (C: a loop with ctz): µs", can_roll, prepare_roll_1, visit_roll},
+    {"roll call, 0.1 % live, blocks of all sizes (C: a loop with ctz): µs", can_roll, prepare_roll_wide, visit_roll},
     {"roll call, 10 % live (C: a loop with ctz): µs", can_roll, prepare_roll_100, visit_roll},
     {"roll call, 90 % live (C: a loop with ctz): µs", can_roll, prepare_roll_900, visit_roll},
     {"format (C: memset and a loop): µs", can_roll, prepare_format, visit_format},
