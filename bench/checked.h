@@ -8,8 +8,7 @@ static _Alignas(64) uint64_t THIS(map)[HESKAVERN_MAP_WORDS(ARENAS, POOLS)];
 #define BLOCK uint32_t
 #define WRITES
 #define PLACES
-#define LENT \
-    THIS(memory), HESKAVERN_MEMORY_BYTES(ARENAS, POOLS), THIS(books), HESKAVERN_BOOKS_WORDS(ARENAS, POOLS), THIS(map), HESKAVERN_MAP_WORDS(ARENAS, POOLS)
+#define LENT HESKAVERN_LENT(THIS(memory), THIS(books), THIS(map), ARENAS, POOLS)
 
 static void THIS(fresh)(void)
 {

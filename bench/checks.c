@@ -1,5 +1,5 @@
 /* 01 read once more, in C: every check at every call, each step decided before it is written. Nothing is proved of it; bench/verify.c holds it to
- * the library's answers. Its times say what the checks themselves cost. */
+ * the library's answers. Its times say what the checks themselves cost. Compiled with CHECKS(name) for the names of its calls. */
 #include "checks.h"
 
 #include <stdbool.h>
@@ -436,7 +436,7 @@ INLINE void put_roll(const struct heap *h, uint32_t *roll)
 
 /* ---- the calls */
 
-heskavern_answer checks_format(const uint8_t *memory, size_t memory_bytes, uint32_t *books, size_t books_words, uint64_t *map, size_t map_words,
+heskavern_answer CHECKS(format)(const uint8_t *memory, size_t memory_bytes, uint32_t *books, size_t books_words, uint64_t *map, size_t map_words,
                                size_t arenas, size_t pools)
 {
     uint32_t number = fit_number(memory_bytes, books_words, map_words, arenas, pools);
@@ -459,7 +459,7 @@ heskavern_answer checks_format(const uint8_t *memory, size_t memory_bytes, uint3
     return answer(HESKAVERN_DONE, 0);
 }
 
-heskavern_answer checks_ask(uint8_t *memory, size_t memory_bytes, uint32_t *books, size_t books_words, uint64_t *map, size_t map_words, size_t size)
+heskavern_answer CHECKS(ask)(uint8_t *memory, size_t memory_bytes, uint32_t *books, size_t books_words, uint64_t *map, size_t map_words, size_t size)
 {
     struct heap h;
     uint32_t number = open_heap(&h, memory, memory_bytes, books, books_words, map, map_words);
@@ -470,7 +470,7 @@ heskavern_answer checks_ask(uint8_t *memory, size_t memory_bytes, uint32_t *book
     return ask_step(&h, size);
 }
 
-heskavern_answer checks_give_back(uint8_t *memory, size_t memory_bytes, uint32_t *books, size_t books_words, uint64_t *map, size_t map_words,
+heskavern_answer CHECKS(give_back)(uint8_t *memory, size_t memory_bytes, uint32_t *books, size_t books_words, uint64_t *map, size_t map_words,
                                   size_t offset)
 {
     struct heap h;
@@ -484,7 +484,7 @@ heskavern_answer checks_give_back(uint8_t *memory, size_t memory_bytes, uint32_t
     return answer(number, number == HESKAVERN_DONE ? (uint32_t)offset : 0);
 }
 
-heskavern_answer checks_resize(uint8_t *memory, size_t memory_bytes, uint32_t *books, size_t books_words, uint64_t *map, size_t map_words,
+heskavern_answer CHECKS(resize)(uint8_t *memory, size_t memory_bytes, uint32_t *books, size_t books_words, uint64_t *map, size_t map_words,
                                size_t offset, size_t size)
 {
     struct heap h;
@@ -508,7 +508,7 @@ heskavern_answer checks_resize(uint8_t *memory, size_t memory_bytes, uint32_t *b
     return asked;
 }
 
-heskavern_answer checks_view_size(const uint8_t *memory, size_t memory_bytes, const uint32_t *books, size_t books_words, const uint64_t *map,
+heskavern_answer CHECKS(view_size)(const uint8_t *memory, size_t memory_bytes, const uint32_t *books, size_t books_words, const uint64_t *map,
                                   size_t map_words, size_t offset)
 {
     struct heap h;
@@ -520,7 +520,7 @@ heskavern_answer checks_view_size(const uint8_t *memory, size_t memory_bytes, co
     return answer(HESKAVERN_DONE, size_of(h.pool[offset / POOL_BYTES].class));
 }
 
-heskavern_answer checks_write(uint8_t *memory, size_t memory_bytes, const uint32_t *books, size_t books_words, const uint64_t *map, size_t map_words,
+heskavern_answer CHECKS(write)(uint8_t *memory, size_t memory_bytes, const uint32_t *books, size_t books_words, const uint64_t *map, size_t map_words,
                               size_t offset, const void *text, size_t text_bytes)
 {
     struct heap h;
@@ -535,7 +535,7 @@ heskavern_answer checks_write(uint8_t *memory, size_t memory_bytes, const uint32
     return answer(HESKAVERN_DONE, (uint32_t)offset);
 }
 
-heskavern_answer checks_roll_call(const uint8_t *memory, size_t memory_bytes, const uint32_t *books, size_t books_words, const uint64_t *map,
+heskavern_answer CHECKS(roll_call)(const uint8_t *memory, size_t memory_bytes, const uint32_t *books, size_t books_words, const uint64_t *map,
                                   size_t map_words, uint32_t *roll, size_t roll_words)
 {
     struct heap h;

@@ -1,5 +1,5 @@
-/* Measures the variants: measure [ROUNDS]. Each round visits every variant, in an order that rotates from round to round, so that whatever else
- * the machine does falls on all of them alike. Prints tables of medians; fails only where a variant answers wrongly. */
+/* Measures the variants: measure [ROUNDS]. Each round visits every variant, in an order drawn for it, so that whatever else the machine does, and
+ * whatever the visit before left in the caches, falls on all of them alike. Prints tables of medians; fails only where a variant answers wrongly. */
 #define _DEFAULT_SOURCE
 #include "random.h"
 #include "variants.h"
@@ -15,11 +15,11 @@
 #include <unistd.h>
 
 enum { PAIRS = 8192, WARM = 2048, WINDOWS = 32 };                               /* of the mixed trace; a visit runs one window of it */
-enum { RUNS = 32, SHORTEST_RUN = 50, LONGEST_RUN = 400, RUN_WINDOWS = 8 };      /* of the statement's trace */
-enum { ROLL_ARENAS = 4, ROLL_POOLS = 64, CALLS = 8 };                           /* of roll call and format; a visit makes so many calls */
+enum { RUNS = 32, SHORTEST_RUN = 50, LONGEST_RUN = 400, RUN_WINDOWS = 8, TEXT = 40 };   /* of the statement's trace; its texts have 1 to 40 bytes */
+enum { ROLL_ARENAS = 4, ROLL_POOLS = 64, CALLS = 8 };                           /* of roll call and format; a visit times so many calls */
 enum { CHILD_ROUNDS = 25, MOST_ROUNDS = 10000 };
 
-/* What is measured. A visit gives the time of one operation. */
+/* What is measured. A visit gives the time of one operation; it makes some of them untimed first. */
 struct task {
     const char *title;
     bool (*can)(const struct variant *v);
@@ -65,7 +65,7 @@ static void make_traces(void)
         mixed[i] = (struct step){(uint16_t)below(SLOTS), (uint16_t)between(1, 512)};
     for (size_t w = 0; w < RUN_WINDOWS; w++) {
         for (size_t i = 0; i < RUNS * LONGEST_RUN; i++)
-            texts[w][i] = (struct step){0, (uint16_t)between(1, 40)};
+            texts[w][i] = (struct step){0, (uint16_t)between(1, TEXT)};
         for (size_t i = 0; i < RUNS; i++)
             runs[w][i] = (uint16_t)between(SHORTEST_RUN, LONGEST_RUN);
     }
@@ -133,9 +133,11 @@ static void prepare_resize(const struct variant *v)
     must(v->fill(down, SLOTS), v);
 }
 
-/* Each block goes up and then down again; one of the two is timed. */
+/* Each block goes up and then down again; one of the two is timed, the second time round. */
 static double resize_both(const struct variant *v, bool timed_up)
 {
+    must(v->resize(up, SLOTS), v);
+    must(v->resize(down, SLOTS), v);
     double begin = now();
     must(v->resize(up, SLOTS), v);
     double middle = now();
@@ -209,19 +211,19 @@ static double visit_view(const struct variant *v, size_t round)
 
 /* ---- roll call and format */
 
-#define ROLL_HEAP \
-    roll_memory, sizeof roll_memory, roll_books, HESKAVERN_BOOKS_WORDS(ROLL_ARENAS, ROLL_POOLS), roll_map, HESKAVERN_MAP_WORDS(ROLL_ARENAS, ROLL_POOLS)
+#define ROLL_HEAP HESKAVERN_LENT(roll_memory, roll_books, roll_map, ROLL_ARENAS, ROLL_POOLS)
 
 static bool can_roll(const struct variant *v)
 {
     return v->roll_call != NULL;
 }
 
-/* A heap that was full of blocks for texts of 1 to 40 bytes, of which this share, in thousandths, is still live. */
-static void make_roll_heap(uint32_t share)
+/* A heap that was full of blocks for 1 to so many bytes, of which this share, in thousandths, is still live. */
+static void make_roll_heap(uint32_t largest, uint32_t share)
 {
-    heskavern_format(ROLL_HEAP, ROLL_ARENAS, ROLL_POOLS);
-    while (heskavern_ask(ROLL_HEAP, between(1, 40)).number == HESKAVERN_DONE)
+    if (heskavern_format(ROLL_HEAP, ROLL_ARENAS, ROLL_POOLS).number != HESKAVERN_DONE)
+        fail("this library", "a format was refused");
+    while (heskavern_ask(ROLL_HEAP, between(1, largest)).number == HESKAVERN_DONE)
         ;
     uint32_t all = heskavern_roll_call(ROLL_HEAP, roll, sizeof roll / sizeof *roll).value;
     live = (uint32_t)((uint64_t)all * share / 1000);
@@ -236,29 +238,38 @@ static void make_roll_heap(uint32_t share)
 static void prepare_roll_1(const struct variant *v)
 {
     if (v == variants[0])
-        make_roll_heap(1);
+        make_roll_heap(TEXT, 1);
+}
+
+static void prepare_roll_wide(const struct variant *v)
+{
+    if (v == variants[0])
+        make_roll_heap(HESKAVERN_LARGEST, 1);
 }
 
 static void prepare_roll_100(const struct variant *v)
 {
     if (v == variants[0])
-        make_roll_heap(100);
+        make_roll_heap(TEXT, 100);
 }
 
 static void prepare_roll_900(const struct variant *v)
 {
     if (v == variants[0])
-        make_roll_heap(900);
+        make_roll_heap(TEXT, 900);
 }
 
 static double visit_roll(const struct variant *v, size_t round)
 {
     static uint32_t first[sizeof roll / sizeof *roll];      /* the library's roll, once it has been called */
     (void)round;
-    double begin = now();
-    for (int i = 0; i < CALLS; i++)
+    double begin = 0;
+    for (int i = -1; i < CALLS; i++) {
+        if (i == 0)
+            begin = now();
         if (v->roll_call(ROLL_HEAP, roll, sizeof roll / sizeof *roll).value != live)
             fail(v->name, "its roll call counts wrongly");
+    }
     double end = now();
     if (v == variants[0])
         memcpy(first, roll, sizeof roll);
@@ -275,10 +286,13 @@ static void prepare_format(const struct variant *v)
 static double visit_format(const struct variant *v, size_t round)
 {
     (void)round;
-    double begin = now();
-    for (int i = 0; i < CALLS; i++)
+    double begin = 0;
+    for (int i = -1; i < CALLS; i++) {
+        if (i == 0)
+            begin = now();
         if (v->format(ROLL_HEAP, ROLL_ARENAS, ROLL_POOLS).number != HESKAVERN_DONE)
             fail(v->name, "its format was refused");
+    }
     double end = now();
     return (end - begin) / CALLS / 1000;
 }
@@ -353,6 +367,17 @@ static double visit_shifted(const struct task *t, const struct variant *v, size_
     return time + shift[0];
 }
 
+/* The order of a round's visits, drawn by the round's number: no variant always comes after the same one. */
+static void draw(size_t *order, size_t round)
+{
+    random_state = round;
+    for (size_t i = 0; i < variant_count; i++) {
+        size_t j = below((uint32_t)i + 1);
+        order[i] = order[j];
+        order[j] = i;
+    }
+}
+
 /* Some rounds, from the preparation on. */
 static void run_rounds(const struct task *t, size_t first, size_t end)
 {
@@ -360,11 +385,11 @@ static void run_rounds(const struct task *t, size_t first, size_t end)
         if (t->can(variants[i]))
             t->prepare(variants[i]);
     for (size_t r = first; r < end; r++) {
-        for (size_t i = 0; i < variant_count; i++) {
-            size_t v = (i + r) % variant_count;
-            if (t->can(variants[v]))
-                times[v][r] = visit_shifted(t, variants[v], r);
-        }
+        size_t order[MOST_VARIANTS] = {0};
+        draw(order, r);
+        for (size_t i = 0; i < variant_count; i++)
+            if (t->can(variants[order[i]]))
+                times[order[i]][r] = visit_shifted(t, variants[order[i]], r);
         same_places(t);
     }
 }
@@ -405,6 +430,7 @@ static const struct task tasks[] = {
     {"write 200 bytes (source: memcpy): ns", can_write, prepare_write, visit_write_200},
     {"view_size: ns", can_write, prepare_write, visit_view},
     {"roll call, 0.1 % live (C: a loop with ctz): µs", can_roll, prepare_roll_1, visit_roll},
+    {"roll call, 0.1 % live, blocks of all sizes (C: a loop with ctz): µs", can_roll, prepare_roll_wide, visit_roll},
     {"roll call, 10 % live (C: a loop with ctz): µs", can_roll, prepare_roll_100, visit_roll},
     {"roll call, 90 % live (C: a loop with ctz): µs", can_roll, prepare_roll_900, visit_roll},
     {"format (C: memset and a loop): µs", can_roll, prepare_format, visit_format},

@@ -1,7 +1,6 @@
 /* The allocators that are compared. */
 #include "variants.h"
 
-#include "checks.h"
 #include "pymalloc.h"
 
 #include <dlfcn.h>
@@ -16,21 +15,30 @@
 #define WRITE_TRACES(v) .write = v##_write_trace, .view_size = v##_view_trace
 #define WITH_PLACES(v) .place = v##_place_of_slot
 
-/* ---- this library, and the same checks in C */
+/* ---- this library, and the same checks in C by two compilers */
+
+#define CHECKED(v) .fresh = v##_fresh, TRACES(v), WRITE_TRACES(v), WITH_PLACES(v)
 
 #define THIS(name) library_##name
 #define CALL(name) heskavern_##name
 #include "checked.h"
-static const struct variant library = {
-    "this library", library_fresh, TRACES(library), WRITE_TRACES(library), WITH_PLACES(library), .roll_call = heskavern_roll_call,
-    .format = heskavern_format};
+static const struct variant library = {"this library", CHECKED(library), .roll_call = heskavern_roll_call, .format = heskavern_format};
 
-#define THIS(name) checks_in_c_##name
-#define CALL(name) checks_##name
+#define CHECKS(name) gcc_##name
+#include "checks.h"
+#define THIS(name) by_gcc_##name
+#define CALL(name) CHECKS(name)
 #include "checked.h"
-static const struct variant checks_in_c = {
-    "the same checks in C", checks_in_c_fresh, TRACES(checks_in_c), WRITE_TRACES(checks_in_c), WITH_PLACES(checks_in_c), .roll_call = checks_roll_call,
-    .format = checks_format};
+static const struct variant by_gcc = {"the same checks in C, gcc -O2", CHECKED(by_gcc), .roll_call = gcc_roll_call, .format = gcc_format};
+#undef CHECKS
+
+#define CHECKS(name) clang_##name
+#include "checks.h"
+#define THIS(name) by_clang_##name
+#define CALL(name) CHECKS(name)
+#include "checked.h"
+static const struct variant by_clang = {"the same checks in C, clang -O3", CHECKED(by_clang), .roll_call = clang_roll_call, .format = clang_format};
+#undef CHECKS
 
 /* ---- the program written from the source, which trusts its caller: to write is to copy */
 
@@ -128,8 +136,7 @@ static bool find_calls(struct system_calls *calls, const char *library, const ch
 #define THIS(name) loop_##name
 #define BLOCK uint32_t
 #define WRITES
-#define NOTHING(x) \
-    nothing(library_memory, sizeof library_memory, library_books, HESKAVERN_BOOKS_WORDS(ARENAS, POOLS), library_map, HESKAVERN_MAP_WORDS(ARENAS, POOLS), x)
+#define NOTHING(x) nothing(HESKAVERN_LENT(library_memory, library_books, library_map, ARENAS, POOLS), x)
 
 static inline BLOCK loop_ask(size_t size, unsigned *refused)
 {
@@ -162,8 +169,8 @@ static const struct variant loop = {"the loop alone", no_heap, TRACES(loop), WRI
 
 /* ---- all of them */
 
-const struct variant *variants[MOST_VARIANTS] = {&library, &checks_in_c, &source};
-size_t variant_count = 3;
+const struct variant *variants[MOST_VARIANTS] = {&library, &by_gcc, &by_clang, &source};
+size_t variant_count = 4;
 
 static void add(bool found, const struct variant *v)
 {

@@ -4,7 +4,7 @@
 
 #include "heskavern.h"
 
-enum { ARENAS = 16, POOLS = 64, SLOTS = 2000, MOST_VARIANTS = 7 };
+enum { ARENAS = 16, POOLS = 64, SLOTS = 2000, MOST_VARIANTS = 8 };
 
 /* A slot holds a block of this variant. A trace is made of such steps, each for one slot. */
 struct step {

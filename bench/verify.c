@@ -1,5 +1,5 @@
-/* Holds bench/checks.c to the library: verify SEED CALLS. Both get the same random calls over the same buffers, on sound books and on damaged ones,
- * and must give the same number and value and leave the same memory, books, map and roll. */
+/* Holds bench/checks.c, by its names CHECKS(name), to the library: verify SEED CALLS. Both get the same random calls over the same buffers, on sound
+ * books and on damaged ones, and must give the same number and value and leave the same memory, books, map and roll. */
 #include "checks.h"
 #include "random.h"
 
@@ -48,13 +48,13 @@ static heskavern_answer by_library(struct buffers *b, const struct call *c)
 static heskavern_answer by_checks(struct buffers *b, const struct call *c)
 {
     switch (c->kind) {
-    case FORMAT: return checks_format(LENT(b), c->x, c->y);
-    case ASK: return checks_ask(LENT(b), c->x);
-    case GIVE_BACK: return checks_give_back(LENT(b), c->x);
-    case RESIZE: return checks_resize(LENT(b), c->x, c->y);
-    case VIEW_SIZE: return checks_view_size(LENT(b), c->x);
-    case WRITE: return checks_write(LENT(b), c->x, text, c->y);
-    default: return checks_roll_call(LENT(b), b->roll, c->roll_words);
+    case FORMAT: return CHECKS(format)(LENT(b), c->x, c->y);
+    case ASK: return CHECKS(ask)(LENT(b), c->x);
+    case GIVE_BACK: return CHECKS(give_back)(LENT(b), c->x);
+    case RESIZE: return CHECKS(resize)(LENT(b), c->x, c->y);
+    case VIEW_SIZE: return CHECKS(view_size)(LENT(b), c->x);
+    case WRITE: return CHECKS(write)(LENT(b), c->x, text, c->y);
+    default: return CHECKS(roll_call)(LENT(b), b->roll, c->roll_words);
     }
 }
 

@@ -11,7 +11,7 @@ static uint8_t memory[HESKAVERN_MEMORY_BYTES(1, 2)];
 static uint32_t books[HESKAVERN_BOOKS_WORDS(1, 2)];
 static uint64_t map[HESKAVERN_MAP_WORDS(1, 2)];
 static uint32_t roll[HESKAVERN_ROLL_WORDS(1, 2)];
-#define HEAP memory, sizeof memory, books, HESKAVERN_BOOKS_WORDS(1, 2), map, HESKAVERN_MAP_WORDS(1, 2)
+#define HEAP HESKAVERN_LENT(memory, books, map, 1, 2)
 
 /* The value of a call that must be done. */
 static uint32_t value_of(heskavern_answer answer)

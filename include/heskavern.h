@@ -1,7 +1,8 @@
-/* Heskavern: a small-block allocator over memory that its caller lends. C99 and C++; link with libheskavern.a.
+/* Heskavern: a small-block allocator over memory that its caller lends. C99 and C++ on x86-64 Linux; link with libheskavern.a.
 
 A heap has A arenas (1 to 16) of P pools (2 to 64); a pool is 4,096 bytes. Three buffers are lent to every call, each as a pointer and its length
-in elements: memory, which holds the blocks, books and map. Their lengths are exact: see the macros below. A block is known by its offset in memory.
+in elements: memory, which holds the blocks, books and map. Their lengths are exact: see the macros below; HESKAVERN_LENT makes all six arguments. A
+block is known by its offset in memory.
 
 Every call answers a number and a value. The number is 0 when it is done, and otherwise says why it is refused. A refusal has value 0 and leaves
 every byte and word as it was, but for the half-done resize. Any lengths, any contents of the buffers and any arguments get their number: that is
@@ -9,7 +10,7 @@ proved of the source, and so is that a call always returns and touches nothing b
 
 What the caller owes, and no call can test:
 - Each pointer is valid for its length and aligned for its type. It is not null, even where the length is 0.
-- The buffers of one call do not overlap. That goes for text and roll too.
+- A buffer that a call may write, one whose pointer is not const, overlaps no other buffer of that call. That goes for text and roll too.
 - During a call no other thread writes these buffers, or reads one that is not const.
 Between calls, books and map are not yours to write, and of memory only the blocks that you hold. Keep to that from format on, and no block is handed
 out twice and no call gives 6. After any other write every call is still safe and still answers by its rules, but it may meet damage and give 6, or
@@ -20,12 +21,15 @@ Example:
     static uint8_t memory[HESKAVERN_MEMORY_BYTES(1, 16)];
     static uint32_t books[HESKAVERN_BOOKS_WORDS(1, 16)];
     static uint64_t map[HESKAVERN_MAP_WORDS(1, 16)];
-    #define HEAP memory, sizeof memory, books, HESKAVERN_BOOKS_WORDS(1, 16), map, HESKAVERN_MAP_WORDS(1, 16)
+    #define HEAP HESKAVERN_LENT(memory, books, map, 1, 16)
     int main(void) {
-        heskavern_format(HEAP, 1, 16);
+        if (heskavern_format(HEAP, 1, 16).number != HESKAVERN_DONE)
+            return 1;
         heskavern_answer word = heskavern_ask(HEAP, 4);
-        heskavern_write(HEAP, word.value, "owed", 4);
-        heskavern_give_back(HEAP, word.value);
+        if (word.number != HESKAVERN_DONE || heskavern_write(HEAP, word.value, "owed", 4).number != HESKAVERN_DONE)
+            return 1;
+        if (heskavern_give_back(HEAP, word.value).number != HESKAVERN_DONE)
+            return 1;
         return heskavern_give_back(HEAP, word.value).number == HESKAVERN_NOT_LIVE ? 0 : 1;
     }
 */
@@ -52,57 +56,72 @@ enum {
     HESKAVERN_DOES_NOT_FIT = 7  /* text longer than its block, or fewer than two roll words for each live block */
 };
 
+/* The largest size that can be asked for. */
+#define HESKAVERN_LARGEST 512
+
 /* The exact lengths of the buffers for A arenas of P pools, and roll words that are always enough. */
 #define HESKAVERN_MEMORY_BYTES(a, p) ((size_t)(a) * (size_t)(p) * 4096)
 #define HESKAVERN_BOOKS_WORDS(a, p) (72 + 8 * (size_t)(a) + 8 * (size_t)(a) * (size_t)(p))
 #define HESKAVERN_MAP_WORDS(a, p) (8 * (size_t)(a) * (size_t)(p))
 #define HESKAVERN_ROLL_WORDS(a, p) (2 * 506 * (size_t)(a) * (size_t)(p))
 
+/* The six arguments that every call begins with: three buffers of those lengths. */
+#define HESKAVERN_LENT(memory, books, map, a, p) \
+    (memory), HESKAVERN_MEMORY_BYTES(a, p), (books), HESKAVERN_BOOKS_WORDS(a, p), (map), HESKAVERN_MAP_WORDS(a, p)
+
+/* An answer that nobody looks at is worth a warning: the call may have been refused. */
+#ifdef __GNUC__
+#define HESKAVERN_MUST_USE __attribute__((warn_unused_result))
+#else
+#define HESKAVERN_MUST_USE
+#endif
+
 /* What a call answers: its number, and the value that it has beside it. */
-typedef struct {
+typedef struct heskavern_answer {
     uint32_t number;
     uint32_t value;
 } heskavern_answer;
 
 /* A block's own part of memory. */
-typedef struct {
+typedef struct heskavern_part {
     const uint8_t *bytes;
     size_t size;
 } heskavern_part;
 
 /* Format: makes a fresh heap of the given A and P. Writes all books and map, and no memory. Value 0. Refuses with 1, 2. */
-heskavern_answer heskavern_format(const uint8_t *memory, size_t memory_bytes, uint32_t *books, size_t books_words, uint64_t *map, size_t map_words,
-                                  size_t arenas, size_t pools);
+HESKAVERN_MUST_USE heskavern_answer heskavern_format(const uint8_t *memory, size_t memory_bytes, uint32_t *books, size_t books_words, uint64_t *map,
+                                                     size_t map_words, size_t arenas, size_t pools);
 
 /* Ask: hands out a block of at least size bytes, which is the asker's until it is given back. Its bytes are not cleared. Value: its offset. Writes
    books, map, and at most a link of four bytes in a block that is not live. Refuses with 1, 2, 3, 4, 6. */
-heskavern_answer heskavern_ask(uint8_t *memory, size_t memory_bytes, uint32_t *books, size_t books_words, uint64_t *map, size_t map_words,
-                               size_t size);
+HESKAVERN_MUST_USE heskavern_answer heskavern_ask(uint8_t *memory, size_t memory_bytes, uint32_t *books, size_t books_words, uint64_t *map,
+                                                  size_t map_words, size_t size);
 
 /* Give back: the block is live no more. Value: the given offset. Writes books, map, and a link in the block's first four bytes. Refuses with
    1, 2, 5, 6. */
-heskavern_answer heskavern_give_back(uint8_t *memory, size_t memory_bytes, uint32_t *books, size_t books_words, uint64_t *map, size_t map_words,
-                                     size_t offset);
+HESKAVERN_MUST_USE heskavern_answer heskavern_give_back(uint8_t *memory, size_t memory_bytes, uint32_t *books, size_t books_words, uint64_t *map,
+                                                        size_t map_words, size_t offset);
 
 /* Resize: makes room for size bytes. Value: the offset of the block that the text is then in. Of a block of s bytes, the offset is kept and nothing
    changes where size <= s and 4 * size > 3 * s. Otherwise a block is asked for, the first min(size, s) bytes are copied to it, and the old block is given
    back. Refuses with 1, 2, 3, 5, 4, 6. Number 6 with a value other than 0 is the half-done resize: the text stands in the new block, at that offset, and
    the old block could not be given back. */
-heskavern_answer heskavern_resize(uint8_t *memory, size_t memory_bytes, uint32_t *books, size_t books_words, uint64_t *map, size_t map_words,
-                                  size_t offset, size_t size);
+HESKAVERN_MUST_USE heskavern_answer heskavern_resize(uint8_t *memory, size_t memory_bytes, uint32_t *books, size_t books_words, uint64_t *map,
+                                                     size_t map_words, size_t offset, size_t size);
 
 /* View's companion: value is the size of the live block. Writes nothing. Refuses with 1, 2, 5. */
-heskavern_answer heskavern_view_size(const uint8_t *memory, size_t memory_bytes, const uint32_t *books, size_t books_words, const uint64_t *map,
-                                     size_t map_words, size_t offset);
+HESKAVERN_MUST_USE heskavern_answer heskavern_view_size(const uint8_t *memory, size_t memory_bytes, const uint32_t *books, size_t books_words,
+                                                        const uint64_t *map, size_t map_words, size_t offset);
 
-/* Write: copies the text to the start of a live block; the rest of the block stays. Value: the given offset. Refuses with 1, 2, 5, 7. */
-heskavern_answer heskavern_write(uint8_t *memory, size_t memory_bytes, const uint32_t *books, size_t books_words, const uint64_t *map,
-                                 size_t map_words, size_t offset, const void *text, size_t text_bytes);
+/* Write: copies the text to the start of a live block; the rest of the block stays. Value: the given offset. Text lies outside memory, so what a view
+   shows is copied out before it is written to another block; and text is not null, even where text_bytes is 0. Refuses with 1, 2, 5, 7. */
+HESKAVERN_MUST_USE heskavern_answer heskavern_write(uint8_t *memory, size_t memory_bytes, const uint32_t *books, size_t books_words,
+                                                    const uint64_t *map, size_t map_words, size_t offset, const void *text, size_t text_bytes);
 
 /* Roll call: writes offset and block size of each live block to roll, by rising offset, and leaves the words after them. Value: how many blocks
    are live. Refuses with 1, 2, 7. */
-heskavern_answer heskavern_roll_call(const uint8_t *memory, size_t memory_bytes, const uint32_t *books, size_t books_words, const uint64_t *map,
-                                     size_t map_words, uint32_t *roll, size_t roll_words);
+HESKAVERN_MUST_USE heskavern_answer heskavern_roll_call(const uint8_t *memory, size_t memory_bytes, const uint32_t *books, size_t books_words,
+                                                        const uint64_t *map, size_t map_words, uint32_t *roll, size_t roll_words);
 
 /* View: the live block's own part of memory, the whole block; where view_size refuses, the empty part at memory's start. */
 static inline heskavern_part heskavern_view(const uint8_t *memory, size_t memory_bytes, const uint32_t *books, size_t books_words,

@@ -1,21 +1,29 @@
-//! Finds libheskavern.a, the archive of the proved library, and has it built where there is none.
+//! Finds libheskavern.a, the archive of the proved library, and has it built where it is missing or old.
 
 use std::env;
-use std::io::ErrorKind;
 use std::path::{Path, PathBuf};
-use std::process::{exit, Command};
+use std::process::{exit, Command, Stdio};
 
 const ARCHIVE: &str = "libheskavern.a";
 
 fn main() {
     println!("cargo:rerun-if-env-changed=HESKAVERN_ARCHIVE_DIR");
-    let folder = archive_folder().unwrap_or_else(|message| {
+    let folder = fits_the_target().and_then(|()| archive_folder()).unwrap_or_else(|message| {
         eprintln!("heskavern: {message}");
         exit(1);
     });
     println!("cargo:rerun-if-changed={}", folder.join(ARCHIVE).display());
     println!("cargo:rustc-link-search=native={}", folder.display());
     println!("cargo:rustc-link-lib=static=heskavern");
+}
+
+/// The kit builds for one kind of machine.
+fn fits_the_target() -> Result<(), String> {
+    let of_target = |what: &str| env::var(format!("CARGO_CFG_TARGET_{what}")).unwrap_or_default();
+    match (of_target("ARCH").as_str(), of_target("OS").as_str()) {
+        ("x86_64", "linux") => Ok(()),
+        (arch, os) => Err(format!("{ARCHIVE} is for x86-64 Linux, and this is built for {arch} {os}")),
+    }
 }
 
 /// The folder that HESKAVERN_ARCHIVE_DIR names, or else the one in which the repository's archive is built.
@@ -28,23 +36,21 @@ fn archive_folder() -> Result<PathBuf, String> {
         return Err(format!("HESKAVERN_ARCHIVE_DIR is {}, where there is no {ARCHIVE}", folder.display()));
     }
     let package = env::var_os("CARGO_MANIFEST_DIR").ok_or("cargo sets no CARGO_MANIFEST_DIR")?;
-    let root = Path::new(&package).join("../..");
-    let folder = root.join("target/staticlib");
-    if !folder.join(ARCHIVE).is_file() {
-        build_archive(&root)?;
-    }
-    Ok(folder)
+    build_archive(&Path::new(&package).join("../.."))
 }
 
-/// Has the kit prove the crates and build the archive, which takes some minutes where nothing is proved yet.
-fn build_archive(root: &Path) -> Result<(), String> {
-    match Command::new("rt").args(["staticlib", "heskavern"]).current_dir(root).status() {
-        Ok(status) if status.success() => Ok(()),
-        Ok(status) => Err(format!("`rt staticlib heskavern` in {}: {status}", root.display())),
-        Err(error) if error.kind() == ErrorKind::NotFound => Err(format!(
-            "there is no {ARCHIVE} yet, and no `rt` to build it: install the kit that the file KIT names, \
-             or set HESKAVERN_ARCHIVE_DIR to a folder that has the archive"
+/// The folder of the repository's archive, once its script has seen to it that the archive is no older than the crates. Proving them takes some minutes.
+fn build_archive(root: &Path) -> Result<PathBuf, String> {
+    for source in ["build", "crates", "crates.txt", "KIT"] {
+        println!("cargo:rerun-if-changed={}", root.join(source).display());
+    }
+    let script = root.join("build");
+    match Command::new(&script).arg("library").stdout(Stdio::null()).status() {
+        Ok(status) if status.success() => Ok(root.join("target/staticlib")),
+        Ok(_) => Err(format!(
+            "`{} library` could not build {ARCHIVE}; set HESKAVERN_ARCHIVE_DIR to a folder that has it, or see what it says above",
+            script.display()
         )),
-        Err(error) => Err(format!("`rt staticlib heskavern` in {}: {error}", root.display())),
+        Err(error) => Err(format!("{}: {error}", script.display())),
     }
 }

@@ -143,8 +143,9 @@ static void k7_to_k10(void)
 {
     fresh(1, 16);
     EXPECT(is(ASK(0), HESKAVERN_BAD_SIZE, 0));
-    EXPECT(is(ASK(513), HESKAVERN_BAD_SIZE, 0));
-    EXPECT(done(ASK(512), 48));
+    EXPECT(HESKAVERN_LARGEST == 512);
+    EXPECT(is(ASK(HESKAVERN_LARGEST + 1), HESKAVERN_BAD_SIZE, 0));
+    EXPECT(done(ASK(HESKAVERN_LARGEST), 48));
     EXPECT(*pool_word(0, MAXNEXTOFFSET) == 3584);
     fresh(1, 16);
     EXPECT(done(ASK(100), 48));
@@ -235,6 +236,8 @@ static void view_and_write(void)
     EXPECT(part.bytes == memory + 48 && part.size == 16);
     EXPECT(memcmp(part.bytes, "payee", 5) == 0 && filled(part.bytes + 5, 11));
     EXPECT(done(WRITE(48, "", 0), 48));
+    EXPECT(done(WRITE(48, books, 4), 48)); /* buffers that are only read may overlap */
+    EXPECT(memcmp(memory + 48, books, 4) == 0);
     EXPECT(done(WRITE(48, "sixteen letters.", 16), 48));
     remember();
     EXPECT(is(WRITE(48, "seventeen letters", 17), HESKAVERN_DOES_NOT_FIT, 0));
@@ -290,7 +293,7 @@ static void expect_refused(uint32_t number)
     EXPECT(is(GIVE_BACK(48), number, 0));
     EXPECT(is(RESIZE(48, 100), number, 0));
     EXPECT(is(VIEW_SIZE(48), number, 0));
-    EXPECT(heskavern_view(HEAP, 48).size == 0);
+    EXPECT(heskavern_view(HEAP, 48).bytes == memory && heskavern_view(HEAP, 48).size == 0);
     EXPECT(is(WRITE(48, "owed", 4), number, 0));
     EXPECT(is(ROLL_CALL(100), number, 0));
     EXPECT(unchanged());

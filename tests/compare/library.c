@@ -1,6 +1,7 @@
 /* Replays 01's records through the C library, for a heap of any shape: library A P < records > replies.
  * The records are whole and well made: bad ones are the replay program's own business. */
 #include "../../include/heskavern.h"
+#include "../source/bytes.h"
 
 #include <stdio.h>
 #include <stdlib.h>
@@ -13,18 +14,7 @@ static uint32_t books[HESKAVERN_BOOKS_WORDS(16, 64)];
 static uint64_t map[HESKAVERN_MAP_WORDS(1, MOST)];
 static size_t arenas, pools;
 
-#define HEAP memory, HESKAVERN_MEMORY_BYTES(arenas, pools), books, HESKAVERN_BOOKS_WORDS(arenas, pools), map, HESKAVERN_MAP_WORDS(arenas, pools)
-
-static uint32_t get32(const unsigned char *b)
-{
-    return b[0] | (uint32_t)b[1] << 8 | (uint32_t)b[2] << 16 | (uint32_t)b[3] << 24;
-}
-
-static void put32(unsigned char *b, uint32_t n)
-{
-    for (int i = 0; i < 4; i++)
-        b[i] = (unsigned char)(n >> 8 * i);
-}
+#define HEAP HESKAVERN_LENT(memory, books, map, arenas, pools)
 
 /* The reply to a record; live is the number of live blocks before it and after it. */
 static void answer(const unsigned char *record, unsigned char *reply, uint32_t *live)

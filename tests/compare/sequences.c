@@ -1,7 +1,9 @@
 /* Writes a seeded sequence of replay records for a heap of A arenas of P pools: sequences SEED CALLS A P > records.
  * It makes each call on the allocator written from the source as well, so that it knows which blocks are live. */
 #define _POSIX_C_SOURCE 200112L
+#include "bytes.h"
 #include "pymalloc.h"
+#include "random.h"
 
 #include <stdbool.h>
 #include <stdint.h>
@@ -16,21 +18,6 @@ static uint32_t bytes;          /* of memory */
 static uint32_t *live, count;   /* the offsets of the live blocks, and how many */
 static uint32_t *place;         /* for each offset / ALIGNMENT: 1 + where it stands in live, 0 if it is not live */
 static uint64_t calls, wanted;  /* written, and to be written in all */
-static uint64_t state;          /* of the random numbers */
-
-/* A random number from 0 to n - 1 (splitmix64). */
-static uint32_t below(uint32_t n)
-{
-    uint64_t z = state += 0x9e3779b97f4a7c15u;
-    z = (z ^ z >> 30) * 0xbf58476d1ce4e5b9u;
-    z = (z ^ z >> 27) * 0x94d049bb133111ebu;
-    return (uint32_t)((z ^ z >> 31) >> 32) % n;
-}
-
-static uint32_t between(uint32_t low, uint32_t high)
-{
-    return low + below(high - low + 1);
-}
 
 static bool is_live(uint32_t offset)
 {
@@ -51,19 +38,14 @@ static void drop(uint32_t offset)
     place[offset / ALIGNMENT] = 0;
 }
 
-static void put32(uint32_t n)
-{
-    for (int i = 0; i < 4; i++)
-        putchar((int)(n >> 8 * i & 0xff));
-}
-
 /* Writes a record. The program ends with the last one that was wanted. */
 static void put_record(uint32_t op, uint32_t size, uint32_t offset)
 {
-    put32(op);
-    put32(size);
-    put32(offset);
-    put32(0);
+    unsigned char record[16] = {0};
+    put32(record, op);
+    put32(record + 4, size);
+    put32(record + 8, offset);
+    fwrite(record, 1, sizeof record, stdout);
     if (++calls == wanted)
         exit(fflush(stdout) == 0 ? 0 : 1);
 }
@@ -268,7 +250,7 @@ int main(int argc, char **argv)
         return 2;
     }
     void *lent;
-    state = strtoull(argv[1], NULL, 10);
+    random_state = strtoull(argv[1], NULL, 10);
     wanted = strtoull(argv[2], NULL, 10);
     bytes = (uint32_t)(arenas * pools * POOL_SIZE);
     live = calloc(bytes / ALIGNMENT, sizeof *live);

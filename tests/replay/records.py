@@ -1,5 +1,5 @@
 """Replay records and replies in bytes and in words, and the replay program under test."""
-import os, struct, sys
+import functools, os, struct, subprocess, sys
 
 TOP = os.path.normpath(os.path.join(os.path.dirname(os.path.abspath(__file__)), '..', '..'))
 RECORD = 16
@@ -48,14 +48,14 @@ def as_hex(data):
     return data.hex(' ', -4)
 
 
+@functools.lru_cache(None)
 def program():
     """The command that reads records on standard input and writes replies to standard output: what HESKAVERN_REPLAY names, or the
-    repository's own."""
+    repository's own, which is built first: a build in the middle of a test would take too long, and say so where the test wants silence."""
     named = os.environ.get('HESKAVERN_REPLAY')
-    if named:
-        command = [os.path.abspath(named)]
-    else:
-        command = [os.path.join(TOP, 'replay'), '--raw', '-']
-    if not os.access(command[0], os.X_OK):
-        sys.exit(f'no replay program at {command[0]}: build it, or name one in HESKAVERN_REPLAY')
-    return command
+    if not named:
+        built = subprocess.run([os.path.join(TOP, 'build'), 'replay'], stdout=subprocess.DEVNULL)
+        return [os.path.join(TOP, 'replay'), '--raw', '-'] if built.returncode == 0 else sys.exit(1)
+    if not os.access(named, os.X_OK):
+        sys.exit(f'HESKAVERN_REPLAY names {named}, which is no program')
+    return [os.path.abspath(named)]

@@ -1,6 +1,7 @@
 /* Replays 01's records through the allocator written from the source: replay [A P] < records > replies.
  * A heap has one arena of 16 pools where A and P are not given. */
 #define _POSIX_C_SOURCE 200112L
+#include "bytes.h"
 #include "pymalloc.h"
 
 #include <errno.h>
@@ -102,17 +103,6 @@ static struct answer resize(struct ledger *l, uint32_t size, uint32_t offset)
     if (p != NULL)
         mark(l, offset, false);
     return hand_out(l, p, offset);
-}
-
-static uint32_t get32(const unsigned char *b)
-{
-    return b[0] | (uint32_t)b[1] << 8 | (uint32_t)b[2] << 16 | (uint32_t)b[3] << 24;
-}
-
-static void put32(unsigned char *b, uint32_t n)
-{
-    for (int i = 0; i < 4; i++)
-        b[i] = (unsigned char)(n >> 8 * i);
 }
 
 static struct answer call(struct ledger *l, const unsigned char *record)

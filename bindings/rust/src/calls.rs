@@ -7,12 +7,14 @@
 //! assert_eq!(ask(&mut [], &mut [], &mut [], 8), Answer { number: 2, value: 0 });
 //! ```
 //!
-//! All the unsafe code of this crate stands here, and each call is sound for one reason. include/heskavern.h asks of its caller that pointers are valid for their lengths, aligned and not null,
-//! that the buffers do not overlap, and that nothing else uses them during the call: that is what Rust's slices are. A buffer that a call may
-//! write is `&mut` here. The library keeps no pointer, calls nothing back and touches nothing but the buffers.
+//! All the unsafe code of this crate stands here, and each call is sound for one reason. include/heskavern.h asks of its caller that pointers are valid
+//! for their lengths, aligned and not null, that a buffer which the call may write overlaps no other, that nothing else reads or writes that one during
+//! the call, and that nothing else writes the others. A buffer that the call may write is `&mut` here and every other `&`, and that is what Rust's slices
+//! are: `&mut` slices overlap nothing, `&` ones may overlap each other. The library keeps no pointer, calls nothing back and touches nothing but the buffers.
 
 /// What a call answers.
 #[repr(C)]
+#[must_use = "the call may have been refused"]
 #[derive(Clone, Copy, Debug, Default, PartialEq, Eq)]
 pub struct Answer {
     /// 0 when the call is done; otherwise why it is refused.
@@ -24,38 +26,56 @@ pub struct Answer {
 extern "C" {
     fn heskavern_format(
         memory: *const u8,
-        memory_n: usize,
+        memory_bytes: usize,
         books: *mut u32,
-        books_n: usize,
+        books_words: usize,
         map: *mut u64,
-        map_n: usize,
+        map_words: usize,
         arenas: usize,
         pools: usize,
     ) -> Answer;
-    fn heskavern_ask(memory: *mut u8, memory_n: usize, books: *mut u32, books_n: usize, map: *mut u64, map_n: usize, size: usize) -> Answer;
-    fn heskavern_give_back(memory: *mut u8, memory_n: usize, books: *mut u32, books_n: usize, map: *mut u64, map_n: usize, offset: usize) -> Answer;
-    fn heskavern_resize(memory: *mut u8, memory_n: usize, books: *mut u32, books_n: usize, map: *mut u64, map_n: usize, offset: usize, size: usize) -> Answer;
-    fn heskavern_view_size(memory: *const u8, memory_n: usize, books: *const u32, books_n: usize, map: *const u64, map_n: usize, offset: usize) -> Answer;
+    fn heskavern_ask(memory: *mut u8, memory_bytes: usize, books: *mut u32, books_words: usize, map: *mut u64, map_words: usize, size: usize) -> Answer;
+    fn heskavern_give_back(memory: *mut u8, memory_bytes: usize, books: *mut u32, books_words: usize, map: *mut u64, map_words: usize, offset: usize)
+        -> Answer;
+    fn heskavern_resize(
+        memory: *mut u8,
+        memory_bytes: usize,
+        books: *mut u32,
+        books_words: usize,
+        map: *mut u64,
+        map_words: usize,
+        offset: usize,
+        size: usize,
+    ) -> Answer;
+    fn heskavern_view_size(
+        memory: *const u8,
+        memory_bytes: usize,
+        books: *const u32,
+        books_words: usize,
+        map: *const u64,
+        map_words: usize,
+        offset: usize,
+    ) -> Answer;
     fn heskavern_write(
         memory: *mut u8,
-        memory_n: usize,
+        memory_bytes: usize,
         books: *const u32,
-        books_n: usize,
+        books_words: usize,
         map: *const u64,
-        map_n: usize,
+        map_words: usize,
         offset: usize,
         text: *const u8,
-        text_n: usize,
+        text_bytes: usize,
     ) -> Answer;
     fn heskavern_roll_call(
         memory: *const u8,
-        memory_n: usize,
+        memory_bytes: usize,
         books: *const u32,
-        books_n: usize,
+        books_words: usize,
         map: *const u64,
-        map_n: usize,
+        map_words: usize,
         roll: *mut u32,
-        roll_n: usize,
+        roll_words: usize,
     ) -> Answer;
 }
 

@@ -20,11 +20,18 @@
 //! # Ok::<(), Refusal>(())
 //! ```
 //!
-//! The calls are those of `libheskavern.a`, whose source is proved (docs/PROMISES.md in the repository). This crate adds types, and nothing to what they do.
+//! The calls are those of `libheskavern.a`, for x86-64 Linux, whose source is proved (docs/PROMISES.md in the repository). This crate adds types, and nothing
+//! to what they do.
+//!
+//! Without the feature `std`, which is on by default, the crate needs `core` alone; then [`Refusal`] is no `std::error::Error`.
+#![no_std]
 #![deny(missing_docs)]
 #![deny(unsafe_code)]
 
-use std::fmt;
+#[cfg(feature = "std")]
+extern crate std;
+
+use core::fmt;
 
 #[allow(unsafe_code)]
 pub mod calls;
@@ -34,22 +41,29 @@ mod roll;
 pub use refusal::Refusal;
 pub use roll::Roll;
 
+/// The largest size that can be asked for.
+pub const LARGEST: usize = 512;
+
 /// The exact length of memory, in bytes, for A arenas of P pools.
+#[must_use]
 pub const fn memory_bytes(arenas: usize, pools: usize) -> usize {
     arenas * pools * 4096
 }
 
 /// The exact length of books, in words of 32 bits, for A arenas of P pools.
+#[must_use]
 pub const fn books_words(arenas: usize, pools: usize) -> usize {
     72 + 8 * arenas + 8 * arenas * pools
 }
 
 /// The exact length of map, in words of 64 bits, for A arenas of P pools.
+#[must_use]
 pub const fn map_words(arenas: usize, pools: usize) -> usize {
     8 * arenas * pools
 }
 
 /// Roll words that are enough for every roll call on A arenas of P pools: two for each block, were all of them of 8 bytes and live.
+#[must_use]
 pub const fn roll_words(arenas: usize, pools: usize) -> usize {
     2 * 506 * arenas * pools
 }
@@ -104,12 +118,13 @@ impl<'a> Heap<'a> {
     /// Ask: hands out a block of at least `size` bytes and answers its offset. Its bytes are not cleared. Refused with 3, 4 or 6.
     ///
     /// ```
-    /// # use heskavern::{books_words, map_words, memory_bytes, Heap, Refusal};
+    /// # use heskavern::{books_words, map_words, memory_bytes, Heap, Refusal, LARGEST};
     /// # let (mut memory, mut books, mut map) = ([0; memory_bytes(1, 2)], [0; books_words(1, 2)], [0; map_words(1, 2)]);
     /// # let mut heap = Heap::format(&mut memory, &mut books, &mut map, 1, 2)?;
     /// assert_eq!(heap.ask(8), Ok(48));
     /// assert_eq!(heap.ask(8), Ok(56));
-    /// assert_eq!(heap.ask(513), Err(Refusal::BadSize));
+    /// assert_eq!(heap.ask(LARGEST), Ok(4144));
+    /// assert_eq!(heap.ask(LARGEST + 1), Err(Refusal::BadSize));
     /// # Ok::<(), Refusal>(())
     /// ```
     pub fn ask(&mut self, size: usize) -> Result<u32, Refusal> {

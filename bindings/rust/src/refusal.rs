@@ -1,7 +1,6 @@
 //! Why a call is refused.
 
-use std::error::Error;
-use std::fmt;
+use core::fmt;
 
 /// Why a call is refused: each of the library's numbers under a name. A refused call leaves every byte and word as it was, but for [`HalfDone`].
 ///
@@ -75,14 +74,17 @@ impl fmt::Display for Refusal {
             Refusal::NoRoom => f.write_str("no room"),
             Refusal::NotLive => f.write_str("offset not live"),
             Refusal::Damaged => f.write_str("books damaged"),
-            Refusal::HalfDone(offset) => write!(f, "books damaged: the text is now at {offset}, and its old block could not be given back"),
+            Refusal::HalfDone(offset) => {
+                write!(f, "books damaged: the text is now at {offset}, and its old block could not be given back")
+            }
             Refusal::DoesNotFit => f.write_str("text longer than its block, or fewer than two roll words for each live block"),
             Refusal::Unknown(number) => write!(f, "refused with the unknown number {number}"),
         }
     }
 }
 
-impl Error for Refusal {}
+#[cfg(feature = "std")]
+impl std::error::Error for Refusal {}
 
 #[cfg(test)]
 mod tests {

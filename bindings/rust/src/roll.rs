@@ -1,7 +1,7 @@
 //! What a roll call lists.
 
-use std::iter::FusedIterator;
-use std::slice::ChunksExact;
+use core::iter::FusedIterator;
+use core::slice::ChunksExact;
 
 /// The live blocks by rising offset: the offset and the block size of each. Made by [`Heap::roll_call`](crate::Heap::roll_call).
 #[derive(Clone, Debug)]

@@ -32,10 +32,10 @@ impl Calls for Library {
     /// The crate's own view. An offset of more than 32 bits lies in no memory.
     fn view(&mut self, lent: Lent, offset: usize) -> (usize, usize) {
         let start = lent.memory.as_ptr() as usize;
-        let (Ok(heap), Ok(offset)) = (Heap::open(lent.memory, lent.books, lent.map), u32::try_from(offset)) else {
-            return (0, 0);
-        };
-        heap.view(offset).map_or((0, 0), |part| (part.as_ptr() as usize - start, part.len()))
+        match (Heap::open(lent.memory, lent.books, lent.map), u32::try_from(offset)) {
+            (Ok(heap), Ok(offset)) => heap.view(offset).map_or((0, 0), |part| (part.as_ptr() as usize - start, part.len())),
+            _ => (0, 0),
+        }
     }
 
     fn view_size(&mut self, lent: Lent, offset: usize) -> Answer {

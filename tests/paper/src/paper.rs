@@ -321,10 +321,8 @@ fn format(lent: Lent, arenas: usize, pools: usize) -> Refused<usize> {
 }
 
 /// The rules that a block handed out from freeblock can break: it is 0, no start, or live; its link is no start, or live.
-const FROM_FRONT: [Rule; 5] =
-    [Rule::FrontNone, Rule::FrontNoStart, Rule::FrontLive, Rule::FrontLinkNoStart, Rule::FrontLinkLive];
-const FROM_FREED: [Rule; 5] =
-    [Rule::FreedNone, Rule::FreedNoStart, Rule::FreedLive, Rule::FreedLinkNoStart, Rule::FreedLinkLive];
+const FROM_FRONT: [Rule; 5] = [Rule::FrontNone, Rule::FrontNoStart, Rule::FrontLive, Rule::FrontLinkNoStart, Rule::FrontLinkLive];
+const FROM_FREED: [Rule; 5] = [Rule::FreedNone, Rule::FreedNoStart, Rule::FreedLive, Rule::FreedLinkNoStart, Rule::FreedLinkLive];
 
 impl Heap<'_> {
     /// **Ask.**
@@ -422,8 +420,9 @@ impl Heap<'_> {
 
     /// Where the usable list is empty, the unused head leaves its list and joins the usable one; if there is none, 4.
     fn open_arena(&mut self) -> Refused<usize> {
-        let Some(arena) = self.follow(UNUSED, self.arenas, Rule::UnusedHead)? else {
-            return refuse(4);
+        let arena = match self.follow(UNUSED, self.arenas, Rule::UnusedHead)? {
+            Some(arena) => arena,
+            None => return refuse(4),
         };
         self.walk(Path::OpenArena);
         self.leave(self.arena_list(UNUSED), arena, [Rule::OpenedNext, Rule::OpenedPrevious])?;
