@@ -52,6 +52,20 @@ formatWords =
     ∷ word? (inArena 0 arenaNext) 2 ∷ word? (inArena 0 arenaPrevious) 0 ∷ word? (inArena 1 arenaNext) 3 ∷ word? (inArena 1 arenaPrevious) 1 ∷ word? (inArena 2 arenaNext) 0
     ∷ word? (inArena 2 arenaPrevious) 2 ∷ word? (inPool 0 class) 65535 ∷ word? (inPool 8 class) 65535 ∷ word? (inPool 8 7) 0 ∷ mapWord? 71 0 ∷ has (link 48) 12345 ∷ []
 
+-- the whole records of arena 1 and of pool 8, and words among the heads and the spare ones
+abbrev formatRecords : List Line
+formatRecords =
+    word? 4 0 ∷ word? 66 0 ∷ word? 69 0 ∷ word? 70 0
+    ∷ word? 80 0 ∷ word? 81 0 ∷ word? 82 0 ∷ word? 83 0 ∷ word? 84 3 ∷ word? 85 1 ∷ word? 86 0 ∷ word? 87 0
+    ∷ word? 160 0 ∷ word? 161 0 ∷ word? 162 0 ∷ word? 163 0 ∷ word? 164 65535 ∷ word? 165 0 ∷ word? 166 0 ∷ word? 167 0 ∷ []
+
+-- ==== the lengths, in numbers
+-- "exactly A × P × 4,096", "exactly 72 + 8A + 8AP", "exactly 8 for each pool": of three arenas of three pools, and of one arena of nine
+abbrev lengths : List Line
+lengths =
+    has (λ h. length (h .memory)) 36864 ∷ has (λ h. length (h .books)) 168 ∷ has (λ h. length (h .map)) 72 ∷ asks 1 0 48
+    ∷ spoil (onBooks (take 152)) ∷ formats 1 9 0 ∷ asks 1 0 48 ∷ []
+
 -- ==== the books' words, by their numbers
 -- "word 0 is A, 1 is P, 2 the usable-arena head, 3 the unused-arena head, 4 to 67 the 64 class heads"; then eight words an arena, and eight a pool
 abbrev bookWords : List Line
@@ -60,6 +74,12 @@ bookWords =
     ∷ word? 72 1 ∷ word? 73 3 ∷ word? 74 0 ∷ word? 75 0 ∷ word? 76 0 ∷ word? 77 0 ∷ word? 84 3 ∷ word? 85 0 ∷ word? 92 0 ∷ word? 93 2
     ∷ word? 96 1 ∷ word? 97 56 ∷ word? 98 0 ∷ word? 99 0 ∷ word? 100 0 ∷ word? 101 64 ∷ word? 102 4088 ∷ word? 103 0
     ∷ word? 104 1 ∷ word? 105 64 ∷ word? 106 0 ∷ word? 107 0 ∷ word? 108 1 ∷ word? 109 80 ∷ word? 110 4080 ∷ word? 111 0 ∷ word? 116 63 ∷ []
+
+-- .. and those that were 0 there: pools 1 and 0 are freed, pool 2 joins a class list whose head is pool 1
+abbrev bookLinks : List Line
+bookLinks =
+    asks 1 0 48 ∷ asks 9 0 4144 ∷ asks 17 0 8240 ∷ gives 4144 0 4144 ∷ gives 48 0 48 ∷ word? 2 1 ∷ word? 3 2 ∷ word? 74 2 ∷ word? 75 1 ∷ word? 98 2
+    ∷ word= 113 0 ∷ word= 6 2 ∷ gives 8240 0 8240 ∷ word? 6 3 ∷ word? 107 3 ∷ word? 114 2 ∷ word? 115 0 ∷ []
 
 -- ==== the map
 -- "Block k of a pool is bit k mod 64 (low bit first) of its word k div 64": blocks 0, 70 and 505 of pool 0, block 0 of pool 1
@@ -203,7 +223,7 @@ openLinks =
     word= (inArena 0 arenaNext) 4 ∷ asks 1 6 0 ∷ word= (inArena 0 arenaNext) 3 ∷ word= (inArena 0 arenaPrevious) 4 ∷ asks 1 6 0
     ∷ word= (inArena 0 arenaPrevious) 2 ∷ asks 1 0 48 ∷ word? (inArena 1 arenaNext) 3 ∷ word? (inArena 2 arenaPrevious) 2 ∷ word? unusedHead 1 ∷ []
 
--- R5: opening writes open, putMapBit, freed-pool head, free pools and the links, and reads none of their old values; words 6 and 7 stay
+-- R5: opening writes open, carve mark, freed-pool head, free pools and the links, and reads none of their old values; words 6 and 7 stay
 abbrev opening : List Line
 opening =
     word= (inArena 0 openWord) 9 ∷ word= (inArena 0 carveMark) 9 ∷ word= (inArena 0 freePools) 9 ∷ word= (inArena 0 freedHead) 99
@@ -392,6 +412,10 @@ releaseWords =
     ∷ word? (inArena 0 arenaPrevious) 0 ∷ word? (inArena 0 6) 0 ∷ word? (inArena 0 7) 0 ∷ word? unusedHead 1 ∷ word? (inArena 1 arenaPrevious) 1 ∷ word? usableHead 0
     ∷ word? (inPool 0 class) 0 ∷ word? (inPool 0 freeblock) 48 ∷ word? (inPool 0 nextoffset) 64 ∷ asks 1 0 48 ∷ word? (inPool 0 freeblock) 56 ∷ []
 
+-- the last pool of an arena leaves its class list like any other
+abbrev releaseLeaves : List Line
+releaseLeaves = asks 1 0 48 ∷ gives 48 0 48 ∷ word? (classHead 0) 0 ∷ word? (inPool 0 count) 0 ∷ bit? 0 0 0 ∷ []
+
 -- ---- other arenas, pools and classes: six asks fill arenas 0 and 1
 abbrev filled : List Line → List Line
 filled ls = asks 1 0 48 ∷ asks 9 0 4144 ∷ asks 17 0 8240 ∷ asks 25 0 12336 ∷ asks 33 0 16432 ∷ asks 41 0 20528 ∷ ls
@@ -403,6 +427,13 @@ otherArena =
     ∷ has (link 12336) 80 ∷ word? (classHead 3) 0 ∷ word? (inArena 1 freedHead) 4 ∷ word? (inArena 1 freePools) 1 ∷ word? usableHead 2 ∷ word? (inArena 0 freePools) 0
     ∷ gives 16432 0 16432 ∷ word? (inPool 4 poolNext) 4 ∷ word? (inArena 1 freePools) 2
     ∷ gives 20528 0 20528 ∷ word? unusedHead 2 ∷ word? usableHead 0 ∷ word? (inArena 1 openWord) 0 ∷ word? (inArena 0 openWord) 1 ∷ [])
+
+-- a freed pool of arena 1 is taken, for its own class and for another
+abbrev otherArenaAgain : List Line
+otherArenaAgain =
+    filled (gives 12336 0 12336 ∷ asks 25 0 12336 ∷ word? (inArena 1 freePools) 0 ∷ word? (inArena 1 freedHead) 0 ∷ word? usableHead 0
+    ∷ gives 12336 0 12336 ∷ asks 49 0 12336 ∷ word? (inArena 1 freePools) 0 ∷ word? (inArena 1 freedHead) 0 ∷ word? usableHead 0
+    ∷ word? (classHead 6) 4 ∷ word? (inPool 3 class) 6 ∷ [])
 
 -- the links of the arena that is released, not of arena 0
 abbrev otherArenaLinks : List Line
@@ -468,6 +499,10 @@ orderTwoWords =
     spoil (onBooks (take 1)) ∷ asks 0 2 0 ∷ gives 48 2 0 ∷ resizes 48 0 2 0 ∷ writes 48 (1 ∷ []) 2 0 ∷ views 48 2 0 [] ∷ rolls [] 2 0 []
     ∷ formats 0 3 1 ∷ formats 3 3 2 ∷ []
 
+-- two words are enough to tell 1
+abbrev twoWords : List Line
+twoWords = spoil (onBooks (take 2)) ∷ asks 1 2 0 ∷ word= 0 0 ∷ asks 1 1 0 ∷ []
+
 -- 1 before 2: A 0 and 17, P 1 and 65 are out of range
 abbrev orderOne : List Line
 orderOne =
@@ -517,6 +552,12 @@ notLive =
     ∷ word= (inPool 0 class) 64 ∷ gives 48 5 0 ∷ views 48 5 0 [] ∷ rolls [] 0 0 []
     ∷ word= (inPool 0 class) 63 ∷ word= (inPool 0 freeblock) 7 ∷ gives 48 6 0 ∷ rolls (9 ∷ 9 ∷ 9 ∷ 9 ∷ 9 ∷ []) 0 2 (48 ∷ 512 ∷ 3120 ∷ 512 ∷ 9 ∷ []) ∷ []
 
+-- the last block of memory is live too: pool 8 is made the front pool of class 0, with that block to spare
+abbrev lastBlock : List Line
+lastBlock =
+    word= (classHead 0) 9 ∷ word= (inPool 8 class) 0 ∷ word= (inPool 8 maxnextoffset) 4088 ∷ word= (inPool 8 freeblock) 4088 ∷ word= (inPool 8 nextoffset) 4096
+    ∷ word= (inPool 8 count) 505 ∷ link= 36856 0 ∷ asks 1 0 36856 ∷ word? (classHead 0) 0 ∷ gives 36856 0 36856 ∷ word? (classHead 0) 9 ∷ []
+
 -- "Write copies a lent text to the start of a block; the rest of the block stays." R22: an empty text is 0. A full one too
 abbrev writing : List Line
 writing =
@@ -535,17 +576,17 @@ rollingLast = word= (inPool 8 class) 0 ∷ bit= 8 505 1 ∷ bit= 8 506 1 ∷ rol
 
 abbrev pub damaged : List (List Line)
 damaged =
-    formatWords ∷ bookWords ∷ mapWords
+    formatWords ∷ formatRecords ∷ lengths ∷ bookWords ∷ bookLinks ∷ mapWords
     ∷ askClassHead ∷ askClass ∷ askMaxnextoffset ∷ askBothRead ∷ askCount ∷ askCountOfSeven ∷ askFreeblock ∷ askFreeblockOfSeven ∷ askFreeblockBit
     ∷ askLink ∷ askNextBit ∷ askNextoffset ∷ askReadyOfSeven ∷ askNextoffsetUnread ∷ askItself ∷ askLastNext ∷ askLastPrevious ∷ askLastItself
     ∷ noRoom ∷ noRoomButClass ∷ noRoomButUsable ∷ askUsableHead ∷ askUnusedHead ∷ openLinks ∷ opening ∷ askFreedHead ∷ askFreedNext
     ∷ askCarveMark ∷ askCarveMarkUnread ∷ carveFreePools ∷ freedFreePools ∷ spentNext ∷ spentPrevious ∷ anewBits ∷ anewWords
     ∷ againFreeblock ∷ againLink ∷ againNext ∷ againUntested ∷ spareWords
     ∷ backFreeblock ∷ backCount ∷ backCountOfSeven ∷ backJoins ∷ backJoinsItself ∷ backStays ∷ backJoinsEmpty ∷ emptyNext ∷ emptyPrevious ∷ emptyFreedHead ∷ emptyFreePools
-    ∷ backReturns ∷ releaseNext ∷ releasePrevious ∷ releaseWords ∷ otherArena ∷ otherArenaLinks ∷ otherClass
+    ∷ backReturns ∷ releaseNext ∷ releasePrevious ∷ releaseWords ∷ releaseLeaves ∷ otherArena ∷ otherArenaAgain ∷ otherArenaLinks ∷ otherClass
     ∷ resizeAskSix ∷ resizeNoRoom ∷ resizeCopies ∷ resizeKeeps ∷ halfDoneSix ∷ halfDoneFive ∷ resizeByNewClass
-    ∷ orderTwoWords ∷ orderOne ∷ rangeEnds ∷ orderTwo ∷ orderTwoBooks ∷ orderTwoMap ∷ longMemory ∷ longBooks ∷ longMap ∷ orderRest
-    ∷ notLive ∷ writing ∷ rolling ∷ rollingLast ∷ []
+    ∷ orderTwoWords ∷ twoWords ∷ orderOne ∷ rangeEnds ∷ orderTwo ∷ orderTwoBooks ∷ orderTwoMap ∷ longMemory ∷ longBooks ∷ longMap ∷ orderRest
+    ∷ notLive ∷ lastBlock ∷ writing ∷ rolling ∷ rollingLast ∷ []
 
 -- the table holds of a fresh heap over these three buffers
 abbrev pub Holds : List ℕ → List ℕ → List ℕ → Type 0
