@@ -6,15 +6,30 @@ use mathlib.Core.Bool.{Bool, true, false}
 use mathlib.Core.List.{List}
 use Prim.Native.Nat.{ℕ, _+_, _*_, _≤_, _<_}
 use native.Mathlib.Omega.{arith}
+use lib.Dec.{leb}
 use lib.ListN.{length, getD, length-set}
 use lib.Seq.{getD-set-other}
+use borrow.Author.Tests.{leb-true}
 use Rattle.rules.specs.Say.{if_then_else_, only}
 use Rattle.rules.specs.Books.{at, put, arenaWord, arena, poolNext, poolPrevious, pool, none?, linked}
-use Rattle.rules.specs.Lists.{nextAt, previousAt, leaveBy, joinBy, leave, poolLinks}
+use Rattle.rules.specs.Lists.{nextAt, previousAt, leaveBy, joinBy, leave, mayLeave, poolLinks}
+use Rattle.books.specs.Tests.{both}
 
 -- the record that a link leads to, if any, has its next and previous words inside books of that many words
 abbrev pub Within : ℕ → ℕ → ℕ → Type 0
 Within base words link = base + 8 * link ≤ words + 6
+
+-- the links of member n, of a list whose links are at most `most`
+pub record Links (most base n : ℕ) (b : List ℕ) : Type 0 where
+  pub next : at b (nextAt base n) ≤ most
+  pub previous : at b (previousAt base n) ≤ most
+
+-- what the rule for leaving says
+pub links : (most base n : ℕ) (b : List ℕ) → mayLeave most base n b ≡ true → Links most base n b
+links most base n b e = record {
+  next = leb-true (at b (nextAt base n)) most (both (leb (at b (nextAt base n)) most) (leb (at b (previousAt base n)) most) e .0);
+  previous = leb-true (at b (previousAt base n)) most (both (leb (at b (nextAt base n)) most) (leb (at b (previousAt base n)) most) e .1);
+}
 
 -- ---- the length stays
 length-only : (t : Bool) (i v : ℕ) (b : List ℕ) → length (only t (put i v) b) ≡ length b

@@ -1,16 +1,18 @@
 -- A pool record as a struct: the one that the books hold of pool n, the books with one stored there, and what the methods make of one.
 -- Assumes nothing.
-use mathlib.Core.Path.{_≡_, sym, ap, _∙_}
+use mathlib.Core.Path.{_≡_, refl, sym, ap, _∙_}
 use mathlib.Core.Bool.{false}
 use mathlib.Core.List.{List}
-use Prim.Native.Nat.{ℕ, _+_, _*_, _-_}
+use Prim.Native.Nat.{ℕ, zero, suc, _+_, _*_, _-_}
 use native.Mathlib.Omega.{arith}
 use lib.Dec.{eqb}
 use borrow.Author.Tests.{eqb-false}
+use lib.ListN.{length}
 use lib.Seq.{getD-set-other, set-getD, set-comm}
 use Rattle.rules.specs.Say.{_▷_}
 use Rattle.rules.specs.Books.{at, put, count, freeblock, poolNext, poolPrevious, class, nextoffset, maxnextoffset, poolWord, pool}
 use Rattle.rules.specs.Blocks.{lastStart}
+use Rattle.rules.specs.Format.{freshArenas, freshPools}
 use Rattle.books.specs.declared.pool.Pool.{Pool}
 
 -- the eighth word of a record
@@ -151,3 +153,12 @@ module _ (A n : ℕ) (b : List ℕ) where
       ▷ put (poolWord A freeblock n) (48 + size))
   unfolding putPool
   anew-stored b′ c size h = simp (kept, other-word, h)
+
+-- ---- the records of a fresh heap are eight words long
+pub length-arenas : (i k : ℕ) → length (freshArenas i k) ≡ 8 * k
+length-arenas i zero = refl
+length-arenas i (suc k) = omega (arith, length-arenas (suc i) k)
+
+pub length-pools : (k : ℕ) → length (freshPools k) ≡ 8 * k
+length-pools zero = refl
+length-pools (suc k) = omega (arith, length-pools k)

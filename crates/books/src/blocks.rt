@@ -7,7 +7,7 @@ ghost use lib.ListN.{length};
 ghost use Rattle.rules.specs.Books.{poolWord};
 ghost use Rattle.rules.specs.Blocks.{classOf, sizeOf, classAt, isStart, blockNo};
 
-// Sizes are rounded up to the alignment. Only classes know it: the rest goes by a block's size.
+// Sizes are rounded up to the alignment. Only a class and its size know it: the rest goes by a block's size.
 pub const ALIGNMENT: usize = 8;
 
 pub const LARGEST: usize = 512;

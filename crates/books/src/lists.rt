@@ -1,4 +1,4 @@
-// Lists threaded through the records: leaving one, and joining it at the front. Member 0's next word is `base`, a member's previous
+// Lists threaded through the records: leaving one, joining it at the front, and what the rules of number 6 ask of their links. Member 0's next word is `base`, a member's previous
 // word comes after its next, and a link to member n is n + 1.
 use crate::words;
 ghost use mathlib.Core.Path.{_≡_};
@@ -6,9 +6,9 @@ ghost use mathlib.Core.Bool.{not};
 ghost use Prim.Native.Nat.{_+_, _*_, _^_, _<_, _≤_};
 ghost use lib.ListN.{length};
 ghost use Rattle.rules.specs.Say.{if_then_else_, only};
-ghost use Rattle.rules.specs.Books.{put, none?, linkTo, linked};
-ghost use Rattle.rules.specs.Lists.{nextAt, previousAt, leaveBy, joinBy, poolLinks};
-ghost use Rattle.books.specs.Lists.{Within};
+ghost use Rattle.rules.specs.Books.{at, put, none?, linkTo, linked};
+ghost use Rattle.rules.specs.Lists.{nextAt, previousAt, leaveBy, joinBy, leave, join, mayLeave, mayJoin, poolLinks};
+ghost use Rattle.books.specs.Lists.{Within, Links};
 
 // The base of the pools' lists, in books of so many arenas. That of the arenas' lists is `words::ARENA_LINKS`.
 pub fn pool_links(arenas: usize) -> usize
@@ -84,4 +84,39 @@ pub fn join_by(books: &mut [u32], base: usize, head: usize, old: u32, n: usize)
     books[at + 1] = 0;
     put_previous(books, base, old, link);
     books[head] = link;
+}
+
+// Neither link of member n leads past the last.
+pub fn may_leave(books: &[u32], most: usize, base: usize, n: usize) -> bool
+    requires { ⌜ nextAt base n + 1 < length (now books) ⌝ }
+    ensures { λ r. ⌜ r ≡ mayLeave most base n (now (books .entry)) ⌝ }
+{
+    (words::word(books, base + 8 * n) <= most) & (words::word(books, base + 8 * n + 1) <= most)
+}
+
+// The list's head does not lead past the last.
+pub fn may_join(books: &[u32], most: usize, head: usize) -> bool
+    requires { ⌜ head < length (now books) ⌝ }
+    ensures { λ r. ⌜ r ≡ mayJoin most head (now (books .entry)) ⌝ }
+{
+    words::word(books, head) <= most
+}
+
+// Member n leaves the list of that head; links lead at most to `most` members.
+pub fn leave(books: &mut [u32], most: usize, base: usize, head: usize, n: usize)
+    requires { ⌜ (n < most) × (base + 8 * most ≤ length (now books) + 6) × (head < length (now books)) × Links most base n (now books) ⌝ }
+    ensures { λ _. ⌜ now (books .exit) ≡ leave base head n (now (books .entry)) ⌝ }
+{
+    let next = books[base + 8 * n];
+    let previous = books[base + 8 * n + 1];
+    leave_by(books, base, head, next, previous, n);
+}
+
+// Member n joins the list of that head at the front.
+pub fn join(books: &mut [u32], most: usize, base: usize, head: usize, n: usize)
+    requires { ⌜ (n < most) × (most ≤ 1024) × (base + 8 * most ≤ length (now books) + 6) × (head < length (now books)) × (at (now books) head ≤ most) ⌝ }
+    ensures { λ _. ⌜ now (books .exit) ≡ join base head n (now (books .entry)) ⌝ }
+{
+    let old = books[head];
+    join_by(books, base, head, old, n);
 }

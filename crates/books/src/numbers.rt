@@ -10,6 +10,21 @@ ghost use Rattle.rules.specs.Outcome.{heapOf};
 ghost use Rattle.rules.specs.Numbers.{fitNumber, shapeNumber};
 ghost use Rattle.books.specs.Known.{Shaped, LiveBlock, blockAt};
 
+// 01's numbers of a refusal, as the header names them.
+pub const OUT_OF_RANGE: u32 = 1;
+
+pub const NOT_EXACT: u32 = 2;
+
+pub const BAD_SIZE: u32 = 3;
+
+pub const NO_ROOM: u32 = 4;
+
+pub const NOT_LIVE: u32 = 5;
+
+pub const DAMAGED: u32 = 6;
+
+pub const DOES_NOT_FIT: u32 = 7;
+
 // So many arenas of so many pools make a heap.
 fn in_range(arenas: usize, pools: usize) -> bool
     ensures { λ r. ⌜ r ≡ inRange arenas pools ⌝ }
@@ -34,10 +49,10 @@ pub fn fit_number(memory: &[u8], books: &[u32], map: &[u64], arenas: usize, pool
         × (r ≡ 0 → Shaped arenas pools (length (now (memory .entry))) (length (now (books .entry))) (length (now (map .entry)))) ⌝ }
 {
     if !in_range(arenas, pools) {
-        return 1;
+        return OUT_OF_RANGE;
     }
     if !exact(memory, books, map, arenas, pools) {
-        return 2;
+        return NOT_EXACT;
     }
     0
 }
@@ -49,16 +64,13 @@ pub fn shape_number(memory: &[u8], books: &[u32], map: &[u64]) -> u32
         (length (now (memory .entry))) (length (now (books .entry))) (length (now (map .entry)))) ⌝ }
 {
     if books.len() < 2 {
-        return 2;
+        return NOT_EXACT;
     }
     fit_number(memory, books, map, books[0] as usize, books[1] as usize)
 }
 
 // What is answered in the place of a block's number where there is no such block: no pool has so many.
 pub const NO_BLOCK: usize = 512;
-
-// The number of an offset that is not live.
-pub const NOT_LIVE: u32 = 5;
 
 // Which block of its pool is live at the offset, or NO_BLOCK. Whoever gives it back need not divide again.
 pub fn live_block(

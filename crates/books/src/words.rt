@@ -1,5 +1,9 @@
-// Where the words of the books stand: the heads, and the words of a record by their place in it. Records are eight words long,
-// the arenas' first and then the pools'.
+// Where the words of the books stand, and reading them: the heads, and the words of a record by their place in it. Records are eight words
+// long, the arenas' first and then the pools'.
+ghost use mathlib.Core.Path.{_≡_};
+ghost use Prim.Native.Nat.{_^_, _<_};
+ghost use lib.ListN.{length};
+ghost use Rattle.rules.specs.Books.{at, arenaWord, arena, poolWord, pool};
 
 // The heads of the lists, and the first record.
 pub const USABLE_HEAD: usize = 2;
@@ -41,3 +45,34 @@ pub const SPARE: usize = 7;
 
 // The class of a pool that has none.
 pub const NO_CLASS: u32 = 65535;
+
+// A word of the books, a number to count with.
+pub fn index(x: u32) -> usize
+    ensures { λ r. ⌜ (r ≡ x) × (r < 2 ^ 32) ⌝ }
+{
+    x as usize
+}
+
+// Word i of the books.
+pub fn word(books: &[u32], i: usize) -> usize
+    requires { ⌜ i < length (now books) ⌝ }
+    ensures { λ r. ⌜ (r ≡ at (now (books .entry)) i) × (r < 2 ^ 32) ⌝ }
+{
+    index(books[i])
+}
+
+// Word w of arena a's record.
+pub fn arena_word(books: &[u32], w: usize, a: usize) -> usize
+    requires { ⌜ arenaWord w a < length (now books) ⌝ }
+    ensures { λ r. ⌜ (r ≡ arena (now (books .entry)) w a) × (r < 2 ^ 32) ⌝ }
+{
+    word(books, RECORDS + 8 * a + w)
+}
+
+// Word w of pool p's record, in books of so many arenas.
+pub fn pool_word(books: &[u32], arenas: usize, w: usize, p: usize) -> usize
+    requires { ⌜ poolWord arenas w p < length (now books) ⌝ }
+    ensures { λ r. ⌜ (r ≡ pool arenas (now (books .entry)) w p) × (r < 2 ^ 32) ⌝ }
+{
+    word(books, RECORDS + 8 * arenas + 8 * p + w)
+}

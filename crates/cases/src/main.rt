@@ -3,8 +3,8 @@ use books::words::FREEBLOCK;
 use books::words::MAXNEXTOFFSET;
 use books::words::NEXTOFFSET;
 use books::words::RECORDS;
+use books::words::index;
 use libc::STDOUT_FILENO;
-use plans::words::index;
 
 // ---- printing
 

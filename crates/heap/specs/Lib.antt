@@ -1,3 +1,3 @@
--- The laws of 01's order of tests.
+-- What the tests let a call know, and that each promise determines its call.
 pub mod Order
 pub mod Unique

@@ -31,10 +31,11 @@ module _ (h : Heap) (r s : Answer) (g k : Heap) where
   pub write-one : (o : ℕ) (text : List ℕ) → outcome r g ≡ write 8 h o text → outcome s k ≡ write 8 h o text → (r ≡ s) × (g ≡ k)
   write-one o text = one (write 8 h o text) r s g k
 
--- view's part: its bytes, and the place where it begins
-pub view-one : (h : Heap) (o start : ℕ) (part other : List ℕ) (at to : ℕ)
-    → (part ≡ view 8 h o) × (at ≡ viewAt h o + start) → (other ≡ view 8 h o) × (to ≡ viewAt h o + start) → (part ≡ other) × (at ≡ to)
-view-one h o start part other at to e f = (e .0 ∙ sym (f .0), e .1 ∙ sym (f .1))
+-- view's part: its bytes, the buffer that it lies in, and the place where it begins, `memory` and `start` being where memory lies
+pub view-one : {Buffer : Type 0} (h : Heap) (o : ℕ) (memory : Buffer) (start : ℕ) (part other : List ℕ) (in-one in-two : Buffer) (at to : ℕ)
+    → (part ≡ view 8 h o) × (in-one ≡ memory) × (at ≡ viewAt h o + start) → (other ≡ view 8 h o) × (in-two ≡ memory) × (to ≡ viewAt h o + start)
+    → (part ≡ other) × (in-one ≡ in-two) × (at ≡ to)
+view-one h o memory start part other in-one in-two at to e f = (e .0 ∙ sym (f .0), e .1 ∙ sym (f .1), e .2 ∙ sym (f .2))
 
 pub view-size-one : (h : Heap) (o : ℕ) (r s : Sized) → r ≡ viewSize 8 h o → s ≡ viewSize 8 h o → r ≡ s
 view-size-one h o r s e f = e ∙ sym f

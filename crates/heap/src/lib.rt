@@ -1,25 +1,27 @@
 // The calls of 01, over three lent buffers: memory, books and map. Each tests in 01's order and then takes its step. None requires anything
 // of its caller, and the promise of each is one equation: what it answers and what it leaves is what the rules say.
+use asks::answers::answer;
+use asks::answers::refuse;
+use asks::ask::ask_step;
 use books::blocks::LARGEST;
 use books::blocks::class_at;
 use books::blocks::size_of;
+use books::numbers::BAD_SIZE;
+use books::numbers::DOES_NOT_FIT;
 use books::numbers::fit_number;
 use books::numbers::live_number;
 use books::numbers::shape_number;
+use books::words::word;
 use loops::copy_in;
 use loops::count_words;
 use loops::fresh_books;
 use loops::put_roll;
 use loops::wipe;
-use plans::words::word;
 use rules::Answer;
 use rules::Rolled;
 use rules::Sized;
-use steps::answers::answer;
-use steps::answers::refuse;
-use steps::hand_out::ask_step;
-use steps::moves::resize_step;
-use steps::put_back::give;
+use steps::give_back::give_old;
+use steps::resize::resize_step;
 ghost use mathlib.Core.Path.{_≡_};
 ghost use Prim.Native.Nat.{_+_, _/_, _<_, _≤_};
 ghost use denote.Ref.{ptr};
@@ -31,7 +33,7 @@ ghost use Rattle.rules.specs.Numbers as N;
 ghost use Rattle.rules.specs.Numbers.{inOrder, shapeNumber, sizeNumber, offsetNumber};
 ghost use Rattle.heap.specs.Order.{Askable, Passed, viewAt};
 
-// Format: all books and map are written, and no memory.
+// Format: makes a fresh heap of so many arenas and pools. All books and map are written, and no memory.
 pub fn format(
     memory: &[u8],
     books: &mut [u32],
@@ -74,7 +76,7 @@ fn size_number(n: usize) -> u32
     if (1 <= n) & (n <= LARGEST) {
         return 0;
     }
-    3
+    BAD_SIZE
 }
 
 // The number of the tests of a call with a size: 1, 2 or 3, and 0 where an ask can be made.
@@ -89,7 +91,7 @@ fn size_test(memory: &[u8], books: &[u32], map: &[u64], n: usize) -> u32
     size_number(n)
 }
 
-// Ask.
+// Ask: hands out a block of at least `size` bytes; the answer is its offset.
 pub fn ask(memory: &mut [u8], books: &mut [u32], map: &mut [u64], size: usize) -> Answer
     ensures { λ r. ⌜ outcome r (heapOf (now (memory .exit)) (now (books .exit)) (now (map .exit)))
         ≡ N.ask 8 (heapOf (now (memory .entry)) (now (books .entry)) (now (map .entry))) size ⌝ }
@@ -103,7 +105,28 @@ pub fn ask(memory: &mut [u8], books: &mut [u32], map: &mut [u64], size: usize) -
     answer(ask_step(memory, books, map, arenas, pools, size))
 }
 
-// Resize.
+// Give back: the block is live no more; the answer is the offset.
+pub fn give_back(memory: &mut [u8], books: &mut [u32], map: &mut [u64], offset: usize) -> Answer
+    ensures { λ r. ⌜ outcome r (heapOf (now (memory .exit)) (now (books .exit)) (now (map .exit)))
+        ≡ N.giveBack 8 (heapOf (now (memory .entry)) (now (books .entry)) (now (map .entry))) offset ⌝ }
+{
+    let number = shape_number(memory, books, map);
+    if number != 0 {
+        return refuse(number);
+    }
+    let arenas = word(books, 0);
+    let pools = word(books, 1);
+    let given = give_old(memory, books, map, arenas, pools, offset);
+    if given != 0 {
+        return refuse(given);
+    }
+    Answer {
+        number: 0,
+        offset: offset as u32,
+    }
+}
+
+// Resize: the block is kept, or its text moves to a block of at least `size` bytes; the answer is where the text is then.
 pub fn resize(
     memory: &mut [u8],
     books: &mut [u32],
@@ -125,27 +148,6 @@ pub fn resize(
         return refuse(dead);
     }
     resize_step(memory, books, map, arenas, pools, offset, size)
-}
-
-// Give back.
-pub fn give_back(memory: &mut [u8], books: &mut [u32], map: &mut [u64], offset: usize) -> Answer
-    ensures { λ r. ⌜ outcome r (heapOf (now (memory .exit)) (now (books .exit)) (now (map .exit)))
-        ≡ N.giveBack 8 (heapOf (now (memory .entry)) (now (books .entry)) (now (map .entry))) offset ⌝ }
-{
-    let number = shape_number(memory, books, map);
-    if number != 0 {
-        return refuse(number);
-    }
-    let arenas = word(books, 0);
-    let pools = word(books, 1);
-    let given = give(memory, books, map, arenas, pools, offset);
-    if given != 0 {
-        return refuse(given);
-    }
-    Answer {
-        number: 0,
-        offset: offset as u32,
-    }
 }
 
 // The block size at a live offset.
@@ -200,7 +202,7 @@ pub fn write(memory: &mut [u8], books: &[u32], map: &[u64], offset: usize, text:
     }
     let size = block_size(books, offset);
     if size < text.len() {
-        return refuse(7);
+        return refuse(DOES_NOT_FIT);
     }
     copy_in(memory, offset, text);
     Answer {
@@ -209,7 +211,8 @@ pub fn write(memory: &mut [u8], books: &[u32], map: &[u64], offset: usize, text:
     }
 }
 
-// Roll call: nothing is written before the room is known to be enough.
+// Roll call: offset and size of each live block go to the front of the roll; the answer counts them. Nothing is written before the room is
+// known to be enough.
 pub fn roll_call(memory: &[u8], books: &[u32], map: &[u64], roll: &mut [u32]) -> Rolled
     ensures { λ r. ⌜ record { answer = r; words = now (roll .exit) }
         ≡ N.rollCall 8 (heapOf (now (memory .entry)) (now (books .entry)) (now (map .entry))) (now (roll .entry)) ⌝ }
@@ -223,7 +226,7 @@ pub fn roll_call(memory: &[u8], books: &[u32], map: &[u64], roll: &mut [u32]) ->
     let words = count_words(books, map, arenas, all);
     if roll.len() < words {
         return Rolled {
-            number: 7,
+            number: DOES_NOT_FIT,
             count: 0,
         };
     }

@@ -13,7 +13,7 @@ pub struct HeskavernAnswer {
     pub value: u32,
 }
 
-// Format.
+// Format: makes a fresh heap of so many arenas and pools.
 #[no_mangle]
 pub extern "C" fn heskavern_format(
     memory: &[u8],
@@ -32,7 +32,7 @@ pub extern "C" fn heskavern_format(
     }
 }
 
-// Ask.
+// Ask: hands out a block of at least `size` bytes; the value is its offset.
 #[no_mangle]
 pub extern "C" fn heskavern_ask(
     memory: &mut [u8],
@@ -50,7 +50,7 @@ pub extern "C" fn heskavern_ask(
     }
 }
 
-// Give back.
+// Give back: the block is live no more; the value is the offset.
 #[no_mangle]
 pub extern "C" fn heskavern_give_back(
     memory: &mut [u8],
@@ -68,7 +68,7 @@ pub extern "C" fn heskavern_give_back(
     }
 }
 
-// Resize.
+// Resize: the block is kept, or its text moves to a block of at least `size` bytes; the value is where the text is then.
 #[no_mangle]
 pub extern "C" fn heskavern_resize(
     memory: &mut [u8],
@@ -105,7 +105,7 @@ pub extern "C" fn heskavern_view_size(
     }
 }
 
-// Write.
+// Write: copies the text to the start of a live block; the value is the offset.
 #[no_mangle]
 pub extern "C" fn heskavern_write(
     memory: &mut [u8],

@@ -2,7 +2,7 @@
 -- Assumes nothing.
 use mathlib.Core.Path.{_≡_, refl, sym, ap, _∙_}
 use mathlib.Core.List.{List, [], _∷_, _++_}
-use Prim.Native.Nat.{ℕ, zero, suc, _+_, _*_, _-_}
+use Prim.Native.Nat.{ℕ, _+_, _*_, _-_}
 use native.Mathlib.Omega.{arith}
 use lib.Dec.{eqb}
 use lib.ListN.{length, replicate, length-append}
@@ -10,6 +10,7 @@ use lib.Seq.{sets}
 use Rattle.rules.specs.Say.{if_then_else_}
 use Rattle.rules.specs.Books.{booksLength, linkTo, noClass}
 use Rattle.rules.specs.Format.{freshArenas, freshPools, freshBooks}
+use Rattle.books.specs.Records.{length-arenas, length-pools}
 use Rattle.loops.specs.Sets.{sets-append, sets-all}
 use Rattle.loops.specs.Left.{Parts, counted}
 
@@ -30,15 +31,6 @@ arena-parts = counted freshArenas (λ i k. recordOf (nextOf i k) i) (λ i. refl)
 
 pub pool-parts : (n : ℕ) → Parts (freshPools n) n (λ i. freshPools (n - i)) (λ i. recordOf noClass 0)
 pool-parts = counted (λ i. freshPools) (λ i k. recordOf noClass 0) (λ i. refl) (λ i k. refl)
-
--- ---- records are eight words long
-length-arenas : (i k : ℕ) → length (freshArenas i k) ≡ 8 * k
-length-arenas i zero = refl
-length-arenas i (suc k) = omega (arith, length-arenas (suc i) k)
-
-length-pools : (k : ℕ) → length (freshPools k) ≡ 8 * k
-length-pools zero = refl
-length-pools (suc k) = omega (arith, length-pools k)
 
 -- the heads, the arena records and the pool records, stored one after the other, are the books
 pub fresh-whole : (b : List ℕ) (A P : ℕ) → length b ≡ booksLength A P

@@ -3,6 +3,7 @@
 use mathlib.Core.Path.{_≡_}
 use Prim.Native.Nat.{ℕ, _*_, _≤_}
 use Rattle.rules.specs.Blocks.{sizeOf}
+use Rattle.books.specs.Known.{Shaped}
 
 -- A and P are in range
 pub record Range (A P : ℕ) : Type 0 where
@@ -11,6 +12,9 @@ pub record Range (A P : ℕ) : Type 0 where
   pub pools-low : 2 ≤ P
   pub pools-high : P ≤ 64
   pub all : A * P ≤ 1024
+
+pub ranged : {A P m b k : ℕ} → Shaped A P m b k → Range A P
+ranged t = record { arenas-low = t .arenas-low; arenas-high = t .arenas-high; pools-low = t .pools-low; pools-high = t .pools-high; all = t .all }
 
 -- s is the block size of class c, at the alignment of 8
 pub record Class (c s : ℕ) : Type 0 where

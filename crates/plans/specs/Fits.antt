@@ -13,18 +13,13 @@ use Rattle.rules.specs.declared.Source.{Source}
 use Rattle.rules.specs.declared.Source.the-variants.{Freed, Carved, Opened}
 use Rattle.rules.specs.declared.AskPlan.{AskPlan}
 use Rattle.rules.specs.declared.AskPlan.the-variants.{NoRoom, Damaged, Follow, Ready, Last, Again, Anew}
-use Rattle.rules.specs.Say.{if_then_else_}
 use Rattle.rules.specs.Books.{Heap, at, usableHead, unusedHead, classHead, carveMark, freePools, freedHead, arena, count, freeblock, poolNext, class, nextoffset, maxnextoffset, pool, none?, linked, isSet}
 use Rattle.rules.specs.Blocks.{sizeOf, isStart, blockNo}
-use Rattle.rules.specs.Lists.{nextAt, previousAt, mayLeave, arenaLinks, poolLinks}
+use Rattle.rules.specs.Lists.{mayLeave, arenaLinks, poolLinks}
 use Rattle.rules.specs.Ask.{_⇛_, frontOf, spare, linkIn, counted, noLink, fromFreeblock, fromListed, setAnew, sameClass, takeAgain, fromMark, fromFreed, fromUsable, fromUnused, planAsk}
+use Rattle.books.specs.Lists.{Links, links}
 use Rattle.books.specs.Starts.{Start, start}
-use Rattle.books.specs.Tests.{both}
-
--- the links of member n, of a list whose links are at most `most`
-pub record Links (most base n : ℕ) (b : List ℕ) : Type 0 where
-  pub next : at b (nextAt base n) ≤ most
-  pub previous : at b (previousAt base n) ≤ most
+use Rattle.books.specs.Tests.{both, either, after}
 
 -- arena a can give a pool, and leave its list if that was the last
 pub record Gives (A P a : ℕ) (b : List ℕ) : Type 0 where
@@ -71,27 +66,12 @@ FitsAsk A P s c b m (Last p f) = Listed A P s c b m p f × Links (A * P) (poolLi
 FitsAsk A P s c b m (Again a p f l) = FitsNew A P s c b m (Again a p f l)
 FitsAsk A P s c b m (Anew src p) = FitsNew A P s c b m (Anew src p)
 
--- ---- what holds after a choice, and after a rule that keeps the path from the answer `damaged`
-module _ {X : Type 0} (F : X → Type 0) where
-  pub either : (t : Bool) (x y : X) → (t ≡ true → F x) → (t ≡ false → F y) → F (if t then x else y)
-  either true x y f g = f refl
-  either false x y f g = g refl
-
-  pub after : (rule : Bool) (rest damaged : X) → F damaged → (rule ≡ true → F rest) → F (if rule then rest else damaged)
-  after rule rest damaged d f = either rule rest damaged f (λ _. d)
-
--- and from a list's head
+-- what holds after a list's head is followed, or is none
 front : (F : AskPlan → Type 0) (l most : ℕ) (f : ℕ → AskPlan) (otherwise : AskPlan) → F Damaged → ((n : ℕ) → n < most → F (f n))
     → (l ≡ 0 → F otherwise) → F (frontOf l most f otherwise)
 front F l most f otherwise d k o =
     either F (none? l) otherwise (leb l most ⇛ f (linked l)) (λ e. o (eqb-true l 0 e))
     (λ e. after F (leb l most) (f (linked l)) Damaged d (λ u. k (linked l) (omega (arith, leb-true l most u, eqb-false l 0 e))))
-
-pub links : (most base n : ℕ) (b : List ℕ) → mayLeave most base n b ≡ true → Links most base n b
-links most base n b e = record {
-  next = leb-true (at b (nextAt base n)) most (both (leb (at b (nextAt base n)) most) (leb (at b (previousAt base n)) most) e .0);
-  previous = leb-true (at b (previousAt base n)) most (both (leb (at b (nextAt base n)) most) (leb (at b (previousAt base n)) most) e .1);
-}
 
 -- the path where the class list is empty: it takes a new pool
 abbrev pub planNew : ℕ → ℕ → ℕ → Heap → ℕ → AskPlan

@@ -1,4 +1,3 @@
 -- What a planned path knows of its numbers.
 pub mod Class
 pub mod Fits
-pub mod FitsBack

@@ -1,13 +1,9 @@
-// The path of an ask whose class list is empty, decided from the heap before it: a function for each part of the rules' path, under the same name.
-use crate::words::arena_word;
-use crate::words::index;
-use crate::words::may_leave;
-use crate::words::pool_word;
-use crate::words::word;
+// The path of an ask whose class list is empty, decided from the heap before it: a function for each part of the rules' path.
 use bits::is_set;
 use books::blocks::block_no;
 use books::blocks::is_start;
 use books::links::link_at;
+use books::lists::may_leave;
 use books::words::ARENA_LINKS;
 use books::words::CARVE_MARK;
 use books::words::CLASS;
@@ -17,6 +13,10 @@ use books::words::FREED_HEAD;
 use books::words::NEXT;
 use books::words::UNUSED_HEAD;
 use books::words::USABLE_HEAD;
+use books::words::arena_word;
+use books::words::index;
+use books::words::pool_word;
+use books::words::word;
 use rules::AskPlan;
 use rules::Source;
 ghost use mathlib.Core.Path.{_≡_};
@@ -24,12 +24,11 @@ ghost use mathlib.Core.Bool.{_&&_, _||_, not};
 ghost use Prim.Native.Nat.{_+_, _*_, _<_, _≤_};
 ghost use lib.Dec.{leb, eqb};
 ghost use lib.ListN.{length};
-ghost use Rattle.rules.specs.Say.{if_then_else_};
 ghost use Rattle.rules.specs.Books.{at, isSet, none?, unusedHead, freePools, arena};
-ghost use Rattle.rules.specs.Blocks.{sizeOf, isStart, blockNo};
+ghost use Rattle.rules.specs.Blocks.{isStart, blockNo};
 ghost use Rattle.rules.specs.Lists.{mayLeave, arenaLinks};
 ghost use Rattle.rules.specs.Outcome.{heapOf};
-ghost use Rattle.rules.specs.Ask.{_⇛_, setAnew, sameClass, takeAgain, counted, fromMark, fromFreed, frontOf, fromUsable, fromUnused};
+ghost use Rattle.rules.specs.Ask.{_⇛_, sameClass, takeAgain, fromMark, fromFreed, frontOf, fromUsable, fromUnused};
 ghost use Rattle.books.specs.Known.{Shaped};
 ghost use Rattle.plans.specs.Class.{Range, Class};
 ghost use Rattle.plans.specs.Fits.{planNew};
@@ -118,7 +117,7 @@ fn take_again(
 }
 
 // Arena a, which gives a pool, has some to give, and can leave its list if that was the last; then the rest of the path.
-fn count_free(books: &[u32], arenas: usize, pools: usize, a: usize, rest: AskPlan) -> AskPlan
+fn counted(books: &[u32], arenas: usize, pools: usize, a: usize, rest: AskPlan) -> AskPlan
     requires { ⌜ (a < arenas) × (72 + 8 * arenas ≤ length (now books)) × (arenas ≤ 16) ⌝ }
     ensures { λ r. ⌜ r ≡ ((leb 1 (arena (now (books .entry)) freePools a) && leb (arena (now (books .entry)) freePools a) pools)
         ⇛ (not (eqb (arena (now (books .entry)) freePools a) 1) || mayLeave arenas arenaLinks a (now (books .entry)))
@@ -154,7 +153,7 @@ fn from_mark(
     let mark = arena_word(books, CARVE_MARK, a);
     if mark < pools {
         let p = pool_at(arenas, pools, a, mark);
-        return count_free(
+        return counted(
             books,
             arenas,
             pools,
@@ -184,7 +183,7 @@ fn from_freed(
     let again = take_again(memory, books, map, arenas, pools, class, size, a, p);
     keeps(
         next <= arenas * pools,
-        count_free(books, arenas, pools, a, again),
+        counted(books, arenas, pools, a, again),
     )
 }
 
@@ -226,19 +225,11 @@ fn from_unused(
     requires { ⌜ Shaped arenas pools (length (now memory)) (length (now books)) (length (now map)) × Class class size × (a < arenas) ⌝ }
     ensures { λ r. ⌜ r ≡ fromUnused 8 arenas pools (heapOf (now (memory .entry)) (now (books .entry)) (now (map .entry))) class a ⌝ }
 {
-    let p = first_pool(arenas, pools, a);
+    let p = pool_at(arenas, pools, a, 0);
     keeps(
         may_leave(books, arenas, ARENA_LINKS, a),
         set_anew(map, size, Source::Opened(a), p),
     )
-}
-
-// The first pool of arena a.
-fn first_pool(arenas: usize, pools: usize, a: usize) -> usize
-    requires { ⌜ Range arenas pools × (a < arenas) ⌝ }
-    ensures { λ r. ⌜ (r ≡ a * pools) × (r < arenas * pools) ⌝ }
-{
-    a * pools
 }
 
 // The class list and the usable list are empty.

@@ -1,3 +1,2 @@
-// The path of an ask that takes a new pool, decided from the heap before it; and the words that steps read. Nothing is written here.
+// The path of an ask that takes a new pool, decided from the heap before it. Nothing is written here.
 pub mod ask;
-pub mod words;

@@ -25,6 +25,7 @@ use Rattle.rules.specs.GiveBack.{takeBack, empty, release, afterBack, backAnswe
 use Rattle.rules.specs.Resize.{keeps, copy, giveOld, halfDone, moved, resizeStep}
 use Rattle.rules.specs.Numbers.{fitNumber, shapeNumber, sizeNumber, _before_, inOrder, offsetNumber, ask, giveBack, resize}
 use Rattle.books.specs.Lists.{leave-keeps, join-keeps}
+use Rattle.books.specs.Tests.{either}
 use Rattle.loops.specs.Sets.{sets-other}
 
 -- the books b′ have the words 0 and 1 of b
@@ -125,27 +126,26 @@ module _ (al A P c p f : ℕ) {b : List ℕ} where
   back-kept Releases h k = release-kept (p / P) (empty al A P c p f (takeBack al A P c p f h)) (emptied-kept h k)
 
 -- ---- the numbers
-either : (t : Bool) (x y : ℕ) → x ≤ 7 → y ≤ 7 → (if t then x else y) ≤ 7
-either true x y u v = u
-either false x y u v = v
+small : (t : Bool) (x y : ℕ) → x ≤ 7 → y ≤ 7 → (if t then x else y) ≤ 7
+small t x y u v = either (λ (n : ℕ). n ≤ 7) t x y (λ _. u) (λ _. v)
 
 fit-small : (h : Heap) (A P : ℕ) → fitNumber h A P ≤ 7
 unfolding fitNumber
 fit-small h A P =
-    either (not (inRange A P)) 1 (if not (exact A P h) then 2 else 0) (omega arith)
-    (either (not (exact A P h)) 2 0 (omega arith) (omega arith))
+    small (not (inRange A P)) 1 (if not (exact A P h) then 2 else 0) (omega arith)
+    (small (not (exact A P h)) 2 0 (omega arith) (omega arith))
 
 shape-small : (h : Heap) → shapeNumber h ≤ 7
 unfolding shapeNumber
-shape-small h = either (ltb (length (h .books)) 2) 2 (fitNumber h (arenas h) (pools h)) (omega arith) (fit-small h (arenas h) (pools h))
+shape-small h = small (ltb (length (h .books)) 2) 2 (fitNumber h (arenas h) (pools h)) (omega arith) (fit-small h (arenas h) (pools h))
 
 size-small : (n : ℕ) → sizeNumber n ≤ 7
 unfolding sizeNumber
-size-small n = either (leb 1 n && leb n largest) 0 3 (omega arith) (omega arith)
+size-small n = small (leb 1 n && leb n largest) 0 3 (omega arith) (omega arith)
 
 live-small : (al A P : ℕ) (b m : List ℕ) (o : ℕ) → liveNumber al A P b m o ≤ 7
 unfolding liveNumber
-live-small al A P b m o = either (live al A P b m o) 0 5 (omega arith) (omega arith)
+live-small al A P b m o = small (live al A P b m o) 0 5 (omega arith) (omega arith)
 
 before-small : (j k : ℕ) → j ≤ 7 → k ≤ 7 → (j before k) ≤ 7
 before-small zero k u v = v

@@ -1,7 +1,7 @@
 -- A piece of a replay: what it answers, and its replies one by one; and a replay that comes in pieces is the replay.
 -- Assumes nothing.
 use mathlib.Core.Path.{_≡_, refl, sym, ap, ap₂, _∙_}
-use mathlib.Core.Bool.{Bool, true, false}
+use mathlib.Core.Bool.{Bool}
 use mathlib.Core.List.{List, [], _∷_, _++_, append-nil, append-assoc}
 use Prim.Native.Nat.{ℕ, zero, suc, _+_, _*_, _-_, _/_, _%_, _≤_, _<_, min}
 use native.Mathlib.Nat.{min-eq-left, min-eq-right}
@@ -16,8 +16,9 @@ use Rattle.rules.specs.Books.{Heap}
 use Rattle.rules.specs.Outcome.{Outcome, passing}
 use Rattle.rules.specs.Numbers.{inOrder, shapeNumber, roomNumber, format, ask, giveBack, resize, blockSize}
 use Rattle.rules.specs.Replay.{opOf, sizeIn, offsetIn, wellMade, Replied, replied, refusedRecord, called, calledFor, replayCall, replayRecord, replayRecords, replay}
+use Rattle.books.specs.Tests.{either}
 use Rattle.loops.specs.Sets.{sets-append, sets-front}
-use Rattle.steps.specs.Passing.{stopped, passed}
+use Rattle.books.specs.Passing.{stopped, passed}
 use Rattle.heap.specs.Order.{too-little, enough}
 use Rattle.records.specs.declared.Replayed.{Replayed}
 use Rattle.records.specs.Calls.{Kept, none-written, kept-on, Fair, ask-fair, back-fair, resize-fair}
@@ -45,6 +46,10 @@ replayPiece h input output =
     passing (inOrder (shapeNumber h) 0 0 (roomNumber (length replies) (length output))) (λ k. pieceOf k 0 output h)
     (pieceOf 0 (length replies) (replies ++ drop (length replies) output) (heapAfter (length input / 16) h input))
 
+-- it determines what is answered: any two outcomes that it allows, of one heap, input and output, are equal in every byte and word
+pub replay-one : (h : Heap) (input output : List ℕ) (x y : Piece) → x ≡ replayPiece h input output → y ≡ replayPiece h input output → x ≡ y
+replay-one h input output x y e f = e ∙ sym f
+
 -- ---- one record
 -- a reply is sixteen bytes long, and A and P are those of the books b
 pub record Sent (b : List ℕ) (x : Replied) : Type 0 where
@@ -52,9 +57,8 @@ pub record Sent (b : List ℕ) (x : Replied) : Type 0 where
   pub kept : Kept b (x .heap .books)
 
 module _ {b : List ℕ} where
-  either : (t : Bool) (x y : Replied) → Sent b x → Sent b y → Sent b (if t then x else y)
-  either true x y u v = u
-  either false x y u v = v
+  sent : (t : Bool) (x y : Replied) → Sent b x → Sent b y → Sent b (if t then x else y)
+  sent t x y u v = either (Sent b) t x y (λ _. u) (λ _. v)
 
   call-sent : (r : List ℕ) (x : Outcome) (size : ℕ) → Fair b x → Sent b (called 8 r x size)
   call-sent r x size f = go (x .answer .number)
@@ -66,12 +70,12 @@ module _ {b : List ℕ} where
 pub record-sent : (h : Heap) (r : List ℕ) → Sent (h .books) (replayRecord 8 h r)
 unfolding replayRecord replayCall
 record-sent h r =
-    either (ltb (length r) 16) (replied 8 0 8 0 0 h) (if wellMade r then replayCall 8 h r else refusedRecord 8 r 9 h)
+    sent (ltb (length r) 16) (replied 8 0 8 0 0 h) (if wellMade r then replayCall 8 h r else refusedRecord 8 r 9 h)
     (record { long = refl; kept = none-written })
-    (either (wellMade r) (replayCall 8 h r) (refusedRecord 8 r 9 h)
-    (either (eqb (opOf r) 1) asked (if eqb (opOf r) 2 then given else resized)
+    (sent (wellMade r) (replayCall 8 h r) (refusedRecord 8 r 9 h)
+    (sent (eqb (opOf r) 1) asked (if eqb (opOf r) 2 then given else resized)
     (call-sent r (ask 8 h (sizeIn r)) _ (ask-fair 8 h (sizeIn r)))
-    (either (eqb (opOf r) 2) given resized
+    (sent (eqb (opOf r) 2) given resized
     (call-sent r (giveBack 8 h (offsetIn r)) _ (back-fair 8 h (offsetIn r)))
     (call-sent r (resize 8 h (offsetIn r) (sizeIn r)) _ (resize-fair 8 h (offsetIn r) (sizeIn r)))))
     (record { long = refl; kept = none-written }))

@@ -12,7 +12,7 @@ use Rattle.rules.specs.Outcome.{Outcome, heapOf, outcome, refused}
 use Rattle.rules.specs.Format.{freshBooks}
 use Rattle.rules.specs.Numbers.{fitNumber, format}
 use Rattle.rules.specs.Replay.{replayRecords}
-use Rattle.steps.specs.Passing.{passed}
+use Rattle.books.specs.Passing.{passed}
 use Rattle.records.specs.declared.Replayed.{Replayed}
 use Rattle.records.specs.Replies.{Whole, right-shape}
 use Rattle.records.specs.Pieces.{heapAfter, Piece, replayPiece, recordsIn, piece-done}

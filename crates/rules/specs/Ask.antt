@@ -19,11 +19,11 @@ infixr 12 _⇛_
 abbrev pub _⇛_ : Bool → AskPlan → AskPlan
 rule ⇛ rest = if rule then rest else Damaged
 
--- a list whose head is the link l, at most `most`: the path from its front member, or the one otherwise where there is none
+-- the path from the front member of the list whose head word is l, 6 where l is above `most`; `otherwise` where the list is empty
 abbrev pub frontOf : ℕ → ℕ → (ℕ → AskPlan) → AskPlan → AskPlan
 frontOf l most front otherwise = if none? l then otherwise else (leb l most ⇛ front (linked l))
 
--- ---- the path of an ask for class c, over the heap h
+-- ---- the path of an ask for class c, over the heap h. A name stands before it is used: 01's order is from `planAsk`, the last, upwards
 module _ (al A P : ℕ) (h : Heap) (c : ℕ) where
   -- the wanted block size
   abbrev pub size : ℕ
@@ -78,6 +78,7 @@ module _ (al A P : ℕ) (h : Heap) (c : ℕ) where
       ⇛ (none? (linkIn p) || spare p (linkIn p))
       ⇛ Again a p (poolHas p freeblock) (linkIn p)
 
+  -- "If its class is already the wanted one, .. Otherwise class is set": pool p, taken from arena a's freed pools
   unfoldable pub takeAgain : ℕ → ℕ → AskPlan
   takeAgain a p = if eqb (poolHas p class) c then sameClass a p else setAnew (Freed a) p
 
@@ -166,6 +167,8 @@ module _ (al A P c : ℕ) where
   abbrev pub handOut : ℕ → ℕ → Heap → Heap
   handOut p f = onMap (putMapBit p (blockNo (sizeOf al c) f) 1)
 
+  -- the writes of each path, in the order of the sentences above: "count rises by 1, .. freeblock becomes its link", "nextoffset rises by the size, and the link in
+  -- the new freeblock is written 0", "the pool is full: it leaves the list"; a pool that is taken, of the wanted class, or set to it
   unfoldable pub afterAsk : AskPlan → Heap → Heap
   unfolding takeFrom
   afterAsk NoRoom h = h

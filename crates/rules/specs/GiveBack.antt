@@ -20,7 +20,7 @@ infixr 12 _⇛_
 abbrev pub _⇛_ : Bool → BackPlan → BackPlan
 rule ⇛ rest = if rule then rest else Damaged
 
--- ---- the path of a block of pool p, of class c
+-- ---- the path of a block of pool p, of class c. A name stands before it is used: 01's order is from `planBack`, the last, upwards
 module _ (al A P : ℕ) (b : List ℕ) (c p : ℕ) where
   -- word w of the pool's record, and of its arena's
   abbrev pub poolHas : ℕ → ℕ
@@ -29,7 +29,8 @@ module _ (al A P : ℕ) (b : List ℕ) (c p : ℕ) where
   abbrev pub arenaHas : ℕ → ℕ
   arenaHas w = arena b w (p / P)
 
-  -- "Otherwise, at count 0, it leaves its class list and goes to the front of its arena's freed pools, .. and free pools rises by 1."
+  -- "Otherwise, at count 0, it leaves its class list and goes to the front of its arena's freed pools, .. and free pools rises by 1. If free pools is
+  -- now P, the arena leaves the usable list, .. If free pools is now 1, .. Otherwise its place in the list stays as it was."
   unfoldable pub emptying : BackPlan
   emptying =
       mayLeave (A * P) (poolLinks A) p b
@@ -40,7 +41,7 @@ module _ (al A P : ℕ) (b : List ℕ) (c p : ℕ) where
       else if eqb (arenaHas freePools + 1) 1 then mayJoin A usableHead b ⇛ Returns
       else Empties)
 
-  -- "Give back."
+  -- "If the old freeblock was 0, the pool was full: it joins its class list at the front. Otherwise, at count 0, .."
   unfoldable pub planBack : BackPlan
   planBack =
       (none? (poolHas freeblock) || isStart (sizeOf al c) (poolHas freeblock))
@@ -79,6 +80,7 @@ module _ (al A P c p f : ℕ) where
       ▷ onBooks (λ b. sets b (arenaWord 0 a) (replicate 8 0))
       ▷ arenaJoins unusedHead a
 
+  -- the writes of each path
   unfoldable pub afterBack : BackPlan → Heap → Heap
   afterBack Damaged h = h
   afterBack Joins h = h ▷ takeBack ▷ poolJoins A c p

@@ -1,3 +1,4 @@
+-- 01 as definitions, in its order, and the three tables that the prover computes about them.
 pub mod Say
 pub mod Books
 pub mod Blocks

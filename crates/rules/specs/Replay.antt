@@ -11,7 +11,8 @@ use Rattle.rules.specs.Blocks.{linkAt}
 use Rattle.rules.specs.Outcome.{Outcome, passing}
 use Rattle.rules.specs.Numbers.{format, ask, giveBack, resize, blockSize, rollOf}
 
--- ---- a record: "op (1 ask, 2 give back, 3 resize), three zero bytes, size, offset, four zero bytes", low byte first
+-- ---- a record: "op (1 ask, 2 give back, 3 resize), three zero bytes, size, offset, four zero bytes", low byte first: a
+-- number in four bytes is read as a link is
 abbrev pub opOf : List ℕ → ℕ
 opOf r = at r 0
 

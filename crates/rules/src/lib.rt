@@ -1,5 +1,5 @@
-// The answers that the calls of 01 give and the paths that its steps take: the types that the code and the definitions
-// in specs/ share. What each value means is said there.
+// The answers that the calls of 01 give and the paths that its steps take, for the definitions in specs/, which say what each value means. The
+// code has the answers and a new pool's path as values; the other paths stand in its contracts alone.
 
 // Format, ask, give back, resize and write: 01's number, and the offset that its table of numbers puts beside it.
 pub struct Answer {

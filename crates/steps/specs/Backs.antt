@@ -1,22 +1,80 @@
 -- The books after each part of a give-back, and the words that a part leaves as they were for the next.
 -- Assumes nothing.
-use mathlib.Core.Path.{_≡_, ap, _∙_}
+use mathlib.Core.Path.{_≡_, refl, _∙_}
 use mathlib.Core.Logic.{_≢_, inl}
+use mathlib.Core.Bool.{Bool, true, _&&_}
 use mathlib.Core.List.{List, []}
-use Prim.Native.Nat.{ℕ, _+_, _*_, _-_, _/_, _≤_, _<_}
+use Prim.Native.Nat.{ℕ, zero, suc, _+_, _*_, _-_, _/_, _%_, _≤_, _<_}
 use native.Mathlib.Omega.{arith}
+use borrow.Author.Tests.{leb-true}
+use lib.Dec.{leb, eqb}
 use lib.ListN.{length, length-set, replicate}
 use lib.Seq.{getD-set-other, sets, length-sets}
-use Rattle.rules.specs.Say.{_▷_}
-use Rattle.rules.specs.Books.{Heap, at, put, usableHead, unusedHead, classHead, freePools, freedHead, arenaWord, arena, count, freeblock, poolNext, poolPrevious, poolWord}
-use Rattle.rules.specs.Lists.{nextAt, previousAt, arenaLinks, poolLinks, leave}
-use Rattle.rules.specs.GiveBack.{takeBack, empty, release, afterBack}
-use Rattle.rules.specs.declared.BackPlan.the-variants.{Empties}
-use Rattle.rules.specs.Outcome.{heapOf}
-use Rattle.books.specs.Lists.{leave-keeps, length-leaveBy, pool-leave-keeps}
+use Rattle.rules.specs.declared.Answer.{Answer}
+use Rattle.rules.specs.Say.{if_then_else_, _▷_}
+use Rattle.rules.specs.Books.{Heap, at, put, usableHead, unusedHead, classHead, freePools, freedHead, arenaWord, arena, count, freeblock, poolNext, poolPrevious, poolWord, pool}
+use Rattle.rules.specs.Blocks.{sizeOf, blockNo, classAt, sizeAt}
+use Rattle.rules.specs.Lists.{nextAt, previousAt, leave, join, mayLeave, mayJoin, arenaLinks, poolLinks}
+use Rattle.rules.specs.GiveBack.{takeBack, empty, release}
+use Rattle.rules.specs.Outcome.{heapOf, answerOf, passing}
+use Rattle.books.specs.Known.{LiveBlock}
+use Rattle.books.specs.Starts.{Start}
+use Rattle.books.specs.Tests.{both}
+use Rattle.books.specs.Lists.{leave-keeps, length-leaveBy, pool-leave-keeps, Links, links}
 use Rattle.loops.specs.Sets.{sets-other}
-use Rattle.plans.specs.Fits.{Links}
-use Rattle.plans.specs.FitsBack.{FitsEmpty}
+
+-- ---- what a give-back answers, as one number, which comes back in a register
+-- of offset o: its number
+abbrev pub gave : ℕ → ℕ → Answer
+gave o r = passing r (λ n. answerOf n 0) (answerOf 0 o)
+
+pub gave-number : (o r : ℕ) → gave o r .number ≡ r
+gave-number o zero = refl
+gave-number o (suc r) = refl
+
+-- two heaps are the same where their three buffers are
+pub heap-is : {m m′ b b′ k k′ : List ℕ} → m ≡ m′ → b ≡ b′ → k ≡ k′ → _≡_ {A = Heap} (heapOf m b k) (heapOf m′ b′ k′)
+heap-is {m} {m′} {b} {b′} {k} {k′} e f g = cc
+
+-- ---- what a give-back knows once its tests have passed
+-- block k of pool p, of class c, at f: it is there, and its pool counts it
+pub record Counted (A P c p f k : ℕ) (b : List ℕ) : Type 0 where
+  pub class : c ≤ 63
+  pub there : p < A * P
+  pub start : Start (sizeOf 8 c) f
+  pub number : k ≡ blockNo (sizeOf 8 c) f
+  pub some : 1 ≤ pool A b count p
+
+-- a live block is one if the test of the count, n, has passed
+pub counted : (A P c k o n : ℕ) (b m : List ℕ) → c ≡ classAt A b o → LiveBlock 8 A P b m o → k ≡ blockNo (sizeAt 8 A b o) (o % 4096)
+    → n ≡ pool A b count (o / 4096) → leb 1 n && leb n 506 ≡ true → Counted A P c (o / 4096) (o % 4096) k b
+counted A P c k o n b m e live number so-many t =
+    record {
+      class = rw e (live .class);
+      there = live .pool;
+      start = rw e (live .start);
+      number = rw e number;
+      some = rw (← so-many) (leb-true 1 n (both (leb 1 n) (leb n 506) t .0));
+    }
+
+-- pool p may leave its class list and return to its arena a, which has so many free pools
+abbrev pub mayEmpty : ℕ → ℕ → ℕ → ℕ → ℕ → List ℕ → Bool
+mayEmpty A P a p free b = mayLeave (A * P) (poolLinks A) p b && leb (arena b freedHead a) (A * P) && leb free (P - 1)
+
+pub record FitsEmpty (A P p : ℕ) (b : List ℕ) : Type 0 where
+  pub links : Links (A * P) (poolLinks A) p b
+  pub head : arena b freedHead (p / P) ≤ A * P
+  pub free : arena b freePools (p / P) ≤ P - 1
+
+pub fits-empty : (A P a p free : ℕ) (b : List ℕ) → a ≡ p / P → free ≡ arena b freePools a → mayEmpty A P a p free b ≡ true → FitsEmpty A P p b
+fits-empty A P a p free b home so-many e =
+    let t = both (mayLeave (A * P) (poolLinks A) p b && leb (arena b freedHead a) (A * P)) (leb free (P - 1)) e in
+    let u = both (mayLeave (A * P) (poolLinks A) p b) (leb (arena b freedHead a) (A * P)) (t .0) in
+    record {
+      links = links (A * P) (poolLinks A) p b (u .0);
+      head = rw (← home) (leb-true _ (A * P) (u .1));
+      free = rw (← home, ← so-many) (leb-true free (P - 1) (t .1));
+    }
 
 -- ---- the books' part of each write
 abbrev pub takenBack : ℕ → ℕ → ℕ → List ℕ → List ℕ
@@ -36,6 +94,18 @@ emptied A P c p b = empty 8 A P c p 0 (heapOf [] b []) .books
 
 abbrev pub released : ℕ → List ℕ → List ℕ
 released a b = release 8 0 0 0 0 0 a (heapOf [] b []) .books
+
+-- ---- arena a, which had so many free pools, has one more: all are free and it is released, or it had none and is usable again, or neither
+-- what the rules ask of it
+abbrev pub maySettle : ℕ → ℕ → ℕ → ℕ → List ℕ → Bool
+maySettle A P a free b =
+    if eqb (free + 1) P then mayLeave A arenaLinks a b && mayJoin A unusedHead b
+    else if eqb (free + 1) 1 then mayJoin A usableHead b
+    else true
+
+-- its part of the writes
+abbrev pub settled : ℕ → ℕ → ℕ → List ℕ → List ℕ
+settled P a free b = if eqb (free + 1) P then released a b else if eqb (free + 1) 1 then join arenaLinks usableHead a b else b
 
 -- ---- the pool's freeblock and count are all that the block's return writes
 module _ (A p f : ℕ) (b : List ℕ) where
@@ -122,20 +192,18 @@ module _ (A P c p f : ℕ) (b : List ℕ) where
   last-length = length-emptied A P c p (takenBack A p f b) ∙ length-taken A p f b
 
   -- a head of the arenas' lists, and the links of the pool's arena
-  pub last-head : (j : ℕ) → j < 4 → at last j ≡ at b j
+  last-head : (j : ℕ) → j < 4 → at last j ≡ at b j
   last-head j h = emptied-keeps A P c p (takenBack A p f b) j (omega arith) (omega arith) (omega arith) (omega arith) ∙ taken-before j (omega arith)
 
-  pub last-links : c ≤ 63 → p / P < A → Links A arenaLinks (p / P) b → Links A arenaLinks (p / P) last
-  last-links few l t = record {
-    next = rw (kept (nextAt arenaLinks (p / P)) (omega arith) (omega arith) (omega arith)) (t .next);
-    previous = rw (kept (previousAt arenaLinks (p / P)) (omega arith) (omega arith) (omega arith)) (t .previous);
-  }
-    where
-      kept : (j : ℕ) → j < 72 + 8 * A → 76 ≤ j → (j ≡ arenaWord freedHead (p / P) → ⊥) × (j ≡ arenaWord freePools (p / P) → ⊥) → at last j ≡ at b j
-      kept j h k d = emptied-keeps A P c p (takenBack A p f b) j h (omega arith) (d .0) (d .1) ∙ taken-before j h
+  last-link : c ≤ 63 → (j : ℕ) → j < 72 + 8 * A → 76 ≤ j → j ≢ arenaWord freedHead (p / P) → j ≢ arenaWord freePools (p / P) → at last j ≡ at b j
+  last-link few j h k d e = emptied-keeps A P c p (takenBack A p f b) j h (omega arith) d e ∙ taken-before j h
 
--- the books of a heap after a give-back that emptied its pool
-pub last-books : (A P c p f : ℕ) (m b k m′ b′ k′ : List ℕ) → heapOf m′ b′ k′ ≡ afterBack 8 A P c p f Empties (heapOf m b k)
-    → b′ ≡ emptied A P c p (takenBack A p f b)
-unfolding afterBack
-last-books A P c p f m b k m′ b′ k′ e = ap (λ (h : Heap). h .books) e
+  -- so what the rules ask of the arena can be tested before the first write
+  pub may-settle-last : c ≤ 63 → p / P < A → (free : ℕ) → maySettle A P (p / P) free last ≡ maySettle A P (p / P) free b
+  may-settle-last few l free =
+      rw (
+        last-head usableHead (omega arith),
+        last-head unusedHead (omega arith),
+        last-link few (nextAt arenaLinks (p / P)) (omega arith) (omega arith) (omega arith) (omega arith),
+        last-link few (previousAt arenaLinks (p / P)) (omega arith) (omega arith) (omega arith) (omega arith),
+      )

@@ -1,9 +1,4 @@
--- The laws of the steps: the path by its tests, the words that each write leaves as they were for the next, and the block that a moving resize copies to.
-pub mod Heaps
-pub mod Passing
-pub mod Answers
-pub mod AskPath
-pub mod BackPath
-pub mod HandOut
+-- The laws of the give-back and of resize: the path by its tests, the words that each write leaves as they were for the next, and the block that a moving resize copies to.
 pub mod Backs
+pub mod BackPath
 pub mod Moves

@@ -18,7 +18,7 @@ use Rattle.rules.specs.Ask.{planAsk, askAnswer, askStep}
 use Rattle.rules.specs.Resize.{keeps, copy, giveOld, halfDone, moved, resizeStep}
 use Rattle.books.specs.Known.{LiveBlock}
 use Rattle.loops.specs.Copy.{Apart}
-use Rattle.steps.specs.Passing.{stopped, passed}
+use Rattle.books.specs.Passing.{stopped, passed}
 use Rattle.plans.specs.Fits.{Spare, FitsAsk, fits-ask}
 
 -- ---- sizes

@@ -1,7 +1,3 @@
-// The steps: what an ask hands out, what a give-back puts back, and what a resize moves.
-pub mod answers;
-pub mod hand_out;
-mod listed;
-pub mod lists;
-pub mod moves;
-pub mod put_back;
+// The give-back, and resize, which is made of an ask, a copy and a give-back.
+pub mod give_back;
+pub mod resize;

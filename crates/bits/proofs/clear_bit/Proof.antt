@@ -31,8 +31,10 @@ same-length c = search needs
 
 returns : tie.Need-returns
 returns c =
-    let l : c .before .args .k % 64 < 64 = omega arith in
-    let f = c .slice-known .given (mapWord (c .before .args .pool) (c .before .args .k)) .fits in
+    let at-start = c .before in
+    let a = at-start .args in
+    let l : a .k % 64 < 64 = omega arith in
+    let f = c .slice-known .given (mapWord (a .pool) (a .k)) .fits in
     simp code-clear
 
 pub clear-bit-spec : {M : Type 1} → statement M

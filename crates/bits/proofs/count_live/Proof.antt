@@ -24,7 +24,10 @@ cast-result : tie.Need-cast-result
 cast-result c = record { fits = lt-of-le-of-lt (ones-le 64 _ (mod-lt _ (omega arith))) (omega arith) }
 
 returns-2 : tie.Need-returns-2
-returns-2 c = code-count 64 (c .before .args .n) (c .before .args .word) (omega arith)
+returns-2 c =
+    let at-start = c .before in
+    let a = at-start .args in
+    code-count 64 (a .n) (a .word) (omega arith)
 
 pub count-live-spec : {M : Type 1} → statement M
 count-live-spec = tie.close (tie.spec returns sub-result shl-result cast-result returns-2)

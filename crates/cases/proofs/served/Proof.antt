@@ -36,8 +36,10 @@ loop-less c = omega arith
 
 loop-again : tie.Need-loop-again Inv-loop μ-loop
 loop-again c =
-    let x = c .before .before .before .before .before .before .before .before .ask in
-    let i = c .before .before .before .before .before .before .before .before .before .before .before .before .before .loop .inv in
+    let at-ask = c .before .before .before .before .before .before .before .before in
+    let at-loop = at-ask .before .before .before .before .before in
+    let x = at-ask .ask in
+    let i = at-loop .loop .inv in
     (⊎-elim (λ w. omega arith) (λ w. omega arith) (c .if1 .came), omega arith, x .kept .0 ∙ i .2, x .kept .1 .0 ∙ i .3, x .kept .1 .1 .0 ∙ i .4)
 
 same-length : tie.Need-same-length Inv-loop μ-loop

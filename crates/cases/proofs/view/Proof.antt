@@ -40,7 +40,9 @@ text-requires-4 : tie.Need-text-requires-4
 text-requires-4 c κs = search needs
 
 slice-aggregate-text-5 : tie.Need-slice-aggregate-text-5
-slice-aggregate-text-5 c = sym (length-take-le _ _ (c .before .before .before .if1 .taken))
+slice-aggregate-text-5 c =
+    let at-if1 = c .before .before .before in
+    sym (length-take-le _ _ (at-if1 .if1 .taken))
 
 text-requires-5 : tie.Need-text-requires-5
 text-requires-5 c κs = search needs

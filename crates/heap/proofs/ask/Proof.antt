@@ -7,7 +7,7 @@ use Rattle.rules.specs.declared.Answer.{Answer}
 use Rattle.rules.specs.Ask.{askStep}
 use Rattle.rules.specs.Numbers.{ask}
 use Rattle.rules.specs.Outcome.{heapOf, outcome}
-use Rattle.steps.specs.Passing.{refusal, step}
+use Rattle.books.specs.Passing.{refusal, step}
 use borrow.Author.Needs.{needs}
 use Rattle.heap.proofs.ask.Statement.{statement}
 use Rattle.heap.proofs.ask.Tie as tie
@@ -30,21 +30,31 @@ same-length-3 c = search needs
 returns : tie.Need-returns
 unfolding ask
 returns c =
-    let a = c .before .before .before .before .before .before .before .before .before .args in
+    let at-size-test = c .before .before in
+    let at-start = at-size-test .before .before .before .before .before .before .before in
+    let a = at-start .args in
     let h = heapOf (a .memory .now) (a .books .now) (a .map .now) in
-    refusal h _ (c .refuse .result) (c .before .before .size-test .result) _ (c .refuse .ensures) (c .before .before .size-test .ensures .0) (c .before .if1 .taken)
+    refusal h _ (c .refuse .result) (at-size-test .size-test .result) _ (c .refuse .ensures) (at-size-test .size-test .ensures .0) (c .before .if1 .taken)
 
 word-requires : tie.Need-word-requires
 word-requires c κs =
-    let t = c .before .before .size-test .ensures .1 (c .before .if1 .left) in omega (arith, t .shaped .books)
+    let at-size-test = c .before .before in
+    let t = at-size-test .size-test .ensures .1 (c .before .if1 .left) in omega (arith, t .shaped .books)
 
 word-requires-2 : tie.Need-word-requires-2
 word-requires-2 c κs =
-    let t = c .before .before .before .before .size-test .ensures .1 (c .before .before .before .if1 .left) in omega (arith, t .shaped .books)
+    let at-if1 = c .before .before .before in
+    let at-size-test = at-if1 .before in
+    let t = at-size-test .size-test .ensures .1 (at-if1 .if1 .left) in omega (arith, t .shaped .books)
 
 ask-step-requires : tie.Need-ask-step-requires
 ask-step-requires c κs =
-    let t = c .before .before .before .before .before .before .before .before .size-test .ensures .1 (c .before .before .before .before .before .before .before .if1 .left) in (rw (c .before .before .before .before .before .word .ensures .0, c .before .before .before .word2 .ensures .0) (t .shaped), t .low, t .high)
+    let at-word2 = c .before .before .before in
+    let at-word = at-word2 .before .before in
+    let at-if1 = at-word .before .before in
+    let at-size-test = at-if1 .before in
+    let t = at-size-test .size-test .ensures .1 (at-if1 .if1 .left) in
+    (rw (at-word .word .ensures .0, at-word2 .word2 .ensures .0) (t .shaped), t .low, t .high)
 
 answer-requires : tie.Need-answer-requires
 answer-requires c κs = search needs
@@ -61,15 +71,21 @@ same-length-6 c = search needs
 returns-2 : tie.Need-returns-2
 unfolding ask
 returns-2 c =
-    let a = c .before .before .before .before .before .before .before .before .before .before .before .before .before .before .before .before .before .before .before .before .before .before .before .args in
+    let at-ask-step = c .before .before .before .before .before .before .before in
+    let at-word2 = at-ask-step .before .before .before .before in
+    let at-word = at-word2 .before .before in
+    let at-if1 = at-word .before .before in
+    let at-size-test = at-if1 .before in
+    let at-start = at-size-test .before .before .before .before .before .before .before in
+    let a = at-start .args in
     let h = heapOf (a .memory .now) (a .books .now) (a .map .now) in
-    let after = heapOf (c .before .before .before .before .before .before .before .ask-step .last .0) (c .before .before .before .before .before .before .before .ask-step .last .1 .0) (c .before .before .before .before .before .before .before .ask-step .last .1 .1 .0) in
-    step h _ _ (c .before .before .before .before .before .before .before .before .before .before .before .before .before .before .before .before .size-test .result) _
+    let after = heapOf (at-ask-step .ask-step .last .0) (at-ask-step .ask-step .last .1 .0) (at-ask-step .ask-step .last .1 .1 .0) in
+    step h _ _ (at-size-test .size-test .result) _
     (ap (λ (x : Answer). outcome x after) (c .answer .ensures)
-    ∙ c .before .before .before .before .before .before .before .ask-step .ensures
-    ∙ ap₂ (λ (x y : ℕ). askStep 8 x y h (a .size)) (c .before .before .before .before .before .before .before .before .before .before .before .before .before .word .ensures .0) (c .before .before .before .before .before .before .before .before .before .before .before .word2 .ensures .0))
-    (c .before .before .before .before .before .before .before .before .before .before .before .before .before .before .before .before .size-test .ensures .0)
-    (c .before .before .before .before .before .before .before .before .before .before .before .before .before .before .before .if1 .left)
+    ∙ at-ask-step .ask-step .ensures
+    ∙ ap₂ (λ (x y : ℕ). askStep 8 x y h (a .size)) (at-word .word .ensures .0) (at-word2 .word2 .ensures .0))
+    (at-size-test .size-test .ensures .0)
+    (at-if1 .if1 .left)
 
 pub ask-spec : {M : Type 1} → statement M
 ask-spec =

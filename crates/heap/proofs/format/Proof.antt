@@ -7,7 +7,7 @@ use lib.ListN.{replicate}
 use borrow.Author.Needs.{needs}
 use Rattle.rules.specs.Numbers.{format}
 use Rattle.rules.specs.Outcome.{heapOf, done}
-use Rattle.steps.specs.Passing.{refusal, step}
+use Rattle.books.specs.Passing.{refusal, step}
 use Rattle.heap.proofs.format.Statement.{statement}
 use Rattle.heap.proofs.format.Tie as tie
 
@@ -25,10 +25,17 @@ same-length-2 c = search needs
 
 returns : tie.Need-returns
 unfolding format
-returns c = refusal (heapOf (c .before .before .before .before .before .before .before .before .args .memory .now) (c .before .before .before .before .before .before .before .before .args .books .now) (c .before .before .before .before .before .before .before .before .args .map .now)) _ (c .refuse .result) (c .before .before .fit-number .result) _ (c .refuse .ensures) (c .before .before .fit-number .ensures .0) (c .before .if1 .taken)
+returns c =
+    let at-fit-number = c .before .before in
+    let at-start = at-fit-number .before .before .before .before .before .before in
+    let a = at-start .args in
+    refusal (heapOf (a .memory .now) (a .books .now) (a .map .now)) _ (c .refuse .result) (at-fit-number .fit-number .result) _ (c .refuse .ensures)
+    (at-fit-number .fit-number .ensures .0) (c .before .if1 .taken)
 
 fresh-books-requires : tie.Need-fresh-books-requires
-fresh-books-requires c κs = let s = c .before .before .fit-number .ensures .1 (c .before .if1 .left) in (s .arenas-high, s .pools-high, s .books)
+fresh-books-requires c κs =
+    let at-fit-number = c .before .before in
+    let s = at-fit-number .fit-number .ensures .1 (c .before .if1 .left) in (s .arenas-high, s .pools-high, s .books)
 
 wipe-requires : tie.Need-wipe-requires
 wipe-requires c κs = search needs
@@ -41,10 +48,18 @@ same-length-4 c = search needs
 
 returns-2 : tie.Need-returns-2
 unfolding format
-returns-2 c = let s = c .before .before .before .before .before .before .before .before .before .fit-number .ensures .1 (c .before .before .before .before .before .before .before .before .if1 .left) in
-    step (heapOf (c .before .before .before .before .before .before .before .before .before .before .before .before .before .before .before .args .memory .now) (c .before .before .before .before .before .before .before .before .before .before .before .before .before .before .before .args .books .now) (c .before .before .before .before .before .before .before .before .before .before .before .before .before .before .before .args .map .now)) _ _ (c .before .before .before .before .before .before .before .before .before .fit-number .result) _
-    (ap₂ (λ (x y : List ℕ). done 0 (heapOf (c .before .before .before .before .before .before .before .before .before .before .before .before .before .before .before .args .memory .now) x y)) (c .before .before .before .before .before .before .fresh-books .ensures) (c .before .before .wipe .ensures ∙ ap (λ (n : ℕ). replicate n 0) (s .map)))
-    (c .before .before .before .before .before .before .before .before .before .fit-number .ensures .0) (c .before .before .before .before .before .before .before .before .if1 .left)
+returns-2 c =
+    let at-wipe = c .before .before in
+    let at-fresh-books = at-wipe .before .before .before .before in
+    let at-if1 = at-fresh-books .before .before in
+    let at-fit-number = at-if1 .before in
+    let at-start = at-fit-number .before .before .before .before .before .before in
+    let a = at-start .args in
+    let s = at-fit-number .fit-number .ensures .1 (at-if1 .if1 .left) in
+    step (heapOf (a .memory .now) (a .books .now) (a .map .now)) _ _ (at-fit-number .fit-number .result) _
+    (ap₂ (λ (x y : List ℕ). done 0 (heapOf (a .memory .now) x y)) (at-fresh-books .fresh-books .ensures)
+    (at-wipe .wipe .ensures ∙ ap (λ (n : ℕ). replicate n 0) (s .map)))
+    (at-fit-number .fit-number .ensures .0) (at-if1 .if1 .left)
 
 pub format-spec : {M : Type 1} → statement M
 format-spec =

@@ -7,7 +7,7 @@ use Rattle.rules.specs.declared.Answer.{Answer}
 use Rattle.rules.specs.Numbers.{shapeNumber, offsetNumber, giveBack}
 use Rattle.rules.specs.Outcome.{heapOf, outcome, answerOf, refused}
 use Rattle.rules.specs.Resize.{giveOld}
-use Rattle.steps.specs.Passing.{stopped, passed, refusal}
+use Rattle.books.specs.Passing.{stopped, passed, refusal}
 use Rattle.heap.specs.Order.{shape-first}
 use borrow.Author.Needs.{needs}
 use Rattle.heap.proofs.give_back.Statement.{statement}
@@ -31,19 +31,33 @@ same-length-3 c = search needs
 returns : tie.Need-returns
 unfolding giveBack
 returns c =
-    let a = c .before .before .before .before .before .before .before .before .before .args in
+    let at-shape-number = c .before .before in
+    let at-start = at-shape-number .before .before .before .before .before .before .before in
+    let a = at-start .args in
     let h = heapOf (a .memory .now) (a .books .now) (a .map .now) in
-    refusal h _ (c .refuse .result) (c .before .before .shape-number .result) _ (c .refuse .ensures) (c .before .before .shape-number .ensures .0) (c .before .if1 .taken)
+    refusal h _ (c .refuse .result) (at-shape-number .shape-number .result) _ (c .refuse .ensures) (at-shape-number .shape-number .ensures .0)
+    (c .before .if1 .taken)
     ∙ shape-first (shapeNumber h) (offsetNumber 8 h (a .offset)) (λ k. refused k h) _
 
 word-requires : tie.Need-word-requires
-word-requires c κs = let s = c .before .before .shape-number .ensures .1 (c .before .if1 .left) in omega (arith, s .books)
+word-requires c κs =
+    let at-shape-number = c .before .before in
+    let s = at-shape-number .shape-number .ensures .1 (c .before .if1 .left) in omega (arith, s .books)
 
 word-requires-2 : tie.Need-word-requires-2
-word-requires-2 c κs = let s = c .before .before .before .before .shape-number .ensures .1 (c .before .before .before .if1 .left) in omega (arith, s .books)
+word-requires-2 c κs =
+    let at-if1 = c .before .before .before in
+    let at-shape-number = at-if1 .before in
+    let s = at-shape-number .shape-number .ensures .1 (at-if1 .if1 .left) in omega (arith, s .books)
 
-give-requires : tie.Need-give-requires
-give-requires c κs = let s = c .before .before .before .before .before .before .before .before .shape-number .ensures .1 (c .before .before .before .before .before .before .before .if1 .left) in rw (c .before .before .before .before .before .word .ensures .0, c .before .before .before .word2 .ensures .0) s
+give-old-requires : tie.Need-give-old-requires
+give-old-requires c κs =
+    let at-word2 = c .before .before .before in
+    let at-word = at-word2 .before .before in
+    let at-if1 = at-word .before .before in
+    let at-shape-number = at-if1 .before in
+    let s = at-shape-number .shape-number .ensures .1 (at-if1 .if1 .left) in
+    rw (at-word .word .ensures .0, at-word2 .word2 .ensures .0) s
 
 refuse-requires-2 : tie.Need-refuse-requires-2
 refuse-requires-2 c κs = search needs
@@ -60,19 +74,31 @@ same-length-6 c = search needs
 returns-2 : tie.Need-returns-2
 unfolding giveBack giveOld
 returns-2 c =
-    let a = c .before .before .before .before .before .before .before .before .before .before .before .before .before .before .before .before .before .before .before .before .before .before .before .before .args in
+    let at-give-old = c .before .before .before .before .before .before .before .before in
+    let at-word2 = at-give-old .before .before .before .before in
+    let at-word = at-word2 .before .before in
+    let at-if1 = at-word .before .before in
+    let at-shape-number = at-if1 .before in
+    let at-start = at-shape-number .before .before .before .before .before .before .before in
+    let a = at-start .args in
     let h = heapOf (a .memory .now) (a .books .now) (a .map .now) in
-    let after = heapOf (c .before .before .before .before .before .before .before .before .give .last .0) (c .before .before .before .before .before .before .before .before .give .last .1 .0) (c .before .before .before .before .before .before .before .before .give .last .1 .1 .0) in
-    ap (λ (x : Answer). outcome x after) (c .refuse2 .ensures ∙ sym (stopped (λ n. answerOf n 0) (answerOf 0 (a .offset)) (c .before .before .before .before .before .before .before .before .give .result) (c .before .if2 .taken)))
-    ∙ c .before .before .before .before .before .before .before .before .give .ensures .0
-    ∙ ap₂ (λ (x y : ℕ). giveOld 8 x y h (a .offset)) (c .before .before .before .before .before .before .before .before .before .before .before .before .before .before .word .ensures .0) (c .before .before .before .before .before .before .before .before .before .before .before .before .word2 .ensures .0)
-    ∙ sym (passed (λ k. refused k h) _ (shapeNumber h) (sym (c .before .before .before .before .before .before .before .before .before .before .before .before .before .before .before .before .before .shape-number .ensures .0) ∙ c .before .before .before .before .before .before .before .before .before .before .before .before .before .before .before .before .if1 .left))
+    let after = heapOf (at-give-old .give-old .last .0) (at-give-old .give-old .last .1 .0) (at-give-old .give-old .last .1 .1 .0) in
+    ap (λ (x : Answer). outcome x after)
+    (c .refuse2 .ensures ∙ sym (stopped (λ n. answerOf n 0) (answerOf 0 (a .offset)) (at-give-old .give-old .result) (c .before .if2 .taken)))
+    ∙ at-give-old .give-old .ensures .0
+    ∙ ap₂ (λ (x y : ℕ). giveOld 8 x y h (a .offset)) (at-word .word .ensures .0) (at-word2 .word2 .ensures .0)
+    ∙ sym (passed (λ k. refused k h) _ (shapeNumber h) (sym (at-shape-number .shape-number .ensures .0) ∙ at-if1 .if1 .left))
     ∙ shape-first (shapeNumber h) (offsetNumber 8 h (a .offset)) (λ k. refused k h) _
 
 cast-t26 : tie.Need-cast-t26
 cast-t26 c =
-    let s = c .before .before .before .before .before .before .before .before .before .before .before .before .before .before .before .before .shape-number .ensures .1 (c .before .before .before .before .before .before .before .before .before .before .before .before .before .before .before .if1 .left) in
-    let inside = rw (c .before .before .before .before .before .before .before .before .before .before .before .before .before .word .ensures .0, c .before .before .before .before .before .before .before .before .before .before .before .word2 .ensures .0) at (c .before .before .before .before .before .before .before .give .ensures .1 (c .if2 .left)) in
+    let at-give-old = c .before .before .before .before .before .before .before in
+    let at-word2 = at-give-old .before .before .before .before in
+    let at-word = at-word2 .before .before in
+    let at-if1 = at-word .before .before in
+    let at-shape-number = at-if1 .before in
+    let s = at-shape-number .shape-number .ensures .1 (at-if1 .if1 .left) in
+    let inside = rw (at-word .word .ensures .0, at-word2 .word2 .ensures .0) at (at-give-old .give-old .ensures .1 (c .if2 .left)) in
     omega (arith, inside, s .all)
 
 same-length-7 : tie.Need-same-length-7
@@ -87,13 +113,19 @@ same-length-9 c = search needs
 returns-3 : tie.Need-returns-3
 unfolding giveBack giveOld
 returns-3 c =
-    let a = c .before .before .before .before .before .before .before .before .before .before .before .before .before .before .before .before .before .before .before .before .before .before .before .args in
+    let at-give-old = c .before .before .before .before .before .before .before in
+    let at-word2 = at-give-old .before .before .before .before in
+    let at-word = at-word2 .before .before in
+    let at-if1 = at-word .before .before in
+    let at-shape-number = at-if1 .before in
+    let at-start = at-shape-number .before .before .before .before .before .before .before in
+    let a = at-start .args in
     let h = heapOf (a .memory .now) (a .books .now) (a .map .now) in
-    let after = heapOf (c .before .before .before .before .before .before .before .give .last .0) (c .before .before .before .before .before .before .before .give .last .1 .0) (c .before .before .before .before .before .before .before .give .last .1 .1 .0) in
-    ap (λ (x : Answer). outcome x after) (sym (passed (λ n. answerOf n 0) (answerOf 0 (a .offset)) (c .before .before .before .before .before .before .before .give .result) (c .if2 .left)))
-    ∙ c .before .before .before .before .before .before .before .give .ensures .0
-    ∙ ap₂ (λ (x y : ℕ). giveOld 8 x y h (a .offset)) (c .before .before .before .before .before .before .before .before .before .before .before .before .before .word .ensures .0) (c .before .before .before .before .before .before .before .before .before .before .before .word2 .ensures .0)
-    ∙ sym (passed (λ k. refused k h) _ (shapeNumber h) (sym (c .before .before .before .before .before .before .before .before .before .before .before .before .before .before .before .before .shape-number .ensures .0) ∙ c .before .before .before .before .before .before .before .before .before .before .before .before .before .before .before .if1 .left))
+    let after = heapOf (at-give-old .give-old .last .0) (at-give-old .give-old .last .1 .0) (at-give-old .give-old .last .1 .1 .0) in
+    ap (λ (x : Answer). outcome x after) (sym (passed (λ n. answerOf n 0) (answerOf 0 (a .offset)) (at-give-old .give-old .result) (c .if2 .left)))
+    ∙ at-give-old .give-old .ensures .0
+    ∙ ap₂ (λ (x y : ℕ). giveOld 8 x y h (a .offset)) (at-word .word .ensures .0) (at-word2 .word2 .ensures .0)
+    ∙ sym (passed (λ k. refused k h) _ (shapeNumber h) (sym (at-shape-number .shape-number .ensures .0) ∙ at-if1 .if1 .left))
     ∙ shape-first (shapeNumber h) (offsetNumber 8 h (a .offset)) (λ k. refused k h) _
 
 pub give-back-spec : {M : Type 1} → statement M
@@ -108,7 +140,7 @@ give-back-spec =
     returns
     word-requires
     word-requires-2
-    give-requires
+    give-old-requires
     refuse-requires-2
     same-length-4
     same-length-5

@@ -4,7 +4,7 @@ use mathlib.Core.Path.{sym, ap₂, _∙_}
 use Prim.Native.Nat.{ℕ}
 use native.Mathlib.Omega.{arith}
 use Rattle.rules.specs.Blocks.{liveNumber}
-use Rattle.steps.specs.Passing.{stopped, passed, last-test}
+use Rattle.books.specs.Passing.{stopped, passed, last-test}
 use borrow.Author.Needs.{needs}
 use Rattle.heap.proofs.offset_test.Statement.{statement}
 use Rattle.heap.proofs.offset_test.Tie as tie
@@ -13,23 +13,42 @@ shape-number-requires : tie.Need-shape-number-requires
 shape-number-requires c κs = search needs
 
 returns : tie.Need-returns
-returns c = (c .before .shape-number .ensures .0 ∙ sym (stopped (λ n. n) _ _ (λ z. c .if1 .taken (c .before .shape-number .ensures .0 ∙ z))), λ z. absurd (c .if1 .taken z))
+returns c =
+    let at-shape-number = c .before in (
+      at-shape-number .shape-number .ensures .0
+          ∙ sym (stopped (λ n. n) _ _ (λ z. c .if1 .taken (at-shape-number .shape-number .ensures .0 ∙ z))),
+      λ z. absurd (c .if1 .taken z),
+    )
 
 word-requires : tie.Need-word-requires
 word-requires c κs = let s = c .before .shape-number .ensures .1 (c .if1 .left) in omega (arith, s .books)
 
 word-requires-2 : tie.Need-word-requires-2
-word-requires-2 c κs = let s = c .before .before .shape-number .ensures .1 (c .before .if1 .left) in omega (arith, s .books)
+word-requires-2 c κs =
+    let at-shape-number = c .before .before in
+    let s = at-shape-number .shape-number .ensures .1 (c .before .if1 .left) in omega (arith, s .books)
 
 live-number-requires : tie.Need-live-number-requires
-live-number-requires c κs = let s = c .before .before .before .shape-number .ensures .1 (c .before .before .if1 .left) in rw (c .before .word .ensures .0, c .word2 .ensures .0) s
+live-number-requires c κs =
+    let at-if1 = c .before .before in
+    let at-shape-number = at-if1 .before in
+    let s = at-shape-number .shape-number .ensures .1 (at-if1 .if1 .left) in
+    rw (c .before .word .ensures .0, c .word2 .ensures .0) s
 
 returns-2 : tie.Need-returns-2
 returns-2 c =
-    let a = c .before .before .before .before .before .before .before .before .args in
-    let s = c .before .before .before .before .shape-number .ensures .1 (c .before .before .before .if1 .left) in (
-      c .live-number .ensures .0 ∙ ap₂ (λ (x y : ℕ). liveNumber 8 x y (a .books .now) (a .map .now) (a .offset)) (c .before .before .word .ensures .0) (c .before .word2 .ensures .0) ∙ sym (last-test _) ∙ sym (passed (λ n. n) _ _ (sym (c .before .before .before .before .shape-number .ensures .0) ∙ c .before .before .before .if1 .left)),
-      λ z. record { shaped = s; live = rw (c .before .before .word .ensures .0, c .before .word2 .ensures .0) at (c .live-number .ensures .1 z) },
+    let at-word2 = c .before in
+    let at-word = at-word2 .before in
+    let at-if1 = at-word .before in
+    let at-shape-number = at-if1 .before in
+    let at-start = at-shape-number .before .before .before .before in
+    let a = at-start .args in
+    let s = at-shape-number .shape-number .ensures .1 (at-if1 .if1 .left) in (
+      c .live-number .ensures .0
+          ∙ ap₂ (λ (x y : ℕ). liveNumber 8 x y (a .books .now) (a .map .now) (a .offset)) (at-word .word .ensures .0) (at-word2 .word2 .ensures .0)
+          ∙ sym (last-test _)
+          ∙ sym (passed (λ n. n) _ _ (sym (at-shape-number .shape-number .ensures .0) ∙ at-if1 .if1 .left)),
+      λ z. record { shaped = s; live = rw (at-word .word .ensures .0, at-word2 .word2 .ensures .0) at (c .live-number .ensures .1 z) },
     )
 
 pub offset-test-spec : {M : Type 1} → statement M

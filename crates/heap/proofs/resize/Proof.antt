@@ -7,7 +7,7 @@ use Rattle.rules.specs.Blocks.{liveNumber}
 use Rattle.rules.specs.Numbers.{shapeNumber, sizeNumber, offsetNumber, resize}
 use Rattle.rules.specs.Outcome.{heapOf}
 use Rattle.rules.specs.Resize.{resizeStep}
-use Rattle.steps.specs.Passing.{stopped, passed, refusal, step}
+use Rattle.books.specs.Passing.{stopped, passed, refusal, step}
 use Rattle.heap.specs.Order.{offset-after}
 use borrow.Author.Needs.{needs}
 use Rattle.heap.proofs.resize.Statement.{statement}
@@ -31,20 +31,36 @@ same-length-3 c = search needs
 returns : tie.Need-returns
 unfolding resize
 returns c =
-    let a = c .before .before .before .before .before .before .before .before .before .args in
+    let at-if1 = c .before in
+    let at-size-test = at-if1 .before in
+    let at-start = at-size-test .before .before .before .before .before .before .before in
+    let a = at-start .args in
     let h = heapOf (a .memory .now) (a .books .now) (a .map .now) in
-    refusal h _ (c .refuse .result) (c .before .before .size-test .result) _ (c .refuse .ensures)
-    (c .before .before .size-test .ensures .0 ∙ sym (stopped (λ n. n) _ _ (λ z. c .before .if1 .taken (c .before .before .size-test .ensures .0 ∙ z))) ∙ sym (offset-after (shapeNumber h) (sizeNumber (a .size)) (offsetNumber 8 h (a .offset))))
-    (c .before .if1 .taken)
+    refusal h _ (c .refuse .result) (at-size-test .size-test .result) _ (c .refuse .ensures)
+    (at-size-test .size-test .ensures .0
+    ∙ sym (stopped (λ n. n) _ _ (λ z. at-if1 .if1 .taken (at-size-test .size-test .ensures .0 ∙ z)))
+    ∙ sym (offset-after (shapeNumber h) (sizeNumber (a .size)) (offsetNumber 8 h (a .offset))))
+    (at-if1 .if1 .taken)
 
 word-requires : tie.Need-word-requires
-word-requires c κs = let t = c .before .before .size-test .ensures .1 (c .before .if1 .left) in omega (arith, t .shaped .books)
+word-requires c κs =
+    let at-size-test = c .before .before in
+    let t = at-size-test .size-test .ensures .1 (c .before .if1 .left) in omega (arith, t .shaped .books)
 
 word-requires-2 : tie.Need-word-requires-2
-word-requires-2 c κs = let t = c .before .before .before .before .size-test .ensures .1 (c .before .before .before .if1 .left) in omega (arith, t .shaped .books)
+word-requires-2 c κs =
+    let at-if1 = c .before .before .before in
+    let at-size-test = at-if1 .before in
+    let t = at-size-test .size-test .ensures .1 (at-if1 .if1 .left) in omega (arith, t .shaped .books)
 
 live-number-requires : tie.Need-live-number-requires
-live-number-requires c κs = let t = c .before .before .before .before .before .before .before .before .size-test .ensures .1 (c .before .before .before .before .before .before .before .if1 .left) in rw (c .before .before .before .before .before .word .ensures .0, c .before .before .before .word2 .ensures .0) (t .shaped)
+live-number-requires c κs =
+    let at-word2 = c .before .before .before in
+    let at-word = at-word2 .before .before in
+    let at-if1 = at-word .before .before in
+    let at-size-test = at-if1 .before in
+    let t = at-size-test .size-test .ensures .1 (at-if1 .if1 .left) in
+    rw (at-word .word .ensures .0, at-word2 .word2 .ensures .0) (t .shaped)
 
 refuse-requires-2 : tie.Need-refuse-requires-2
 refuse-requires-2 c κs = search needs
@@ -61,15 +77,31 @@ same-length-6 c = search needs
 returns-2 : tie.Need-returns-2
 unfolding resize
 returns-2 c =
-    let a = c .before .before .before .before .before .before .before .before .before .before .before .before .before .before .before .before .before .before .args in
+    let at-live-number = c .before .before in
+    let at-word2 = at-live-number .before .before .before .before in
+    let at-word = at-word2 .before .before in
+    let at-if1 = at-word .before .before in
+    let at-size-test = at-if1 .before in
+    let at-start = at-size-test .before .before .before .before .before .before .before in
+    let a = at-start .args in
     let h = heapOf (a .memory .now) (a .books .now) (a .map .now) in
-    refusal h _ (c .refuse2 .result) (c .before .before .live-number .result) _ (c .refuse2 .ensures)
-    (c .before .before .live-number .ensures .0 ∙ ap₂ (λ (x y : ℕ). liveNumber 8 x y (a .books .now) (a .map .now) (a .offset)) (c .before .before .before .before .before .before .before .before .word .ensures .0) (c .before .before .before .before .before .before .word2 .ensures .0) ∙ sym (passed (λ n. n) _ _ (sym (c .before .before .before .before .before .before .before .before .before .before .before .size-test .ensures .0) ∙ c .before .before .before .before .before .before .before .before .before .before .if1 .left)) ∙ sym (offset-after (shapeNumber h) (sizeNumber (a .size)) (offsetNumber 8 h (a .offset))))
+    refusal h _ (c .refuse2 .result) (at-live-number .live-number .result) _ (c .refuse2 .ensures)
+    (at-live-number .live-number .ensures .0
+    ∙ ap₂ (λ (x y : ℕ). liveNumber 8 x y (a .books .now) (a .map .now) (a .offset)) (at-word .word .ensures .0) (at-word2 .word2 .ensures .0)
+    ∙ sym (passed (λ n. n) _ _ (sym (at-size-test .size-test .ensures .0) ∙ at-if1 .if1 .left))
+    ∙ sym (offset-after (shapeNumber h) (sizeNumber (a .size)) (offsetNumber 8 h (a .offset))))
     (c .before .if2 .taken)
 
 resize-step-requires : tie.Need-resize-step-requires
 resize-step-requires c κs =
-    let t = c .before .before .before .before .before .before .before .before .before .before .before .before .before .size-test .ensures .1 (c .before .before .before .before .before .before .before .before .before .before .before .before .if1 .left) in (rw (c .before .before .before .before .before .before .before .before .before .before .word .ensures .0, c .before .before .before .before .before .before .before .before .word2 .ensures .0) (t .shaped), c .before .before .before .before .live-number .ensures .1 (c .before .before .before .if2 .left), t .low, t .high)
+    let at-if2 = c .before .before .before in
+    let at-live-number = at-if2 .before in
+    let at-word2 = at-live-number .before .before .before .before in
+    let at-word = at-word2 .before .before in
+    let at-if1 = at-word .before .before in
+    let at-size-test = at-if1 .before in
+    let t = at-size-test .size-test .ensures .1 (at-if1 .if1 .left) in
+    (rw (at-word .word .ensures .0, at-word2 .word2 .ensures .0) (t .shaped), at-live-number .live-number .ensures .1 (at-if2 .if2 .left), t .low, t .high)
 
 same-length-7 : tie.Need-same-length-7
 same-length-7 c = search needs
@@ -83,12 +115,24 @@ same-length-9 c = search needs
 returns-3 : tie.Need-returns-3
 unfolding resize
 returns-3 c =
-    let a = c .before .before .before .before .before .before .before .before .before .before .before .before .before .before .before .before .before .before .before .before .before .before .before .before .before .before .before .args in
+    let at-resize-step = c .before .before .before .before .before .before in
+    let at-if2 = at-resize-step .before .before .before .before in
+    let at-live-number = at-if2 .before in
+    let at-word2 = at-live-number .before .before .before .before in
+    let at-word = at-word2 .before .before in
+    let at-if1 = at-word .before .before in
+    let at-size-test = at-if1 .before in
+    let at-start = at-size-test .before .before .before .before .before .before .before in
+    let a = at-start .args in
     let h = heapOf (a .memory .now) (a .books .now) (a .map .now) in
-    step h _ _ (c .before .before .before .before .before .before .before .before .before .before .before .live-number .result) _
-    (c .before .before .before .before .before .before .resize-step .ensures ∙ ap₂ (λ (x y : ℕ). resizeStep 8 x y h (a .offset) (a .size)) (c .before .before .before .before .before .before .before .before .before .before .before .before .before .before .before .before .before .word .ensures .0) (c .before .before .before .before .before .before .before .before .before .before .before .before .before .before .before .word2 .ensures .0))
-    (c .before .before .before .before .before .before .before .before .before .before .before .live-number .ensures .0 ∙ ap₂ (λ (x y : ℕ). liveNumber 8 x y (a .books .now) (a .map .now) (a .offset)) (c .before .before .before .before .before .before .before .before .before .before .before .before .before .before .before .before .before .word .ensures .0) (c .before .before .before .before .before .before .before .before .before .before .before .before .before .before .before .word2 .ensures .0) ∙ sym (passed (λ n. n) _ _ (sym (c .before .before .before .before .before .before .before .before .before .before .before .before .before .before .before .before .before .before .before .before .size-test .ensures .0) ∙ c .before .before .before .before .before .before .before .before .before .before .before .before .before .before .before .before .before .before .before .if1 .left)) ∙ sym (offset-after (shapeNumber h) (sizeNumber (a .size)) (offsetNumber 8 h (a .offset))))
-    (c .before .before .before .before .before .before .before .before .before .before .if2 .left)
+    step h _ _ (at-live-number .live-number .result) _
+    (at-resize-step .resize-step .ensures
+    ∙ ap₂ (λ (x y : ℕ). resizeStep 8 x y h (a .offset) (a .size)) (at-word .word .ensures .0) (at-word2 .word2 .ensures .0))
+    (at-live-number .live-number .ensures .0
+    ∙ ap₂ (λ (x y : ℕ). liveNumber 8 x y (a .books .now) (a .map .now) (a .offset)) (at-word .word .ensures .0) (at-word2 .word2 .ensures .0)
+    ∙ sym (passed (λ n. n) _ _ (sym (at-size-test .size-test .ensures .0) ∙ at-if1 .if1 .left))
+    ∙ sym (offset-after (shapeNumber h) (sizeNumber (a .size)) (offsetNumber 8 h (a .offset))))
+    (at-if2 .if2 .left)
 
 pub resize-spec : {M : Type 1} → statement M
 resize-spec =

@@ -10,7 +10,11 @@ use Rattle.heap.proofs.size_number.Tie as tie
 
 returns : tie.Need-returns
 unfolding sizeNumber
-returns c = let t = both (leb 1 (c .before .args .n)) (leb (c .before .args .n) 512) (c .if1 .taken) in (rw (c .if1 .taken), λ _. (leb-true 1 (c .before .args .n) (t .0), leb-true (c .before .args .n) 512 (t .1)))
+returns c =
+    let at-start = c .before in
+    let a = at-start .args in
+    let t = both (leb 1 (a .n)) (leb (a .n) 512) (c .if1 .taken) in
+    (rw (c .if1 .taken), λ _. (leb-true 1 (a .n) (t .0), leb-true (a .n) 512 (t .1)))
 
 returns-2 : tie.Need-returns-2
 unfolding sizeNumber

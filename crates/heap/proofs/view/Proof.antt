@@ -8,7 +8,7 @@ use native.Mathlib.Omega.{arith}
 use lib.ListN.{take, drop}
 use borrow.Author.Needs.{needs}
 use Rattle.rules.specs.Numbers.{view}
-use Rattle.steps.specs.Passing.{stopped, passed}
+use Rattle.books.specs.Passing.{stopped, passed}
 use Rattle.heap.proofs.view.Statement.{statement}
 use Rattle.heap.proofs.view.Tie as tie
 
@@ -26,13 +26,28 @@ part-result-end c = search needs
 
 returns : tie.Need-returns
 unfolding view
-returns c = (sym (stopped (λ k. []) _ _ (λ z. c .before .if1 .taken (c .before .before .offset-test .ensures .0 ∙ z))), (refl, ap (λ (x : ℕ). x + c .before .before .before .before .before .before .args .memory .ptr .1) (sym (stopped (λ k. 0) _ _ (λ z. c .before .if1 .taken (c .before .before .offset-test .ensures .0 ∙ z))))))
+returns c =
+    let at-if1 = c .before in
+    let at-offset-test = at-if1 .before in
+    let at-start = at-offset-test .before .before .before .before in (
+      sym (stopped (λ k. []) _ _ (λ z. at-if1 .if1 .taken (at-offset-test .offset-test .ensures .0 ∙ z))),
+      (
+        refl,
+        ap (λ (x : ℕ). x + at-start .args .memory .ptr .1)
+            (sym (stopped (λ k. 0) _ _ (λ z. at-if1 .if1 .taken (at-offset-test .offset-test .ensures .0 ∙ z)))),
+      ),
+    )
 
 block-size-requires : tie.Need-block-size-requires
-block-size-requires c κs = let t = c .before .offset-test .ensures .1 (c .if1 .left) in (omega (arith, t .shaped .books), omega (arith, t .shaped .books, t .live .pool), t .live .class)
+block-size-requires c κs =
+    let t = c .before .offset-test .ensures .1 (c .if1 .left) in
+    (omega (arith, t .shaped .books), omega (arith, t .shaped .books, t .live .pool), t .live .class)
 
 add-end : tie.Need-add-end
-add-end c = let t = c .before .before .offset-test .ensures .1 (c .before .if1 .left) in omega (arith, t .shaped .memory, t .shaped .all, t .live .inside, c .block-size .ensures .1)
+add-end c =
+    let at-offset-test = c .before .before in
+    let t = at-offset-test .offset-test .ensures .1 (c .before .if1 .left) in
+    omega (arith, t .shaped .memory, t .shaped .all, t .live .inside, c .block-size .ensures .1)
 
 sub-result-2 : tie.Need-sub-result-2
 sub-result-2 c = search needs
@@ -41,14 +56,24 @@ part-result-start-2 : tie.Need-part-result-start-2
 part-result-start-2 c = search needs
 
 part-result-end-2 : tie.Need-part-result-end-2
-part-result-end-2 c = let t = c .before .before .offset-test .ensures .1 (c .before .if1 .left) in omega (arith, t .shaped .memory, t .live .ends, c .block-size .ensures .0)
+part-result-end-2 c =
+    let at-offset-test = c .before .before in
+    let t = at-offset-test .offset-test .ensures .1 (c .before .if1 .left) in
+    omega (arith, t .shaped .memory, t .live .ends, c .block-size .ensures .0)
 
 returns-2 : tie.Need-returns-2
 unfolding view
-returns-2 c = (
-  ap (λ (n : ℕ). take n (drop (c .before .before .before .before .before .before .before .args .offset) (c .before .before .before .before .before .before .before .args .memory .now))) (add-sub-cancel-left (c .before .before .before .before .before .before .before .args .offset) (c .before .block-size .result) ∙ c .before .block-size .ensures .0) ∙ sym (passed (λ k. []) _ _ (sym (c .before .before .before .offset-test .ensures .0) ∙ c .before .before .if1 .left)),
-  (refl, ap (λ (x : ℕ). x + c .before .before .before .before .before .before .before .args .memory .ptr .1) (sym (passed (λ k. 0) _ _ (sym (c .before .before .before .offset-test .ensures .0) ∙ c .before .before .if1 .left)))),
-)
+returns-2 c =
+    let at-block-size = c .before in
+    let at-if1 = at-block-size .before in
+    let at-offset-test = at-if1 .before in
+    let at-start = at-offset-test .before .before .before .before in
+    let a = at-start .args in (
+      ap (λ (n : ℕ). take n (drop (a .offset) (a .memory .now)))
+          (add-sub-cancel-left (a .offset) (at-block-size .block-size .result) ∙ at-block-size .block-size .ensures .0)
+          ∙ sym (passed (λ k. []) _ _ (sym (at-offset-test .offset-test .ensures .0) ∙ at-if1 .if1 .left)),
+      (refl, ap (λ (x : ℕ). x + a .memory .ptr .1) (sym (passed (λ k. 0) _ _ (sym (at-offset-test .offset-test .ensures .0) ∙ at-if1 .if1 .left)))),
+    )
 
 pub view-spec : {M : Type 1} → statement M
 view-spec =

@@ -5,7 +5,7 @@ use Prim.Native.Nat.{ℕ}
 use native.Mathlib.Omega.{arith}
 use borrow.Author.Needs.{needs}
 use Rattle.rules.specs.Numbers.{viewSize, sizedOf}
-use Rattle.steps.specs.Passing.{stopped, passed}
+use Rattle.books.specs.Passing.{stopped, passed}
 use Rattle.heap.proofs.view_size.Statement.{statement}
 use Rattle.heap.proofs.view_size.Tie as tie
 
@@ -14,17 +14,24 @@ offset-test-requires c κs = search needs
 
 returns : tie.Need-returns
 unfolding viewSize
-returns c = ap (λ (n : ℕ). sizedOf n 0) (c .before .offset-test .ensures .0) ∙ sym (stopped (λ k. sizedOf k 0) _ _ (λ z. c .if1 .taken (c .before .offset-test .ensures .0 ∙ z)))
+returns c =
+    let at-offset-test = c .before in
+    ap (λ (n : ℕ). sizedOf n 0) (at-offset-test .offset-test .ensures .0)
+    ∙ sym (stopped (λ k. sizedOf k 0) _ _ (λ z. c .if1 .taken (at-offset-test .offset-test .ensures .0 ∙ z)))
 
 block-size-requires : tie.Need-block-size-requires
-block-size-requires c κs = let t = c .before .offset-test .ensures .1 (c .if1 .left) in (omega (arith, t .shaped .books), omega (arith, t .shaped .books, t .live .pool), t .live .class)
+block-size-requires c κs =
+    let t = c .before .offset-test .ensures .1 (c .if1 .left) in
+    (omega (arith, t .shaped .books), omega (arith, t .shaped .books, t .live .pool), t .live .class)
 
 cast-t8 : tie.Need-cast-t8
 cast-t8 c = search needs
 
 returns-2 : tie.Need-returns-2
 unfolding viewSize
-returns-2 c = ap (sizedOf 0) (c .block-size .ensures .0) ∙ sym (passed (λ k. sizedOf k 0) _ _ (sym (c .before .before .offset-test .ensures .0) ∙ c .before .if1 .left))
+returns-2 c =
+    let at-offset-test = c .before .before in
+    ap (sizedOf 0) (c .block-size .ensures .0) ∙ sym (passed (λ k. sizedOf k 0) _ _ (sym (at-offset-test .offset-test .ensures .0) ∙ c .before .if1 .left))
 
 pub view-size-spec : {M : Type 1} → statement M
 view-size-spec =

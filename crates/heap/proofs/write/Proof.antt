@@ -8,7 +8,7 @@ use lib.ListN.{length}
 use borrow.Author.Needs.{needs}
 use Rattle.rules.specs.Numbers.{shapeNumber, offsetNumber, roomNumber, blockSize, write}
 use Rattle.rules.specs.Outcome.{heapOf, done}
-use Rattle.steps.specs.Passing.{stopped, passed, refusal, step}
+use Rattle.books.specs.Passing.{stopped, passed, refusal, step}
 use Rattle.heap.specs.Order.{room-after, too-little, enough}
 use Rattle.heap.proofs.write.Statement.{statement}
 use Rattle.heap.proofs.write.Tie as tie
@@ -24,10 +24,22 @@ same-length c = search needs
 
 returns : tie.Need-returns
 unfolding write
-returns c = let h = heapOf (c .before .before .before .before .before .before .before .before .args .memory .now) (c .before .before .before .before .before .before .before .before .args .books .now) (c .before .before .before .before .before .before .before .before .args .map .now) in refusal h _ (c .refuse .result) (c .before .before .offset-test .result) _ (c .refuse .ensures) (c .before .before .offset-test .ensures .0 ∙ sym (stopped (λ n. n) _ _ (λ z. c .before .if1 .taken (c .before .before .offset-test .ensures .0 ∙ z))) ∙ sym (room-after (shapeNumber h) (offsetNumber 8 h (c .before .before .before .before .before .before .before .before .args .offset)) (roomNumber (length (c .before .before .before .before .before .before .before .before .args .text .now)) (blockSize 8 h (c .before .before .before .before .before .before .before .before .args .offset))))) (c .before .if1 .taken)
+returns c =
+    let at-if1 = c .before in
+    let at-offset-test = at-if1 .before in
+    let at-start = at-offset-test .before .before .before .before .before .before in
+    let a = at-start .args in
+    let h = heapOf (a .memory .now) (a .books .now) (a .map .now) in
+    refusal h _ (c .refuse .result) (at-offset-test .offset-test .result) _ (c .refuse .ensures)
+    (at-offset-test .offset-test .ensures .0
+    ∙ sym (stopped (λ n. n) _ _ (λ z. at-if1 .if1 .taken (at-offset-test .offset-test .ensures .0 ∙ z)))
+    ∙ sym (room-after (shapeNumber h) (offsetNumber 8 h (a .offset)) (roomNumber (length (a .text .now)) (blockSize 8 h (a .offset)))))
+    (at-if1 .if1 .taken)
 
 block-size-requires : tie.Need-block-size-requires
-block-size-requires c κs = let t = c .before .offset-test .ensures .1 (c .if1 .left) in (omega (arith, t .shaped .books), omega (arith, t .shaped .books, t .live .pool), t .live .class)
+block-size-requires c κs =
+    let t = c .before .offset-test .ensures .1 (c .if1 .left) in
+    (omega (arith, t .shaped .books), omega (arith, t .shaped .books, t .live .pool), t .live .class)
 
 refuse-requires-2 : tie.Need-refuse-requires-2
 refuse-requires-2 c κs = search needs
@@ -37,22 +49,50 @@ same-length-2 c = search needs
 
 returns-2 : tie.Need-returns-2
 unfolding write
-returns-2 c = let h = heapOf (c .before .before .before .before .before .before .before .before .before .before .args .memory .now) (c .before .before .before .before .before .before .before .before .before .before .args .books .now) (c .before .before .before .before .before .before .before .before .before .before .args .map .now) in refusal h _ (c .refuse2 .result) 7 _ (c .refuse2 .ensures) (sym (too-little (length (c .before .before .before .before .before .before .before .before .before .before .args .text .now)) (blockSize 8 h (c .before .before .before .before .before .before .before .before .before .before .args .offset)) (omega (arith, c .before .before .block-size .ensures .0))) ∙ sym (passed (λ n. n) _ _ (sym (c .before .before .before .before .offset-test .ensures .0) ∙ c .before .before .before .if1 .left)) ∙ sym (room-after (shapeNumber h) (offsetNumber 8 h (c .before .before .before .before .before .before .before .before .before .before .args .offset)) (roomNumber (length (c .before .before .before .before .before .before .before .before .before .before .args .text .now)) (blockSize 8 h (c .before .before .before .before .before .before .before .before .before .before .args .offset))))) (omega arith)
+returns-2 c =
+    let at-block-size = c .before .before in
+    let at-if1 = at-block-size .before in
+    let at-offset-test = at-if1 .before in
+    let at-start = at-offset-test .before .before .before .before .before .before in
+    let a = at-start .args in
+    let h = heapOf (a .memory .now) (a .books .now) (a .map .now) in
+    refusal h _ (c .refuse2 .result) 7 _ (c .refuse2 .ensures)
+    (sym (too-little (length (a .text .now)) (blockSize 8 h (a .offset)) (omega (arith, at-block-size .block-size .ensures .0)))
+    ∙ sym (passed (λ n. n) _ _ (sym (at-offset-test .offset-test .ensures .0) ∙ at-if1 .if1 .left))
+    ∙ sym (room-after (shapeNumber h) (offsetNumber 8 h (a .offset)) (roomNumber (length (a .text .now)) (blockSize 8 h (a .offset))))) (omega arith)
 
 copy-in-requires : tie.Need-copy-in-requires
-copy-in-requires c κs = let t = c .before .before .before .before .offset-test .ensures .1 (c .before .before .before .if1 .left) in omega (arith, t .shaped .memory, t .live .ends, c .before .before .block-size .ensures .0)
+copy-in-requires c κs =
+    let at-block-size = c .before .before in
+    let at-if1 = at-block-size .before in
+    let at-offset-test = at-if1 .before in
+    let t = at-offset-test .offset-test .ensures .1 (at-if1 .if1 .left) in
+    omega (arith, t .shaped .memory, t .live .ends, at-block-size .block-size .ensures .0)
 
 cast-t15 : tie.Need-cast-t15
-cast-t15 c = let t = c .before .before .before .before .before .before .before .offset-test .ensures .1 (c .before .before .before .before .before .before .if1 .left) in omega (arith, t .shaped .memory, t .shaped .all, t .live .inside)
+cast-t15 c =
+    let at-if1 = c .before .before .before .before .before .before in
+    let at-offset-test = at-if1 .before in
+    let t = at-offset-test .offset-test .ensures .1 (at-if1 .if1 .left) in
+    omega (arith, t .shaped .memory, t .shaped .all, t .live .inside)
 
 same-length-3 : tie.Need-same-length-3
 same-length-3 c = search needs
 
 returns-3 : tie.Need-returns-3
 unfolding write
-returns-3 c = let h = heapOf (c .before .before .before .before .before .before .before .before .before .before .before .before .before .args .memory .now) (c .before .before .before .before .before .before .before .before .before .before .before .before .before .args .books .now) (c .before .before .before .before .before .before .before .before .before .before .before .before .before .args .map .now) in
-    step h _ _ 0 _ (ap (λ (x : List ℕ). done (c .before .before .before .before .before .before .before .before .before .before .before .before .before .args .offset) (heapOf x (c .before .before .before .before .before .before .before .before .before .before .before .before .before .args .books .now) (c .before .before .before .before .before .before .before .before .before .before .before .before .before .args .map .now))) (c .before .before .copy-in .ensures))
-    (sym (enough (length (c .before .before .before .before .before .before .before .before .before .before .before .before .before .args .text .now)) (blockSize 8 h (c .before .before .before .before .before .before .before .before .before .before .before .before .before .args .offset)) (omega (arith, c .before .before .before .before .before .block-size .ensures .0))) ∙ sym (passed (λ n. n) _ _ (sym (c .before .before .before .before .before .before .before .offset-test .ensures .0) ∙ c .before .before .before .before .before .before .if1 .left)) ∙ sym (room-after (shapeNumber h) (offsetNumber 8 h (c .before .before .before .before .before .before .before .before .before .before .before .before .before .args .offset)) (roomNumber (length (c .before .before .before .before .before .before .before .before .before .before .before .before .before .args .text .now)) (blockSize 8 h (c .before .before .before .before .before .before .before .before .before .before .before .before .before .args .offset))))) refl
+returns-3 c =
+    let at-copy-in = c .before .before in
+    let at-block-size = at-copy-in .before .before .before in
+    let at-if1 = at-block-size .before in
+    let at-offset-test = at-if1 .before in
+    let at-start = at-offset-test .before .before .before .before .before .before in
+    let a = at-start .args in
+    let h = heapOf (a .memory .now) (a .books .now) (a .map .now) in
+    step h _ _ 0 _ (ap (λ (x : List ℕ). done (a .offset) (heapOf x (a .books .now) (a .map .now))) (at-copy-in .copy-in .ensures))
+    (sym (enough (length (a .text .now)) (blockSize 8 h (a .offset)) (omega (arith, at-block-size .block-size .ensures .0)))
+    ∙ sym (passed (λ n. n) _ _ (sym (at-offset-test .offset-test .ensures .0) ∙ at-if1 .if1 .left))
+    ∙ sym (room-after (shapeNumber h) (offsetNumber 8 h (a .offset)) (roomNumber (length (a .text .now)) (blockSize 8 h (a .offset))))) refl
 
 pub write-spec : {M : Type 1} → statement M
 write-spec =

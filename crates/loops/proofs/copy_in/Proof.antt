@@ -34,8 +34,10 @@ loop-less c = omega arith
 
 loop-again : tie.Need-loop-again Inv-loop μ-loop
 loop-again c =
-    let p = c .before .before .loop in
-    let a = c .before .before .before .args in
+    let at-loop = c .before .before in
+    let at-start = at-loop .before in
+    let p = at-loop .loop in
+    let a = at-start .args in
     (turn (listed (a .text .now)) (p .i) (omega arith) (p .inv .0) (record { same = refl; place = omega arith }), omega arith, omega arith)
 
 same-length : tie.Need-same-length Inv-loop μ-loop
@@ -43,8 +45,9 @@ same-length c = c .before .loop .inv .0 .long
 
 returns : tie.Need-returns Inv-loop μ-loop
 returns c =
+    let at-start = c .before .before in
     let p = c .before .loop in
-    done (listed (c .before .before .args .text .now)) (p .i) (omega arith) (p .inv .0) .same
+    done (listed (at-start .args .text .now)) (p .i) (omega arith) (p .inv .0) .same
 
 pub copy-in-spec : {M : Type 1} → statement M
 copy-in-spec =

@@ -41,11 +41,13 @@ loop-less c = omega arith
 
 loop-again : tie.Need-loop-again Inv-loop μ-loop
 loop-again c =
-    let p = c .before .before .loop in
-    let a = c .before .before .before .args in
+    let at-loop = c .before .before in
+    let at-start = at-loop .before in
+    let p = at-loop .loop in
+    let a = at-start .args in
     let m = a .memory .now in
     let e = length-part m (a .from) (a .n) (omega arith) in
-    let f = still m (a .from) (a .n) (omega arith) (a .to) (p .i) (c .before .before .before .pre .2) (omega arith) (p .inv .0) in (
+    let f = still m (a .from) (a .n) (omega arith) (a .to) (p .i) (at-start .pre .2) (omega arith) (p .inv .0) in (
       turn (listed (part (a .from) (a .n) m)) (p .i) (omega arith) (p .inv .0)
           (record { same = ap (set (p .memory) (a .to + p .i)) f; place = omega arith }),
       omega arith,
@@ -56,8 +58,9 @@ same-length c = c .before .loop .inv .0 .long
 
 returns : tie.Need-returns Inv-loop μ-loop
 returns c =
+    let at-start = c .before .before in
     let p = c .before .loop in
-    let a = c .before .before .args in
+    let a = at-start .args in
     let e = length-part (a .memory .now) (a .from) (a .n) (omega arith) in
     done (listed (part (a .from) (a .n) (a .memory .now))) (p .i) (omega arith) (p .inv .0) .same
 

@@ -36,13 +36,19 @@ mul-count-live : tie.Need-mul-count-live Inv-loop μ-loop
 mul-count-live c = omega arith
 
 add-count-live : tie.Need-add-count-live Inv-loop μ-loop
-add-count-live c = omega (arith, capacity-le (c .before .before .before .args .size) (omega arith))
+add-count-live c =
+    let at-start = c .before .before .before in
+    omega (arith, capacity-le (at-start .args .size) (omega arith))
 
 mul-count-live-2 : tie.Need-mul-count-live-2 Inv-loop μ-loop
-mul-count-live-2 c = omega (arith, capacity-le (c .before .before .before .args .size) (omega arith))
+mul-count-live-2 c =
+    let at-start = c .before .before .before in
+    omega (arith, capacity-le (at-start .args .size) (omega arith))
 
 shared-slice-read-count-live : tie.Need-shared-slice-read-count-live Inv-loop μ-loop
-shared-slice-read-count-live c = omega (arith, capacity-le (c .before .before .before .before .args .size) (omega arith))
+shared-slice-read-count-live c =
+    let at-start = c .before .before .before .before in
+    omega (arith, capacity-le (at-start .args .size) (omega arith))
 
 in-word-requires : tie.Need-in-word-requires Inv-loop μ-loop
 in-word-requires c κs = omega arith
@@ -58,8 +64,10 @@ counted : (c : tie.After-count-live Inv-loop μ-loop)
     length (rollBlocks (a .map .now) (a .pool) (a .size) (64 * i) (n - 64 * i))
     ≡ 2 * c .count-live .result + length (rollBlocks (a .map .now) (a .pool) (a .size) (64 * (i + 1)) (n - 64 * (i + 1)))
 counted c =
-    let a = c .before .before .before .before .before .before .args in
-    let i = c .before .before .before .before .loop .i in
+    let at-loop = c .before .before .before .before in
+    let at-start = at-loop .before .before in
+    let a = at-start .args in
+    let i = at-loop .loop .i in
     let n = capacity (a .size) in
     let live = rw (c .before .in-word .ensures) at (c .count-live .ensures) in
     omega (
@@ -71,16 +79,20 @@ counted c =
 
 mul-words : tie.Need-mul-words Inv-loop μ-loop
 mul-words c =
-    let a = c .before .before .before .before .before .before .args in
+    let at-start = c .before .before .before .before .before .before in
+    let a = at-start .args in
     omega (arith, counted c, length-blocks (a .map .now) (a .pool) (a .size) 0 (capacity (a .size)), capacity-le (a .size) (omega arith))
 
 add-words : tie.Need-add-words Inv-loop μ-loop
 add-words c =
-    let a = c .before .before .before .before .before .before .args in
+    let at-start = c .before .before .before .before .before .before in
+    let a = at-start .args in
     omega (arith, counted c, length-blocks (a .map .now) (a .pool) (a .size) 0 (capacity (a .size)), capacity-le (a .size) (omega arith))
 
 add-i : tie.Need-add-i Inv-loop μ-loop
-add-i c = omega (arith, capacity-le (c .before .before .before .before .before .before .args .size) (omega arith))
+add-i c =
+    let at-start = c .before .before .before .before .before .before in
+    omega (arith, capacity-le (at-start .args .size) (omega arith))
 
 loop-less : tie.Need-loop-less Inv-loop μ-loop
 loop-less c = omega arith
@@ -90,7 +102,8 @@ loop-again c = omega (arith, counted c)
 
 returns : tie.Need-returns Inv-loop μ-loop
 returns c =
-    let a = c .before .before .before .args in
+    let at-start = c .before .before .before in
+    let a = at-start .args in
     omega (arith, ap length (none-left (word-parts (a .map .now) (a .pool) (a .size) (capacity (a .size))) (c .before .loop .i) (omega arith)))
 
 pub count-blocks-spec : {M : Type 1} → statement M

@@ -13,7 +13,8 @@ class-at-requires c κs = search needs
 
 returns : tie.Need-returns
 returns c =
-    let a = c .before .before .before .before .args in
+    let at-start = c .before .before .before .before in
+    let a = at-start .args in
     let r = c .before .class-at in
     rw (no-class 8 (a .arenas) (a .books .now) (a .map .now) (a .pool) (r .result) (r .ensures) (c .if1 .taken))
 
@@ -25,11 +26,14 @@ count-blocks-requires c κs = search needs
 
 returns-2 : tie.Need-returns-2
 returns-2 c =
-    let a = c .before .before .before .before .before .before .args in
-    let r = c .before .before .before .class-at in
+    let at-if1 = c .before .before in
+    let at-class-at = at-if1 .before in
+    let at-start = at-class-at .before .before .before in
+    let a = at-start .args in
+    let r = at-class-at .class-at in
     let s = c .before .size-of in
     let e = of-class 8 (a .arenas) (a .books .now) (a .map .now) (a .pool) (r .result) (r .ensures) (s .result) (s .ensures .0) in
-    rw (e (c .before .before .if1 .left))
+    rw (e (at-if1 .if1 .left))
     (c .count-blocks .ensures)
 
 pub count-pool-spec : {M : Type 1} → statement M

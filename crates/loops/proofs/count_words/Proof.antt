@@ -27,8 +27,10 @@ count-pool-requires c κs = omega arith
 
 add-words : tie.Need-add-words Inv-loop μ-loop
 add-words c =
-    let a = c .before .before .before .before .before .args in
-    let f = fewer (roll-parts 8 (a .arenas) (a .books .now) (a .map .now) (a .n)) (c .before .before .loop .pool) (omega arith) in
+    let at-loop = c .before .before in
+    let at-start = at-loop .before .before .before in
+    let a = at-start .args in
+    let f = fewer (roll-parts 8 (a .arenas) (a .books .now) (a .map .now) (a .n)) (at-loop .loop .pool) (omega arith) in
     let l = length-roll 8 (a .arenas) (a .books .now) (a .map .now) (omega arith) 0 (a .n) in
     omega (arith, c .count-pool .ensures)
 
@@ -40,14 +42,17 @@ loop-less c = omega arith
 
 loop-again : tie.Need-loop-again Inv-loop μ-loop
 loop-again c =
-    let a = c .before .before .before .before .before .args in
-    let f = fewer (roll-parts 8 (a .arenas) (a .books .now) (a .map .now) (a .n)) (c .before .before .loop .pool) (omega arith) in
+    let at-loop = c .before .before in
+    let at-start = at-loop .before .before .before in
+    let a = at-start .args in
+    let f = fewer (roll-parts 8 (a .arenas) (a .books .now) (a .map .now) (a .n)) (at-loop .loop .pool) (omega arith) in
     omega (arith, c .count-pool .ensures)
 
 returns : tie.Need-returns Inv-loop μ-loop
 returns c =
+    let at-start = c .before .before .before .before in
     let p = c .before .loop in
-    let a = c .before .before .before .before .args in
+    let a = at-start .args in
     omega (arith, ap length (none-left (roll-parts 8 (a .arenas) (a .books .now) (a .map .now) (a .n)) (p .pool) (omega arith)))
 
 pub count-words-spec : {M : Type 1} → statement M

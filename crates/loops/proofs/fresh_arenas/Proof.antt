@@ -51,12 +51,16 @@ loop-less c = omega arith
 
 loop-again : tie.Need-loop-again Inv-loop μ-loop
 loop-again c =
-    let p = c .before .before .before .before .before .before .before .loop in
-    let a = c .before .before .before .before .before .before .before .before .before .args in
+    let at-put-words = c .before .before in
+    let at-next-of = at-put-words .before .before .before in
+    let at-loop = at-next-of .before .before in
+    let at-start = at-loop .before .before in
+    let p = at-loop .loop in
+    let a = at-start .args in
     let link =
-    ap (λ (x : ℕ). sets (p .books) (72 + 8 * p .i) (recordOf x (p .i))) (c .before .before .before .before .before .next-of .ensures) in (
+    ap (λ (x : ℕ). sets (p .books) (72 + 8 * p .i) (recordOf x (p .i))) (at-next-of .next-of .ensures) in (
       turn (arena-parts (a .arenas)) (p .i) (omega arith) (p .inv .0)
-          (record { same = c .before .before .put-words .ensures ∙ link; place = omega arith }),
+          (record { same = at-put-words .put-words .ensures ∙ link; place = omega arith }),
       omega arith,
     )
 
@@ -65,8 +69,9 @@ same-length c = c .before .loop .inv .0 .long
 
 returns : tie.Need-returns Inv-loop μ-loop
 returns c =
+    let at-start = c .before .before .before in
     let p = c .before .loop in
-    done (arena-parts (c .before .before .before .args .arenas)) (p .i) (omega arith) (p .inv .0) .same
+    done (arena-parts (at-start .args .arenas)) (p .i) (omega arith) (p .inv .0) .same
 
 pub fresh-arenas-spec : {M : Type 1} → statement M
 fresh-arenas-spec =

@@ -51,10 +51,12 @@ same-length c = search needs
 
 returns : tie.Need-returns
 returns c =
-    let b = c .before .before .before .before .before .before .before .before .before in
+    let at-fresh-pools = c .before .before in
+    let at-fresh-arenas = at-fresh-pools .before .before .before .before in
+    let b = at-fresh-arenas .before .before .before in
     let a = b .before .before .before .before .before .args in
-    let arenas = c .before .before .before .before .before .before .fresh-arenas .ensures in
-    c .before .before .fresh-pools .ensures
+    let arenas = at-fresh-arenas .fresh-arenas .ensures in
+    at-fresh-pools .fresh-pools .ensures
     ∙ ap (λ (x : List ℕ). sets x (72 + 8 * a .arenas) (freshPools (a .arenas * a .pools)))
     (arenas ∙ ap (λ (x : List ℕ). sets x 72 (freshArenas 0 (a .arenas))) (b .before .put-words .ensures))
     ∙ fresh-whole (a .books .now) (a .arenas) (a .pools) (b .before .before .before .before .before .pre .2)

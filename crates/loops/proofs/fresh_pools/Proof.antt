@@ -19,7 +19,10 @@ abbrev μ-loop : tie.MeasureT-loop
 μ-loop books₀ at n fresh i₀ books i = n - i
 
 loop-holds : tie.Need-loop-holds Inv-loop μ-loop
-loop-holds c = (begin (pool-parts (c .before .args .n)) _ (c .before .args .at) _ (omega arith), omega arith, refl)
+loop-holds c =
+    let at-start = c .before in
+    let a = at-start .args in
+    (begin (pool-parts (a .n)) _ (a .at) _ (omega arith), omega arith, refl)
 
 mul-put-words : tie.Need-mul-put-words Inv-loop μ-loop
 mul-put-words c = omega arith
@@ -28,10 +31,14 @@ add-put-words : tie.Need-add-put-words Inv-loop μ-loop
 add-put-words c = omega arith
 
 slice-aggregate-put-words : tie.Need-slice-aggregate-put-words Inv-loop μ-loop
-slice-aggregate-put-words c = ap length (c .before .before .before .loop .inv .2)
+slice-aggregate-put-words c =
+    let at-loop = c .before .before .before in
+    ap length (at-loop .loop .inv .2)
 
 put-words-requires : tie.Need-put-words-requires Inv-loop μ-loop
-put-words-requires c κs = omega (arith, ap length (c .before .before .before .loop .inv .2))
+put-words-requires c κs =
+    let at-loop = c .before .before .before in
+    omega (arith, ap length (at-loop .loop .inv .2))
 
 add-i : tie.Need-add-i Inv-loop μ-loop
 add-i c = omega arith
@@ -41,11 +48,14 @@ loop-less c = omega arith
 
 loop-again : tie.Need-loop-again Inv-loop μ-loop
 loop-again c =
-    let p = c .before .before .before .before .before .before .loop in
-    let a = c .before .before .before .before .before .before .before .before .args in
+    let at-put-words = c .before .before in
+    let at-loop = at-put-words .before .before .before .before in
+    let at-start = at-loop .before .before in
+    let p = at-loop .loop in
+    let a = at-start .args in
     let words = ap (sets (p .books) (a .at + 8 * p .i)) (p .inv .2) in (
       turn (pool-parts (a .n)) (p .i) (omega arith) (p .inv .0)
-          (record { same = c .before .before .put-words .ensures ∙ words; place = omega arith }),
+          (record { same = at-put-words .put-words .ensures ∙ words; place = omega arith }),
       omega arith,
       p .inv .2,
     )
@@ -55,8 +65,9 @@ same-length c = c .before .loop .inv .0 .long
 
 returns : tie.Need-returns Inv-loop μ-loop
 returns c =
+    let at-start = c .before .before .before in
     let p = c .before .loop in
-    done (pool-parts (c .before .before .before .args .n)) (p .i) (omega arith) (p .inv .0) .same
+    done (pool-parts (at-start .args .n)) (p .i) (omega arith) (p .inv .0) .same
 
 pub fresh-pools-spec : {M : Type 1} → statement M
 fresh-pools-spec =

@@ -18,13 +18,16 @@ abbrev μ-loop : tie.MeasureT-loop
 
 loop-holds : tie.Need-loop-holds Inv-loop μ-loop
 loop-holds c =
-    let a = c .before .before .before .args in
+    let at-start = c .before .before .before in
+    let a = at-start .args in
     (begin (roll-parts 8 (a .arenas) (a .books .now) (a .map .now) (a .n)) _ 0 _ refl, omega arith)
 
 roll-pool-requires : tie.Need-roll-pool-requires Inv-loop μ-loop
 roll-pool-requires c κs =
-    let a = c .before .before .before .before .before .before .args in
-    let f = fewer (roll-parts 8 (a .arenas) (a .books .now) (a .map .now) (a .n)) (c .before .before .loop .pool) (omega arith) in
+    let at-loop = c .before .before in
+    let at-start = at-loop .before .before .before .before in
+    let a = at-start .args in
+    let f = fewer (roll-parts 8 (a .arenas) (a .books .now) (a .map .now) (a .n)) (at-loop .loop .pool) (omega arith) in
     omega arith
 
 add-pool : tie.Need-add-pool Inv-loop μ-loop
@@ -35,10 +38,13 @@ loop-less c = omega arith
 
 loop-again : tie.Need-loop-again Inv-loop μ-loop
 loop-again c =
-    let p = c .before .before .before .before .before .loop in
-    let a = c .before .before .before .before .before .before .before .before .before .args in (
+    let at-roll-pool = c .before .before in
+    let at-loop = at-roll-pool .before .before .before in
+    let at-start = at-loop .before .before .before .before in
+    let p = at-loop .loop in
+    let a = at-start .args in (
       turn (roll-parts 8 (a .arenas) (a .books .now) (a .map .now) (a .n)) (p .pool) (omega arith) (p .inv .0)
-          (c .before .before .roll-pool .ensures),
+          (at-roll-pool .roll-pool .ensures),
       omega arith,
     )
 
@@ -47,8 +53,9 @@ same-length c = c .before .loop .inv .0 .long
 
 returns : tie.Need-returns Inv-loop μ-loop
 returns c =
+    let at-start = c .before .before .before .before .before in
     let p = c .before .loop in
-    let a = c .before .before .before .before .before .args in
+    let a = at-start .args in
     done (roll-parts 8 (a .arenas) (a .books .now) (a .map .now) (a .n)) (p .pool) (omega arith) (p .inv .0) .same
 
 pub put-roll-spec : {M : Type 1} → statement M

@@ -34,7 +34,8 @@ loop-holds c =
 inside : (c : tie.In-loop Inv-loop μ-loop)
     → (c .before .loop .i < 8) × (64 * c .before .loop .i * c .before .before .before .before .args .size ≤ 4048)
 inside c =
-    let s = c .before .before .before .before .args .size in
+    let at-start = c .before .before .before .before in
+    let s = at-start .args .size in
     (omega (arith, capacity-le s (omega arith)), block-inside s (64 * c .before .loop .i) (omega arith))
 
 mul-word : tie.Need-mul-word Inv-loop μ-loop
@@ -69,23 +70,32 @@ in-word-requires c κs = omega arith
 
 roll-word-requires : tie.Need-roll-word-requires Inv-loop μ-loop
 roll-word-requires c κs =
-    let a = c .before .before .before .before .before .before .before .args in
-    let p = c .before .before .before .before .loop in
+    let in-loop = c .before .before .before in
+    let at-loop = in-loop .before in
+    let at-start = at-loop .before .before .before in
+    let a = at-start .args in
+    let p = at-loop .loop in
     let f = fewer (word-parts (a .map .now) (a .pool) (a .size) (capacity (a .size))) (p .i) (omega arith) in
     rw (c .before .in-word .ensures)
-    (omega (arith, inside (c .before .before .before)), omega arith, omega arith, omega (arith, p .inv .0 .place, p .inv .0 .long))
+    (omega (arith, inside in-loop), omega arith, omega arith, omega (arith, p .inv .0 .place, p .inv .0 .long))
 
 add-i : tie.Need-add-i Inv-loop μ-loop
-add-i c = omega (arith, inside (c .before .before .before .before .before .before))
+add-i c =
+    let in-loop = c .before .before .before .before .before .before in
+    omega (arith, inside in-loop)
 
 loop-less : tie.Need-loop-less Inv-loop μ-loop
 loop-less c = omega arith
 
 loop-again : tie.Need-loop-again Inv-loop μ-loop
 loop-again c =
-    let a = c .before .before .before .before .before .before .before .before .before .before .args in
-    let p = c .before .before .before .before .before .before .before .loop in
-    let stored = rw (c .before .before .before .before .in-word .ensures) at (c .before .before .roll-word .ensures) in (
+    let at-roll-word = c .before .before in
+    let at-in-word = at-roll-word .before .before in
+    let at-loop = at-in-word .before .before .before in
+    let at-start = at-loop .before .before .before in
+    let a = at-start .args in
+    let p = at-loop .loop in
+    let stored = rw (at-in-word .in-word .ensures) at (at-roll-word .roll-word .ensures) in (
       turn (word-parts (a .map .now) (a .pool) (a .size) (capacity (a .size))) (p .i) (omega arith) (p .inv .0) stored,
       omega arith,
     )
@@ -95,7 +105,8 @@ same-length c = c .before .loop .inv .0 .long
 
 returns : tie.Need-returns Inv-loop μ-loop
 returns c =
-    let a = c .before .before .before .before .args in
+    let at-start = c .before .before .before .before in
+    let a = at-start .args in
     let p = c .before .loop in
     done (word-parts (a .map .now) (a .pool) (a .size) (capacity (a .size))) (p .i) (omega arith) (p .inv .0)
 

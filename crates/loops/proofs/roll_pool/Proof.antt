@@ -18,7 +18,8 @@ class-at-requires c κs = search needs
 
 returns : tie.Need-returns
 returns c =
-    let a = c .before .before .before .before .before .args in
+    let at-start = c .before .before .before .before .before in
+    let a = at-start .args in
     let r = c .before .class-at in
     rw (no-class 8 (a .arenas) (a .books .now) (a .map .now) (a .pool) (r .result) (r .ensures) (c .if1 .taken))
     (record { same = refl; place = omega arith })
@@ -32,10 +33,13 @@ classed : (c : tie.After-roll-blocks-arg)
     let s = c .before .size-of .result in
     rollPool 8 (a .arenas) (a .books .now) (a .map .now) (a .pool) ≡ rollBlocks (a .map .now) (a .pool) s 0 (capacity s)
 classed c =
-    let a = c .before .before .before .before .before .before .before .args in
-    let r = c .before .before .before .class-at in
+    let at-if1 = c .before .before in
+    let at-class-at = at-if1 .before in
+    let at-start = at-class-at .before .before .before .before in
+    let a = at-start .args in
+    let r = at-class-at .class-at in
     let s = c .before .size-of in
-    of-class 8 (a .arenas) (a .books .now) (a .map .now) (a .pool) (r .result) (r .ensures) (s .result) (s .ensures .0) (c .before .before .if1 .left)
+    of-class 8 (a .arenas) (a .books .now) (a .map .now) (a .pool) (r .result) (r .ensures) (s .result) (s .ensures .0) (at-if1 .if1 .left)
 
 roll-blocks-requires : tie.Need-roll-blocks-requires
 roll-blocks-requires c κs = omega (arith, ap length (classed c))
@@ -44,7 +48,9 @@ same-length : tie.Need-same-length
 same-length c = search needs
 
 returns-2 : tie.Need-returns-2
-returns-2 c = rw (classed (c .before .before .before)) (c .before .before .roll-blocks .ensures)
+returns-2 c =
+    let at-roll-blocks-arg = c .before .before .before in
+    rw (classed at-roll-blocks-arg) (c .before .before .roll-blocks .ensures)
 
 pub roll-pool-spec : {M : Type 1} → statement M
 roll-pool-spec =

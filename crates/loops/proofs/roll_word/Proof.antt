@@ -31,8 +31,10 @@ same-length c = c .before .before .loop .inv .long
 
 returns : tie.Need-returns Inv-loop μ-loop
 returns c =
-    let a = c .before .before .before .args in
-    let p = c .before .before .loop in
+    let at-loop = c .before .before in
+    let at-start = at-loop .before in
+    let a = at-start .args in
+    let p = at-loop .loop in
     finish (p .inv) (none-live 64 (a .n) (p .left) (a .first) (a .size) (omega arith))
 
 -- where the code goes on, the first set bit is that of a live block, which comes first of what is left
@@ -42,8 +44,10 @@ live : (c : tie.Else1 Inv-loop μ-loop)
     rollWord w (a .first) (a .size) (a .n)
     ≡ (a .first + trailingZeros 64 w * a .size) ∷ a .size ∷ rollWord (withoutFirst w) (a .first) (a .size) (a .n)
 live c =
-    let a = c .before .before .before .args in
-    first-live 64 (a .n) (c .before .before .loop .left) (a .first) (a .size) (omega arith) (omega arith)
+    let at-loop = c .before .before in
+    let at-start = at-loop .before in
+    let a = at-start .args in
+    first-live 64 (a .n) (at-loop .loop .left) (a .first) (a .size) (omega arith) (omega arith)
 
 -- it starts near the word's first block
 scaled : (c : tie.Else1 Inv-loop μ-loop)
@@ -52,7 +56,9 @@ scaled c = mul-le-mul {n₂ = 64} {m₂ = 512} (omega arith) (omega arith)
 
 -- and two roll words are left for it
 room : (c : tie.Else1 Inv-loop μ-loop) → c .before .before .loop .place + 2 ≤ length (c .before .before .loop .roll)
-room c = omega (arith, ap length (live c), c .before .before .loop .inv .place, c .before .before .loop .inv .long)
+room c =
+    let at-loop = c .before .before in
+    omega (arith, ap length (live c), at-loop .loop .inv .place, at-loop .loop .inv .long)
 
 mul-roll : tie.Need-mul-roll Inv-loop μ-loop
 mul-roll c = omega (arith, scaled c)
@@ -100,7 +106,8 @@ same-length-2 c = c .before .loop .inv .long
 
 returns-2 : tie.Need-returns-2 Inv-loop μ-loop
 returns-2 c =
-    let a = c .before .before .args in
+    let at-start = c .before .before in
+    let a = at-start .args in
     let p = c .before .loop in
     let none : trailingZeros 64 (p .left) ≡ 64 = ap (trailingZeros 64) (c .loop-test .left) ∙ trailing-of-zero 64 in
     finish (p .inv) (none-live 64 (a .n) (p .left) (a .first) (a .size) (omega arith))

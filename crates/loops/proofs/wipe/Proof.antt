@@ -34,8 +34,9 @@ loop-less c = omega arith
 
 loop-again : tie.Need-loop-again Inv-loop μ-loop
 loop-again c =
+    let at-start = c .before .before in
     let p = c .before .loop in
-    let m = c .before .before .args .map .now in
+    let m = at-start .args .map .now in
     (turn (zero-parts (length m)) (p .i) (omega arith) (p .inv .0) (record { same = refl; place = refl }), omega arith, omega arith)
 
 same-length : tie.Need-same-length Inv-loop μ-loop
@@ -43,8 +44,9 @@ same-length c = c .before .loop .inv .0 .long
 
 returns : tie.Need-returns Inv-loop μ-loop
 returns c =
+    let at-start = c .before .before in
     let p = c .before .loop in
-    let m = c .before .before .args .map .now in
+    let m = at-start .args .map .now in
     done (zero-parts (length m)) (p .i) (omega arith) (p .inv .0) .same ∙ sets-all m (replicate (length m) 0) (length-replicate (length m) 0)
 
 pub wipe-spec : {M : Type 1} → statement M

@@ -1,17 +1,21 @@
 -- `records::answer` tests for a short record, then for an unknown op or a spare byte, and then makes the call.
 -- Assumes nothing.
-use mathlib.Core.Path.{sym, ap, _∙_}
+use mathlib.Core.Path.{ap, _∙_}
 use Prim.Native.Nat.{ℕ}
-use borrow.Author.Tests.{lt-ltb, le-ltb, not-true, not-false}
-use borrow.Author.Needs.{needs}
+use borrow.Author.Tests.{lt-ltb, le-ltb}
 use Rattle.rules.specs.Replay.{replayRecord}
+use borrow.Author.Needs.{needs}
+use Rattle.books.specs.Tests.{held, failed}
 use Rattle.records.specs.declared.Reply.{Reply}
 use Rattle.records.specs.Replies.{replyOf, refusalOf, repliedWith, counted, chosen, passed-over}
 use Rattle.records.proofs.answer.Statement.{statement}
 use Rattle.records.proofs.answer.Tie as tie
 
 live-blocks-requires : tie.Need-live-blocks-requires
-live-blocks-requires c κs = let a = c .before .before .before .before .before .before .before .args in counted (a .memory .now) (a .books .now) (a .map .now) (c .before .before .before .before .before .before .before .pre)
+live-blocks-requires c κs =
+    let at-start = c .before .before .before .before .before .before .before in
+    let a = at-start .args in
+    counted (a .memory .now) (a .books .now) (a .map .now) (at-start .pre)
 
 same-length : tie.Need-same-length
 same-length c = search needs
@@ -22,15 +26,20 @@ same-length-2 c = search needs
 returns : tie.Need-returns
 unfolding replayRecord
 returns c =
-    let a = c .before .before .before .before .before .before .before .before .args in
+    let at-if1 = c .before .before .before in
+    let at-start = at-if1 .before .before .before .before .before in
+    let a = at-start .args in
     ap (λ (n : ℕ). repliedWith (replyOf 0 8 0 0 n) (a .memory .now) (a .books .now) (a .map .now)) (c .live-blocks .ensures)
-    ∙ chosen _ _ _ (lt-ltb _ _ (c .before .before .before .if1 .taken))
+    ∙ chosen _ _ _ (lt-ltb _ _ (at-if1 .if1 .taken))
 
 well-made-requires : tie.Need-well-made-requires
 well-made-requires c κs = search needs
 
 live-blocks-requires-2 : tie.Need-live-blocks-requires-2
-live-blocks-requires-2 c κs = let a = c .before .before .before .before .before .before .before .before .before .args in counted (a .memory .now) (a .books .now) (a .map .now) (c .before .before .before .before .before .before .before .before .before .pre)
+live-blocks-requires-2 c κs =
+    let at-start = c .before .before .before .before .before .before .before .before .before in
+    let a = at-start .args in
+    counted (a .memory .now) (a .books .now) (a .map .now) (at-start .pre)
 
 refusal-requires : tie.Need-refusal-requires
 refusal-requires c κs = search needs
@@ -44,11 +53,15 @@ same-length-4 c = search needs
 returns-2 : tie.Need-returns-2
 unfolding replayRecord
 returns-2 c =
-    let a = c .before .before .before .before .before .before .before .before .before .before .before .args in
+    let at-if2 = c .before .before .before .before in
+    let at-well-made = at-if2 .before in
+    let at-if1 = at-well-made .before in
+    let at-start = at-if1 .before .before .before .before .before in
+    let a = at-start .args in
     ap (λ (r : Reply). repliedWith r (a .memory .now) (a .books .now) (a .map .now))
     (c .refusal .ensures ∙ ap (refusalOf (a .bytes .now) 9) (c .before .live-blocks2 .ensures))
-    ∙ passed-over _ _ _ (sym (c .before .before .before .before .before .well-made .ensures) ∙ not-true (c .before .before .before .before .before .well-made .result) (c .before .before .before .before .if2 .taken))
-    ∙ passed-over _ _ _ (le-ltb _ _ (c .before .before .before .before .before .before .if1 .left))
+    ∙ passed-over _ _ _ (failed (at-well-made .well-made .ensures) (at-if2 .if2 .taken))
+    ∙ passed-over _ _ _ (le-ltb _ _ (at-if1 .if1 .left))
 
 answer-call-requires : tie.Need-answer-call-requires
 answer-call-requires c κs = search needs
@@ -65,9 +78,13 @@ same-length-7 c = search needs
 returns-3 : tie.Need-returns-3
 unfolding replayRecord
 returns-3 c =
-    c .before .before .before .before .before .before .answer-call .ensures
-    ∙ chosen _ _ _ (sym (c .before .before .before .before .before .before .before .before .before .before .before .well-made .ensures) ∙ not-false (c .before .before .before .before .before .before .before .before .before .before .before .well-made .result) (c .before .before .before .before .before .before .before .before .before .before .if2 .left))
-    ∙ passed-over _ _ _ (le-ltb _ _ (c .before .before .before .before .before .before .before .before .before .before .before .before .if1 .left))
+    let at-answer-call = c .before .before .before .before .before .before in
+    let at-if2 = at-answer-call .before .before .before .before in
+    let at-well-made = at-if2 .before in
+    let at-if1 = at-well-made .before in
+    at-answer-call .answer-call .ensures
+    ∙ chosen _ _ _ (held (at-well-made .well-made .ensures) (at-if2 .if2 .left))
+    ∙ passed-over _ _ _ (le-ltb _ _ (at-if1 .if1 .left))
 
 pub answer-spec : {M : Type 1} → statement M
 answer-spec =

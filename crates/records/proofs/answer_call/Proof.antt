@@ -25,7 +25,10 @@ same-length-3 c = search needs
 
 returns : tie.Need-returns
 unfolding replayCall
-returns c = c .before .before .before .before .before .before .answer-ask .ensures ∙ chosen _ _ _ (eq-eqb _ _ (c .before .before .before .before .before .before .before .before .before .before .if1 .taken))
+returns c =
+    let at-answer-ask = c .before .before .before .before .before .before in
+    let at-if1 = at-answer-ask .before .before .before .before in
+    at-answer-ask .answer-ask .ensures ∙ chosen _ _ _ (eq-eqb _ _ (at-if1 .if1 .taken))
 
 shared-slice-read-if2 : tie.Need-shared-slice-read-if2
 shared-slice-read-if2 c = search needs
@@ -44,7 +47,11 @@ same-length-6 c = search needs
 
 returns-2 : tie.Need-returns-2
 unfolding replayCall
-returns-2 c = c .before .before .before .before .before .before .answer-give-back .ensures ∙ chosen _ _ _ (eq-eqb _ _ (c .before .before .before .before .before .before .before .before .before .before .if2 .taken)) ∙ passed-over _ _ _ (ne-eqb _ _ (c .before .before .before .before .before .before .before .before .before .before .before .before .if1 .left))
+returns-2 c =
+    let at-answer-give-back = c .before .before .before .before .before .before in
+    let at-if2 = at-answer-give-back .before .before .before .before in
+    let at-if1 = at-if2 .before .before in
+    at-answer-give-back .answer-give-back .ensures ∙ chosen _ _ _ (eq-eqb _ _ (at-if2 .if2 .taken)) ∙ passed-over _ _ _ (ne-eqb _ _ (at-if1 .if1 .left))
 
 answer-resize-requires : tie.Need-answer-resize-requires
 answer-resize-requires c κs = search needs
@@ -60,7 +67,11 @@ same-length-9 c = search needs
 
 returns-3 : tie.Need-returns-3
 unfolding replayCall
-returns-3 c = c .before .before .before .before .before .before .answer-resize .ensures ∙ passed-over _ _ _ (ne-eqb _ _ (c .before .before .before .before .before .before .before .before .before .before .if2 .left)) ∙ passed-over _ _ _ (ne-eqb _ _ (c .before .before .before .before .before .before .before .before .before .before .before .before .if1 .left))
+returns-3 c =
+    let at-answer-resize = c .before .before .before .before .before .before in
+    let at-if2 = at-answer-resize .before .before .before .before in
+    let at-if1 = at-if2 .before .before in
+    at-answer-resize .answer-resize .ensures ∙ passed-over _ _ _ (ne-eqb _ _ (at-if2 .if2 .left)) ∙ passed-over _ _ _ (ne-eqb _ _ (at-if1 .if1 .left))
 
 pub answer-call-spec : {M : Type 1} → statement M
 answer-call-spec =

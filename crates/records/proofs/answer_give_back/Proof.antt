@@ -26,19 +26,25 @@ give-back-requires c κs = search needs
 
 live-blocks-requires : tie.Need-live-blocks-requires
 live-blocks-requires c κs =
-    let a = c .before .before .before .before .before .before .before .before .before .before .before .before .before .before .before .before .before .before .before .before .args in
-    let x = c .before .before .before .before .before .before .before .before .give-back in
-    let fair = back-fair 8 (heapOf (a .memory .now) (a .books .now) (a .map .now)) (c .before .before .before .before .before .before .before .before .before .index .result) in
+    let at-give-back = c .before .before .before .before .before .before .before .before in
+    let at-index = at-give-back .before in
+    let at-start = at-index .before .before .before .before .before .before .before .before .before .before .before in
+    let a = at-start .args in
+    let x = at-give-back .give-back in
+    let fair = back-fair 8 (heapOf (a .memory .now) (a .books .now) (a .map .now)) (at-index .index .result) in
     counted (x .last .0) (x .last .1 .0) (x .last .1 .1 .0)
     (still-whole (a .memory .now) (a .books .now) (a .map .now) (x .last .0) (x .last .1 .0) (x .last .1 .1 .0) _
-    (c .before .before .before .before .before .before .before .before .before .before .before .before .before .before .before .before .before .before .before .before .pre .0) (fair .kept) (ap (λ (y : Outcome). y .heap) (x .ensures)) (x .kept .0) (x .kept .1 .0) (x .kept .1 .1 .0))
+    (at-start .pre .0) (fair .kept) (ap (λ (y : Outcome). y .heap) (x .ensures)) (x .kept .0) (x .kept .1 .0) (x .kept .1 .1 .0))
 
 reply-to-requires : tie.Need-reply-to-requires
 reply-to-requires c κs =
-    let a = c .before .before .before .before .before .before .before .before .before .before .before .before .before .before .before .before .before .before .before .before .before .args in
-    let x = c .before .before .before .before .before .before .before .before .before .give-back in
-    let fair = back-fair 8 (heapOf (a .memory .now) (a .books .now) (a .map .now)) (c .before .before .before .before .before .before .before .before .before .before .index .result) in
-    (c .before .before .before .before .before .before .before .before .before .before .before .before .before .before .before .before .before .before .before .before .before .pre .1, small-number fair (x .result) (heapOf (x .last .0) (x .last .1 .0) (x .last .1 .1 .0)) (x .ensures))
+    let at-give-back = c .before .before .before .before .before .before .before .before .before in
+    let at-index = at-give-back .before in
+    let at-start = at-index .before .before .before .before .before .before .before .before .before .before .before in
+    let a = at-start .args in
+    let x = at-give-back .give-back in
+    let fair = back-fair 8 (heapOf (a .memory .now) (a .books .now) (a .map .now)) (at-index .index .result) in
+    (at-start .pre .1, small-number fair (x .result) (heapOf (x .last .0) (x .last .1 .0) (x .last .1 .1 .0)) (x .ensures))
 
 same-length : tie.Need-same-length
 same-length c = search needs
@@ -51,14 +57,22 @@ same-length-3 c = search needs
 
 returns : tie.Need-returns
 returns c =
-    let a = c .before .before .before .before .before .before .before .before .before .before .before .before .before .before .before .before .before .before .before .before .before .before .args in
-    let x = c .before .before .before .before .before .before .before .before .before .before .give-back in
+    let at-live-blocks = c .before in
+    let at-give-back = at-live-blocks .before .before .before .before .before .before .before .before .before in
+    let at-index = at-give-back .before in
+    let at-size-at = at-index .before .before .before .before in
+    let at-link-at = at-size-at .before .before in
+    let at-start = at-link-at .before .before .before .before .before in
+    let a = at-start .args in
+    let x = at-give-back .give-back in
     let g = heapOf (a .memory .now) (a .books .now) (a .map .now) in
     let h = heapOf (x .last .0) (x .last .1 .0) (x .last .1 .1 .0) in
     ap (λ (r : Reply). repliedWith r (x .last .0) (x .last .1 .0) (x .last .1 .1 .0)) (c .reply-to .ensures)
-    ∙ called-is (a .bytes .now) (outcome (x .result) h) (blockSize 8 g (c .before .before .before .before .before .before .before .before .before .before .before .before .before .before .before .before .before .link-at .result)) (c .before .before .before .before .before .before .before .before .before .before .before .before .before .before .before .size-at .result) (c .before .live-blocks .result) (c .before .before .before .before .before .before .before .before .before .before .before .before .before .before .before .size-at .ensures) (c .before .live-blocks .ensures)
-    ∙ ap (λ (y : Outcome). called 8 (a .bytes .now) y (blockSize 8 g (c .before .before .before .before .before .before .before .before .before .before .before .before .before .before .before .before .before .link-at .result))) (x .ensures ∙ ap (giveBack 8 g) (c .before .before .before .before .before .before .before .before .before .before .before .index .ensures .0))
-    ∙ ap (λ (o : ℕ). called 8 (a .bytes .now) (giveBack 8 g o) (blockSize 8 g o)) (c .before .before .before .before .before .before .before .before .before .before .before .before .before .before .before .before .before .link-at .ensures)
+    ∙ called-is (a .bytes .now) (outcome (x .result) h) (blockSize 8 g (at-link-at .link-at .result)) (at-size-at .size-at .result)
+    (at-live-blocks .live-blocks .result) (at-size-at .size-at .ensures) (at-live-blocks .live-blocks .ensures)
+    ∙ ap (λ (y : Outcome). called 8 (a .bytes .now) y (blockSize 8 g (at-link-at .link-at .result)))
+    (x .ensures ∙ ap (giveBack 8 g) (at-index .index .ensures .0))
+    ∙ ap (λ (o : ℕ). called 8 (a .bytes .now) (giveBack 8 g o) (blockSize 8 g o)) (at-link-at .link-at .ensures)
 
 pub answer-give-back-spec : {M : Type 1} → statement M
 answer-give-back-spec =

@@ -32,19 +32,27 @@ size-at-requires c κs = search needs
 
 live-blocks-requires : tie.Need-live-blocks-requires
 live-blocks-requires c κs =
-    let a = c .before .before .before .before .before .before .before .before .before .before .before .before .before .before .before .before .before .before .before .before .before .before .args in
-    let x = c .before .before .before .before .before .before .before .before .before .before .resize in
-    let fair = resize-fair 8 (heapOf (a .memory .now) (a .books .now) (a .map .now)) (c .before .before .before .before .before .before .before .before .before .before .before .before .index .result) (c .before .before .before .before .before .before .before .before .before .before .before .index2 .result) in
+    let at-resize = c .before .before .before .before .before .before .before .before .before .before in
+    let at-index2 = at-resize .before in
+    let at-index = at-index2 .before in
+    let at-start = at-index .before .before .before .before .before .before .before .before .before .before in
+    let a = at-start .args in
+    let x = at-resize .resize in
+    let fair = resize-fair 8 (heapOf (a .memory .now) (a .books .now) (a .map .now)) (at-index .index .result) (at-index2 .index2 .result) in
     counted (x .last .0) (x .last .1 .0) (x .last .1 .1 .0)
     (still-whole (a .memory .now) (a .books .now) (a .map .now) (x .last .0) (x .last .1 .0) (x .last .1 .1 .0) _
-    (c .before .before .before .before .before .before .before .before .before .before .before .before .before .before .before .before .before .before .before .before .before .before .pre .0) (fair .kept) (ap (λ (y : Outcome). y .heap) (x .ensures)) (x .kept .0) (x .kept .1 .0) (x .kept .1 .1 .0))
+    (at-start .pre .0) (fair .kept) (ap (λ (y : Outcome). y .heap) (x .ensures)) (x .kept .0) (x .kept .1 .0) (x .kept .1 .1 .0))
 
 reply-to-requires : tie.Need-reply-to-requires
 reply-to-requires c κs =
-    let a = c .before .before .before .before .before .before .before .before .before .before .before .before .before .before .before .before .before .before .before .before .before .before .before .args in
-    let x = c .before .before .before .before .before .before .before .before .before .before .before .resize in
-    let fair = resize-fair 8 (heapOf (a .memory .now) (a .books .now) (a .map .now)) (c .before .before .before .before .before .before .before .before .before .before .before .before .before .index .result) (c .before .before .before .before .before .before .before .before .before .before .before .before .index2 .result) in
-    (c .before .before .before .before .before .before .before .before .before .before .before .before .before .before .before .before .before .before .before .before .before .before .before .pre .1, small-number fair (x .result) (heapOf (x .last .0) (x .last .1 .0) (x .last .1 .1 .0)) (x .ensures))
+    let at-resize = c .before .before .before .before .before .before .before .before .before .before .before in
+    let at-index2 = at-resize .before in
+    let at-index = at-index2 .before in
+    let at-start = at-index .before .before .before .before .before .before .before .before .before .before in
+    let a = at-start .args in
+    let x = at-resize .resize in
+    let fair = resize-fair 8 (heapOf (a .memory .now) (a .books .now) (a .map .now)) (at-index .index .result) (at-index2 .index2 .result) in
+    (at-start .pre .1, small-number fair (x .result) (heapOf (x .last .0) (x .last .1 .0) (x .last .1 .1 .0)) (x .ensures))
 
 same-length : tie.Need-same-length
 same-length c = search needs
@@ -57,13 +65,23 @@ same-length-3 c = search needs
 
 returns : tie.Need-returns
 returns c =
-    let a = c .before .before .before .before .before .before .before .before .before .before .before .before .before .before .before .before .before .before .before .before .before .before .before .before .args in
-    let x = c .before .before .before .before .before .before .before .before .before .before .before .before .resize in
+    let at-live-blocks = c .before in
+    let at-size-at = at-live-blocks .before .before .before in
+    let at-resize = at-size-at .before .before .before .before .before .before .before .before in
+    let at-index2 = at-resize .before in
+    let at-index = at-index2 .before in
+    let at-link-at2 = at-index .before .before .before .before in
+    let at-link-at = at-link-at2 .before in
+    let at-start = at-link-at .before .before .before .before .before in
+    let a = at-start .args in
+    let x = at-resize .resize in
     let h = heapOf (x .last .0) (x .last .1 .0) (x .last .1 .1 .0) in
     ap (λ (r : Reply). repliedWith r (x .last .0) (x .last .1 .0) (x .last .1 .1 .0)) (c .reply-to .ensures)
-    ∙ called-is (a .bytes .now) (outcome (x .result) h) (blockSize 8 h (x .result .offset)) (c .before .before .before .before .size-at .result) (c .before .live-blocks .result) (c .before .before .before .before .size-at .ensures) (c .before .live-blocks .ensures)
+    ∙ called-is (a .bytes .now) (outcome (x .result) h) (blockSize 8 h (x .result .offset)) (at-size-at .size-at .result)
+    (at-live-blocks .live-blocks .result) (at-size-at .size-at .ensures) (at-live-blocks .live-blocks .ensures)
     ∙ ap (calledFor 8 (a .bytes .now)) (x .ensures)
-    ∙ ap₂ (λ (o n : ℕ). calledFor 8 (a .bytes .now) (resize 8 (heapOf (a .memory .now) (a .books .now) (a .map .now)) o n)) (c .before .before .before .before .before .before .before .before .before .before .before .before .before .before .index .ensures .0 ∙ c .before .before .before .before .before .before .before .before .before .before .before .before .before .before .before .before .before .before .before .link-at .ensures) (c .before .before .before .before .before .before .before .before .before .before .before .before .before .index2 .ensures .0 ∙ c .before .before .before .before .before .before .before .before .before .before .before .before .before .before .before .before .before .before .link-at2 .ensures)
+    ∙ ap₂ (λ (o n : ℕ). calledFor 8 (a .bytes .now) (resize 8 (heapOf (a .memory .now) (a .books .now) (a .map .now)) o n))
+    (at-index .index .ensures .0 ∙ at-link-at .link-at .ensures) (at-index2 .index2 .ensures .0 ∙ at-link-at2 .link-at2 .ensures)
 
 pub answer-resize-spec : {M : Type 1} → statement M
 answer-resize-spec =

@@ -17,22 +17,35 @@ word-requires-2 : tie.Need-word-requires-2
 word-requires-2 c κs = search needs
 
 mul-all : tie.Need-mul-all
-mul-all c = let e = ap₂ (λ (x y : ℕ). x * y) (c .before .word .ensures .0) (c .word2 .ensures .0) in omega (arith, c .before .before .before .before .pre .all)
+mul-all c =
+    let at-start = c .before .before .before .before in
+    let e = ap₂ (λ (x y : ℕ). x * y) (c .before .word .ensures .0) (c .word2 .ensures .0) in
+    omega (arith, at-start .pre .all)
 
 count-words-requires : tie.Need-count-words-requires
-count-words-requires c κs = let e = ap₂ (λ (x y : ℕ). x * y) (c .before .word .ensures .0) (c .word2 .ensures .0) in omega (arith, c .before .before .before .before .pre .all, c .before .before .before .before .pre .books, c .before .before .before .before .pre .map, c .before .word .ensures .0)
+count-words-requires c κs =
+    let at-word = c .before in
+    let at-start = at-word .before .before .before in
+    let e = ap₂ (λ (x y : ℕ). x * y) (at-word .word .ensures .0) (c .word2 .ensures .0) in
+    omega (arith, at-start .pre .all, at-start .pre .books, at-start .pre .map, at-word .word .ensures .0)
 
 cast-result : tie.Need-cast-result
 cast-result c =
-    let a = c .before .before .before .before .before .args in
-    let e = ap₂ (λ (x y : ℕ). x * y) (c .before .before .word .ensures .0) (c .before .word2 .ensures .0) in
-    let l = length-roll 8 (c .before .before .word .result) (a .books .now) (a .map .now) (omega arith) 0 (c .before .before .word .result * c .before .word2 .result) in
-    omega (arith, c .before .before .before .before .before .pre .all, c .count-words .ensures)
+    let at-word2 = c .before in
+    let at-word = at-word2 .before in
+    let at-start = at-word .before .before .before in
+    let a = at-start .args in
+    let e = ap₂ (λ (x y : ℕ). x * y) (at-word .word .ensures .0) (at-word2 .word2 .ensures .0) in
+    let l = length-roll 8 (at-word .word .result) (a .books .now) (a .map .now) (omega arith) 0 (at-word .word .result * at-word2 .word2 .result) in
+    omega (arith, at-start .pre .all, c .count-words .ensures)
 
 returns : tie.Need-returns
 returns c =
-    let a = c .before .before .before .before .before .args in
-    ap (λ (n : ℕ). n / 2) (c .count-words .ensures ∙ ap₂ (λ (x y : ℕ). length (rollPools 8 x (a .books .now) (a .map .now) 0 (x * y))) (c .before .before .word .ensures .0) (c .before .word2 .ensures .0))
+    let at-word = c .before .before in
+    let at-start = at-word .before .before .before in
+    let a = at-start .args in
+    ap (λ (n : ℕ). n / 2) (c .count-words .ensures
+    ∙ ap₂ (λ (x y : ℕ). length (rollPools 8 x (a .books .now) (a .map .now) 0 (x * y))) (at-word .word .ensures .0) (c .before .word2 .ensures .0))
 
 pub live-blocks-spec : {M : Type 1} → statement M
 live-blocks-spec =

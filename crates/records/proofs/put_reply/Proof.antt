@@ -40,23 +40,36 @@ add-put-link-2 : tie.Need-add-put-link-2
 add-put-link-2 c = search needs
 
 put-link-requires-2 : tie.Need-put-link-requires-2
-put-link-requires-2 c κs = omega (arith, simp length-set at (c .before .before .before .put-link .kept .0))
+put-link-requires-2 c κs =
+    let at-put-link = c .before .before .before in
+    omega (arith, simp length-set at (at-put-link .put-link .kept .0))
 
 add-put-link-3 : tie.Need-add-put-link-3
 add-put-link-3 c = search needs
 
 put-link-requires-3 : tie.Need-put-link-requires-3
-put-link-requires-3 c κs = omega (arith, c .before .before .before .put-link2 .kept .0, simp length-set at (c .before .before .before .before .before .before .before .put-link .kept .0))
+put-link-requires-3 c κs =
+    let at-put-link2 = c .before .before .before in
+    let at-put-link = at-put-link2 .before .before .before .before in
+    omega (arith, at-put-link2 .put-link2 .kept .0, simp length-set at (at-put-link .put-link .kept .0))
 
 same-length : tie.Need-same-length
-same-length c = c .before .before .put-link3 .kept .0 ∙ c .before .before .before .before .before .before .put-link2 .kept .0 ∙ c .before .before .before .before .before .before .before .before .before .before .put-link .kept .0 ∙ simp length-set
+same-length c =
+    let at-put-link3 = c .before .before in
+    let at-put-link2 = at-put-link3 .before .before .before .before in
+    let at-put-link = at-put-link2 .before .before .before .before in
+    at-put-link3 .put-link3 .kept .0 ∙ at-put-link2 .put-link2 .kept .0 ∙ at-put-link .put-link .kept .0 ∙ simp length-set
 
 returns : tie.Need-returns
 returns c =
-    let a = c .before .before .before .before .before .before .before .before .before .before .before .before .before .args in
+    let at-put-link3 = c .before .before in
+    let at-put-link2 = at-put-link3 .before .before .before .before in
+    let at-put-link = at-put-link2 .before .before .before .before in
+    let at-start = at-put-link .before .before .before in
+    let a = at-start .args in
     let r = a .reply in
-    c .before .before .put-link3 .ensures
-    ∙ ap (putLink _ (r .live)) (c .before .before .before .before .before .before .put-link2 .ensures ∙ ap (putLink _ (r .size)) (c .before .before .before .before .before .before .before .before .before .before .put-link .ensures))
+    at-put-link3 .put-link3 .ensures
+    ∙ ap (putLink _ (r .live)) (at-put-link2 .put-link2 .ensures ∙ ap (putLink _ (r .size)) (at-put-link .put-link .ensures))
     ∙ put-bytes (a .output .now) (a .at) (r .op) (r .number) (r .offset) (r .size) (r .live)
 
 pub put-reply-spec : {M : Type 1} → statement M

@@ -15,7 +15,10 @@ repeated-requires : tie.Need-repeated-requires
 repeated-requires c κs = search needs
 
 returns : tie.Need-returns
-returns c = let a = c .before .before .before .args in ap (λ (o : ℕ). replyOf (opOf (a .bytes .now)) (a .number) o 0 (a .live)) (c .repeated .ensures)
+returns c =
+    let at-start = c .before .before .before in
+    let a = at-start .args in
+    ap (λ (o : ℕ). replyOf (opOf (a .bytes .now)) (a .number) o 0 (a .live)) (c .repeated .ensures)
 
 pub refusal-spec : {M : Type 1} → statement M
 refusal-spec = tie.close (tie.spec shared-slice-read-t5 repeated-requires returns)

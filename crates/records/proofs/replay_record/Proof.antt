@@ -45,9 +45,15 @@ same-length-4 c = search needs
 
 returns : tie.Need-returns
 returns c =
-    let a = c .before .before .before .before .before .before .before .before .before .before .before .before .before .before .before .before .before .before .before .before .before .args in
-    let e = c .before .before .before .before .before .before .before .before .before .before .answer .ensures ∙ ap (replayRecord 8 (heapOf (a .memory .now) (a .books .now) (a .map .now))) (part-is (a .input .now) (a .i) (c .before .before .before .before .before .before .before .before .before .before .before .before .before .before .before .end-of .result) (c .before .before .before .before .before .before .before .before .before .before .before .before .before .before .before .end-of .ensures)) in
-    (c .before .before .put-reply .ensures ∙ ap (λ (x : Replied). sets (a .output .now) (16 * a .i) (x .reply)) e, ap (λ (x : Replied). x .heap) e)
+    let at-put-reply = c .before .before in
+    let at-answer = at-put-reply .before .before .before .before .before .before .before .before in
+    let at-end-of = at-answer .before .before .before .before .before in
+    let at-start = at-end-of .before .before .before .before .before .before in
+    let a = at-start .args in
+    let e = at-answer .answer .ensures
+    ∙ ap (replayRecord 8 (heapOf (a .memory .now) (a .books .now) (a .map .now)))
+    (part-is (a .input .now) (a .i) (at-end-of .end-of .result) (at-end-of .end-of .ensures)) in
+    (at-put-reply .put-reply .ensures ∙ ap (λ (x : Replied). sets (a .output .now) (16 * a .i) (x .reply)) e, ap (λ (x : Replied). x .heap) e)
 
 pub replay-record-spec : {M : Type 1} → statement M
 replay-record-spec =

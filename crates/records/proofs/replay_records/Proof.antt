@@ -37,8 +37,11 @@ same-length-3 c = search needs
 
 returns : tie.Need-returns Inv-loop μ-loop
 returns c =
-    let a = c .before .before .before .before .before .before .before .before .before .before .args in
-    no-heap (heapOf (a .memory .now) (a .books .now) (a .map .now)) (a .input .now) (a .output .now) (c .before .shape-number .result) (c .before .shape-number .ensures .0) (c .if1 .taken)
+    let at-shape-number = c .before in
+    let at-start = at-shape-number .before .before .before .before .before .before .before .before .before in
+    let a = at-start .args in
+    no-heap (heapOf (a .memory .now) (a .books .now) (a .map .now)) (a .input .now) (a .output .now) (at-shape-number .shape-number .result)
+    (at-shape-number .shape-number .ensures .0) (c .if1 .taken)
 
 add-records : tie.Need-add-records Inv-loop μ-loop
 add-records c = omega arith
@@ -57,15 +60,21 @@ same-length-6 c = search needs
 
 returns-2 : tie.Need-returns-2 Inv-loop μ-loop
 returns-2 c =
-    let a = c .before .before .before .before .before .before .before .before .before .before .before .args in
-    no-room (heapOf (a .memory .now) (a .books .now) (a .map .now)) (a .input .now) (a .output .now) (sym (c .before .before .shape-number .ensures .0) ∙ c .before .if1 .left) (c .if2 .taken)
+    let at-shape-number = c .before .before in
+    let at-start = at-shape-number .before .before .before .before .before .before .before .before .before in
+    let a = at-start .args in
+    no-room (heapOf (a .memory .now) (a .books .now) (a .map .now)) (a .input .now) (a .output .now)
+    (sym (at-shape-number .shape-number .ensures .0) ∙ c .before .if1 .left) (c .if2 .taken)
 
 loop-holds : tie.Need-loop-holds Inv-loop μ-loop
-loop-holds c = (begin, c .before .before .shape-number .ensures .1 (c .before .if1 .left), refl, refl, refl, omega arith)
+loop-holds c =
+    let at-shape-number = c .before .before in
+    (begin, at-shape-number .shape-number .ensures .1 (c .before .if1 .left), refl, refl, refl, omega arith)
 
 replay-record-requires : tie.Need-replay-record-requires Inv-loop μ-loop
 replay-record-requires c κs =
-    let p = c .before .before .before .before .before .loop in
+    let at-loop = c .before .before .before .before .before in
+    let p = at-loop .loop in
     (p .inv .1, omega arith, omega (arith, p .inv .0 .long))
 
 add-i : tie.Need-add-i Inv-loop μ-loop
@@ -76,12 +85,16 @@ loop-less c = omega arith
 
 loop-again : tie.Need-loop-again Inv-loop μ-loop
 loop-again c =
-    let a = c .before .before .before .before .before .before .before .before .before .before .before .before .before .before .before .before .before .before .before .before .before .before .before .before .before .before .args in
-    let p = c .before .before .before .before .before .before .before .before .before .before .before .before .before .before .loop in
-    let x = c .before .before .before .before .before .before .before .before .replay-record in
+    let at-replay-record = c .before .before .before .before .before .before .before .before in
+    let at-loop = at-replay-record .before .before .before .before .before .before in
+    let at-start = at-loop .before .before .before .before .before .before .before .before .before .before .before .before in
+    let a = at-start .args in
+    let p = at-loop .loop in
+    let x = at-replay-record .replay-record in
     let t = record-sent (heapOf (p .memory) (p .books) (p .map)) (recordAt (p .i) (a .input .now)) in (
       turn (p .i) (omega arith) (p .inv .0) (x .ensures .0) (x .ensures .1),
-      still-whole (p .memory) (p .books) (p .map) (x .last .0) (x .last .1 .0) (x .last .1 .1 .0) _ (p .inv .1) (t .kept) (x .ensures .1) (x .kept .0) (x .kept .1 .0) (x .kept .1 .1 .0),
+      still-whole (p .memory) (p .books) (p .map) (x .last .0) (x .last .1 .0) (x .last .1 .1 .0) _ (p .inv .1) (t .kept) (x .ensures .1) (x .kept .0)
+          (x .kept .1 .0) (x .kept .1 .1 .0),
       x .kept .0 ∙ p .inv .2,
       x .kept .1 .0 ∙ p .inv .3,
       x .kept .1 .1 .0 ∙ p .inv .4,
@@ -105,10 +118,15 @@ same-length-10 c = c .before .loop .inv .0 .long
 
 returns-3 : tie.Need-returns-3 Inv-loop μ-loop
 returns-3 c =
-    let a = c .before .before .before .before .before .before .before .before .before .before .before .before .before .args in
+    let at-if2 = c .before .before in
+    let at-if1 = at-if2 .before in
+    let at-shape-number = at-if1 .before in
+    let at-start = at-shape-number .before .before .before .before .before .before .before .before .before in
+    let a = at-start .args in
     let p = c .before .loop in
     let s = stored (p .i) (omega arith) (p .inv .0) in
-    all-done (heapOf (a .memory .now) (a .books .now) (a .map .now)) (a .input .now) (a .output .now) (sym (c .before .before .before .before .shape-number .ensures .0) ∙ c .before .before .before .if1 .left) (c .before .before .if2 .left)
+    all-done (heapOf (a .memory .now) (a .books .now) (a .map .now)) (a .input .now) (a .output .now)
+    (sym (at-shape-number .shape-number .ensures .0) ∙ at-if1 .if1 .left) (at-if2 .if2 .left)
     (p .output) (heapOf (p .memory) (p .books) (p .map)) (s .0) (s .1)
 
 pub replay-records-spec : {M : Type 1} → statement M

@@ -2,7 +2,7 @@
 -- Assumes nothing.
 use mathlib.Core.Path.{sym, _∙_}
 use borrow.Author.Needs.{needs}
-use Rattle.steps.specs.Passing.{stopped, passed}
+use Rattle.books.specs.Passing.{stopped, passed}
 use Rattle.records.proofs.reply_to.Statement.{statement}
 use Rattle.records.proofs.reply_to.Tie as tie
 

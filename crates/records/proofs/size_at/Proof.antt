@@ -42,8 +42,12 @@ cast-result c = search needs
 
 returns : tie.Need-returns
 returns c =
-    let a = c .before .before .before .before .args in
-    ap (λ (x : ℕ). 8 * (x + 1) % 4294967296) (c .word-or-none2 .ensures .0 ∙ ap₂ (λ (x y : ℕ). pool x (a .books .now) class (y / 4096)) (c .before .before .word-or-none .ensures .0) (c .before .index .ensures .0))
+    let at-word-or-none = c .before .before in
+    let at-start = at-word-or-none .before .before in
+    let a = at-start .args in
+    ap (λ (x : ℕ). 8 * (x + 1) % 4294967296)
+    (c .word-or-none2 .ensures .0
+    ∙ ap₂ (λ (x y : ℕ). pool x (a .books .now) class (y / 4096)) (at-word-or-none .word-or-none .ensures .0) (c .before .index .ensures .0))
 
 pub size-at-spec : {M : Type 1} → statement M
 size-at-spec =

@@ -27,14 +27,17 @@ same-length-4 c = search needs
 
 returns : tie.Need-returns
 returns c =
-    let a = c .before .before .before .before .before .before .before .before .before .before .before .before .before .before .before .before .before .before .args in
-    let x = c .before .before .before .before .before .before .before .before .replay-records in
+    let at-replay-records = c .before .before .before .before .before .before .before .before in
+    let at-start = at-replay-records .before .before .before .before .before .before .before .before .before .before in
+    let a = at-start .args in
+    let x = at-replay-records .replay-records in
     let m = a .memory .now in
     let b = a .books .now in
     let k = a .map .now in
-    let t = answered m b k (a .input .now) (a .output .now) (x .result) (x .last .1 .1 .1 .1 .0) (heapOf (x .last .0) (x .last .1 .0) (x .last .1 .1 .0)) (c .before .before .before .before .before .before .before .before .before .before .before .before .before .before .before .before .before .before .pre .0) (c .before .before .before .before .before .before .before .before .before .before .before .before .before .before .before .before .before .before .pre .1) (x .ensures) in (
+    let t = answered m b k (a .input .now) (a .output .now) (x .result) (x .last .1 .1 .1 .1 .0) (heapOf (x .last .0) (x .last .1 .0) (x .last .1 .1 .0))
+    (at-start .pre .0) (at-start .pre .1) (x .ensures) in (
       t,
-      still-whole m b k (x .last .0) (x .last .1 .0) (x .last .1 .1 .0) _ (c .before .before .before .before .before .before .before .before .before .before .before .before .before .before .before .before .before .before .pre .0)
+      still-whole m b k (x .last .0) (x .last .1 .0) (x .last .1 .1 .0) _ (at-start .pre .0)
           (after-kept (length (a .input .now) / 16) (heapOf m b k) (a .input .now)) (t .heap) (x .kept .0) (x .kept .1 .0) (x .kept .1 .1 .0),
     )
 

@@ -20,10 +20,16 @@ slice-reshare-prefix-answer : tie.Need-slice-reshare-prefix-answer
 slice-reshare-prefix-answer c = search needs
 
 slice-aggregate-answer : tie.Need-slice-aggregate-answer
-slice-aggregate-answer c = let a = c .before .before .before .before .before .before .before .before .before .args in sym (length-take-le (a .n - a .n % 16) (a .input .now) (omega arith))
+slice-aggregate-answer c =
+    let at-start = c .before .before .before .before .before .before .before .before .before in
+    let a = at-start .args in
+    sym (length-take-le (a .n - a .n % 16) (a .input .now) (omega arith))
 
 answer-requires : tie.Need-answer-requires
-answer-requires c κs = let a = c .before .before .before .before .before .before .before .before .before .before .args in (c .before .before .before .before .before .before .before .before .before .before .pre .0, omega (arith, length-take-le (a .n - a .n % 16) (a .input .now) (omega arith)))
+answer-requires c κs =
+    let at-start = c .before .before .before .before .before .before .before .before .before .before in
+    let a = at-start .args in
+    (at-start .pre .0, omega (arith, length-take-le (a .n - a .n % 16) (a .input .now) (omega arith)))
 
 same-length : tie.Need-same-length
 same-length c = search needs
@@ -41,7 +47,11 @@ same-length-5 : tie.Need-same-length-5
 same-length-5 c = search needs
 
 returns : tie.Need-returns
-returns c = let a = c .before .before .before .before .before .before .before .before .before .before .before .before .before .before .before .before .before .before .before .before .args in (c .before .before .before .before .before .before .before .before .before .answer .ensures .0, ap (λ (j : ℕ). take (a .n % 16) (drop j (a .input .now))) (sym (c .if1 .taken)), c .before .before .before .before .before .before .before .before .before .answer .ensures .1)
+returns c =
+    let at-answer = c .before .before .before .before .before .before .before .before .before in
+    let at-start = at-answer .before .before .before .before .before .before .before .before .before .before .before in
+    let a = at-start .args in
+    (at-answer .answer .ensures .0, ap (λ (j : ℕ). take (a .n % 16) (drop j (a .input .now))) (sym (c .if1 .taken)), at-answer .answer .ensures .1)
 
 copy-within-requires : tie.Need-copy-within-requires
 copy-within-requires c κs = (omega arith, omega arith, inr (omega arith))
@@ -63,13 +73,16 @@ same-length-10 c = search needs
 
 returns-2 : tie.Need-returns-2
 returns-2 c =
-    let a = c .before .before .before .before .before .before .before .before .before .before .before .before .before .before .before .before .before .before .before .before .before .before .before .before .args in
+    let at-copy-within = c .before .before in
+    let at-answer = at-copy-within .before .before .before .before .before .before .before .before .before .before .before in
+    let at-start = at-answer .before .before .before .before .before .before .before .before .before .before .before in
+    let a = at-start .args in
     let l = a .input .now in
     let moved = part (a .n - a .n % 16) (a .n % 16) l in
     let e = length-part l (a .n - a .n % 16) (a .n % 16) (omega arith) in (
-      c .before .before .before .before .before .before .before .before .before .before .before .before .before .answer .ensures .0,
-      ap (take (a .n % 16)) (c .before .before .copy-within .ensures ∙ sets-front l moved (omega arith)) ∙ take-at moved _ (a .n % 16) e,
-      c .before .before .before .before .before .before .before .before .before .before .before .before .before .answer .ensures .1,
+      at-answer .answer .ensures .0,
+      ap (take (a .n % 16)) (at-copy-within .copy-within .ensures ∙ sets-front l moved (omega arith)) ∙ take-at moved _ (a .n % 16) e,
+      at-answer .answer .ensures .1,
     )
 
 pub answer-whole-spec : {M : Type 1} → statement M

@@ -42,11 +42,14 @@ slice-aggregate-replay-all-5 c = search needs
 
 replay-all-requires : tie.Need-replay-all-requires
 replay-all-requires c κs =
-    let x = c .before .before .before .before .before .before .before .format in
+    let at-format = c .before .before .before .before .before .before .before in
+    let at-large-buffer2 = at-format .before .before .before .before in
+    let at-large-buffer = at-large-buffer2 .before in
+    let x = at-format .format in
     record {
       whole = formatted (replicate 65536 0) (replicate 208 0) (replicate 128 0) refl refl refl (x .result) (x .last .1 .0) (x .last .1 .1 .0) (x .ensures);
-      in-long = sym (c .before .before .before .before .before .before .before .before .before .before .before .before .large-buffer .ensures);
-      out-long = sym (c .before .before .before .before .before .before .before .before .before .before .before .large-buffer2 .ensures);
+      in-long = sym (at-large-buffer .large-buffer .ensures);
+      out-long = sym (at-large-buffer2 .large-buffer2 .ensures);
     }
 
 returns : tie.Need-returns

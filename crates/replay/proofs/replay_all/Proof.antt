@@ -22,10 +22,14 @@ abbrev μ-loop : tie.MeasureT-loop
 μ-loop memory₀ books₀ map₀ input₀ output₀ kept₀ turns₀ memory books map input output kept turns = turns
 
 loop-holds : tie.Need-loop-holds Inv-loop μ-loop
-loop-holds c = (c .before .before .before .before .before .pre, omega arith, refl, refl, refl)
+loop-holds c =
+    let at-start = c .before .before .before .before .before in
+    (at-start .pre, omega arith, refl, refl, refl)
 
 turn-requires : tie.Need-turn-requires Inv-loop μ-loop
-turn-requires c κs = let i = c .before .before .before .before .before .before .loop .inv in (i .0, i .1)
+turn-requires c κs =
+    let at-loop = c .before .before .before .before .before .before in
+    let i = at-loop .loop .inv in (i .0, i .1)
 
 enum-known-n : tie.Need-enum-known-n Inv-loop μ-loop
 enum-known-n c = search needs
@@ -34,19 +38,36 @@ enum-told : tie.Need-enum-told Inv-loop μ-loop
 enum-told c = search needs
 
 same-length : tie.Need-same-length Inv-loop μ-loop
-same-length c = c .before .before .before .before .before .before .before .before .before .before .before .before .turn .kept .0 ∙ c .before .before .before .before .before .before .before .before .before .before .before .before .before .before .before .before .before .before .before .loop .inv .2
+same-length c =
+    let at-turn = c .before .before .before .before .before .before .before .before .before .before .before .before in
+    let at-loop = at-turn .before .before .before .before .before .before .before in
+    at-turn .turn .kept .0 ∙ at-loop .loop .inv .2
 
 same-length-2 : tie.Need-same-length-2 Inv-loop μ-loop
-same-length-2 c = c .before .before .before .before .before .before .before .before .before .before .before .before .turn .kept .1 .0 ∙ c .before .before .before .before .before .before .before .before .before .before .before .before .before .before .before .before .before .before .before .loop .inv .3
+same-length-2 c =
+    let at-turn = c .before .before .before .before .before .before .before .before .before .before .before .before in
+    let at-loop = at-turn .before .before .before .before .before .before .before in
+    at-turn .turn .kept .1 .0 ∙ at-loop .loop .inv .3
 
 same-length-3 : tie.Need-same-length-3 Inv-loop μ-loop
-same-length-3 c = c .before .before .before .before .before .before .before .before .before .before .before .before .turn .kept .1 .1 .0 ∙ c .before .before .before .before .before .before .before .before .before .before .before .before .before .before .before .before .before .before .before .loop .inv .4
+same-length-3 c =
+    let at-turn = c .before .before .before .before .before .before .before .before .before .before .before .before in
+    let at-loop = at-turn .before .before .before .before .before .before .before in
+    at-turn .turn .kept .1 .1 .0 ∙ at-loop .loop .inv .4
 
 same-length-4 : tie.Need-same-length-4 Inv-loop μ-loop
-same-length-4 c = c .before .before .before .before .before .before .before .before .before .before .before .before .turn .kept .1 .1 .1 .0 ∙ c .before .before .before .before .before .before .before .before .before .before .before .before .before .before .before .before .before .before .before .loop .inv .0 .in-long ∙ sym (c .before .before .before .before .before .before .before .before .before .before .before .before .before .before .before .before .before .before .before .before .before .before .before .before .before .pre .in-long)
+same-length-4 c =
+    let at-turn = c .before .before .before .before .before .before .before .before .before .before .before .before in
+    let at-loop = at-turn .before .before .before .before .before .before .before in
+    let at-start = at-loop .before .before .before .before .before .before in
+    at-turn .turn .kept .1 .1 .1 .0 ∙ at-loop .loop .inv .0 .in-long ∙ sym (at-start .pre .in-long)
 
 same-length-5 : tie.Need-same-length-5 Inv-loop μ-loop
-same-length-5 c = c .before .before .before .before .before .before .before .before .before .before .before .before .turn .kept .1 .1 .1 .1 .0 ∙ c .before .before .before .before .before .before .before .before .before .before .before .before .before .before .before .before .before .before .before .loop .inv .0 .out-long ∙ sym (c .before .before .before .before .before .before .before .before .before .before .before .before .before .before .before .before .before .before .before .before .before .before .before .before .before .pre .out-long)
+same-length-5 c =
+    let at-turn = c .before .before .before .before .before .before .before .before .before .before .before .before in
+    let at-loop = at-turn .before .before .before .before .before .before .before in
+    let at-start = at-loop .before .before .before .before .before .before in
+    at-turn .turn .kept .1 .1 .1 .1 .0 ∙ at-loop .loop .inv .0 .out-long ∙ sym (at-start .pre .out-long)
 
 returns : tie.Need-returns Inv-loop μ-loop
 returns c = tt
@@ -59,8 +80,10 @@ loop-less c = omega arith
 
 loop-again : tie.Need-loop-again Inv-loop μ-loop
 loop-again c =
-    let t = c .before .before .before .before .before .before .before .before .before .before .before .before .before .turn in
-    let i = c .before .before .before .before .before .before .before .before .before .before .before .before .before .before .before .before .before .before .before .before .loop .inv in (
+    let at-turn = c .before .before .before .before .before .before .before .before .before .before .before .before .before in
+    let at-loop = at-turn .before .before .before .before .before .before .before in
+    let t = at-turn .turn in
+    let i = at-loop .loop .inv in (
       record {
         whole = t .ensures .0;
         in-long = t .kept .1 .1 .1 .0 ∙ i .0 .in-long;
@@ -82,10 +105,14 @@ same-length-8 : tie.Need-same-length-8 Inv-loop μ-loop
 same-length-8 c = c .before .loop .inv .4
 
 same-length-9 : tie.Need-same-length-9 Inv-loop μ-loop
-same-length-9 c = c .before .loop .inv .0 .in-long ∙ sym (c .before .before .before .before .before .before .before .pre .in-long)
+same-length-9 c =
+    let at-start = c .before .before .before .before .before .before .before in
+    c .before .loop .inv .0 .in-long ∙ sym (at-start .pre .in-long)
 
 same-length-10 : tie.Need-same-length-10 Inv-loop μ-loop
-same-length-10 c = c .before .loop .inv .0 .out-long ∙ sym (c .before .before .before .before .before .before .before .pre .out-long)
+same-length-10 c =
+    let at-start = c .before .before .before .before .before .before .before in
+    c .before .loop .inv .0 .out-long ∙ sym (at-start .pre .out-long)
 
 returns-2 : tie.Need-returns-2 Inv-loop μ-loop
 returns-2 c = tt

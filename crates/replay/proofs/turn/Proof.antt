@@ -38,13 +38,20 @@ slice-aggregate-answer : tie.Need-slice-aggregate-answer
 slice-aggregate-answer c = sym (length-take-le _ _ (search needs))
 
 answer-requires : tie.Need-answer-requires
-answer-requires c κs = let a = c .before .before .before .before .before .before .before .before .before .before .before .before .before .before .before .before .args in (c .before .before .before .before .before .before .before .before .before .before .before .before .before .before .before .before .pre .0 .whole, short-fits (a .kept) _ (a .output .now) (c .before .before .before .before .before .before .before .before .before .before .before .before .before .before .before .before .pre .1) (c .before .before .before .before .before .before .before .before .before .before .before .before .before .before .before .before .pre .0 .out-long))
+answer-requires c κs =
+    let at-start = c .before .before .before .before .before .before .before .before .before .before .before .before .before .before .before .before in
+    let a = at-start .args in
+    (at-start .pre .0 .whole, short-fits (a .kept) _ (a .output .now) (at-start .pre .1) (at-start .pre .0 .out-long))
 
 slice-reshare-prefix-write-out : tie.Need-slice-reshare-prefix-write-out
-slice-reshare-prefix-write-out c = inside (c .before .before .before .before .before .before .before .before .answer .ensures .0)
+slice-reshare-prefix-write-out c =
+    let at-answer = c .before .before .before .before .before .before .before .before in
+    inside (at-answer .answer .ensures .0)
 
 slice-aggregate-write-out : tie.Need-slice-aggregate-write-out
-slice-aggregate-write-out c = sym (length-take-le _ _ (inside (c .before .before .before .before .before .before .before .before .before .answer .ensures .0)))
+slice-aggregate-write-out c =
+    let at-answer = c .before .before .before .before .before .before .before .before .before in
+    sym (length-take-le _ _ (inside (at-answer .answer .ensures .0)))
 
 write-out-requires : tie.Need-write-out-requires
 write-out-requires c κs = search needs
@@ -86,10 +93,14 @@ answer-whole-requires : tie.Need-answer-whole-requires
 answer-whole-requires c κs = search needs
 
 slice-reshare-prefix-write-out-2 : tie.Need-slice-reshare-prefix-write-out-2
-slice-reshare-prefix-write-out-2 c = inside (c .before .before .before .before .before .before .before .before .before .before .answer-whole .ensures .0)
+slice-reshare-prefix-write-out-2 c =
+    let at-answer-whole = c .before .before .before .before .before .before .before .before .before .before in
+    inside (at-answer-whole .answer-whole .ensures .0)
 
 slice-aggregate-write-out-2 : tie.Need-slice-aggregate-write-out-2
-slice-aggregate-write-out-2 c = sym (length-take-le _ _ (inside (c .before .before .before .before .before .before .before .before .before .before .before .answer-whole .ensures .0)))
+slice-aggregate-write-out-2 c =
+    let at-answer-whole = c .before .before .before .before .before .before .before .before .before .before .before in
+    sym (length-take-le _ _ (inside (at-answer-whole .answer-whole .ensures .0)))
 
 write-out-requires-2 : tie.Need-write-out-requires-2
 write-out-requires-2 c κs = search needs

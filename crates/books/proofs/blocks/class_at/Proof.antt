@@ -29,7 +29,10 @@ shared-slice-read-result : tie.Need-shared-slice-read-result
 shared-slice-read-result c = search needs
 
 cast-result : tie.Need-cast-result
-cast-result c = omega (arith, c .shared-slice-known .given (poolWord (c .before .args .arenas) class (c .before .args .offset / 4096)))
+cast-result c =
+    let at-start = c .before in
+    let a = at-start .args in
+    omega (arith, c .shared-slice-known .given (poolWord (a .arenas) class (a .offset / 4096)))
 
 returns : tie.Need-returns
 returns c = search needs

@@ -45,7 +45,10 @@ same-length c = simp (length-set, c .before .before .put-previous .kept .0)
 
 returns : tie.Need-returns
 unfolding joinBy
-returns c = simp (c .before .before .put-previous .ensures, c .before .before .before .before .link-to .ensures)
+returns c =
+    let at-put-previous = c .before .before in
+    let at-link-to = at-put-previous .before .before in
+    simp (at-put-previous .put-previous .ensures, at-link-to .link-to .ensures)
 
 pub join-by-spec : {M : Type 1} → statement M
 join-by-spec =

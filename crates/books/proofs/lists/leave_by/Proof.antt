@@ -35,7 +35,10 @@ slice-write-books-2 : tie.Need-slice-write-books-2
 slice-write-books-2 c = simp length-set (omega arith)
 
 same-length : tie.Need-same-length
-same-length c = simp (length-set, c .before .before .put-previous .kept .0, c .before .before .before .before .before .before .put-next .kept .0)
+same-length c =
+    let at-put-previous = c .before .before in
+    let at-put-next = at-put-previous .before .before .before .before in
+    simp (length-set, at-put-previous .put-previous .kept .0, at-put-next .put-next .kept .0)
 
 returns : tie.Need-returns
 unfolding leaveBy

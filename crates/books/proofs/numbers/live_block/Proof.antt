@@ -4,9 +4,10 @@ use mathlib.Core.Path.{_≡_, sym, _∙_}
 use mathlib.Core.Bool.{true, false}
 use Prim.Native.Nat.{_%_}
 use native.Mathlib.Omega.{arith}
-use borrow.Author.Tests.{not-true, not-false, lt-ltb, le-ltb, lt-leb, le-leb}
+use borrow.Author.Tests.{lt-ltb, le-ltb, lt-leb, le-leb}
 use Rattle.rules.specs.Books.{memoryLength}
 use Rattle.rules.specs.Blocks.{isStart, live}
+use Rattle.books.specs.Tests.{held, failed}
 use Rattle.books.specs.Known.{blockAt}
 use borrow.Author.Needs.{needs}
 use Rattle.books.proofs.numbers.live_block.Statement.{statement}
@@ -14,14 +15,25 @@ use Rattle.books.proofs.numbers.live_block.Tie as tie
 
 returns : tie.Need-returns
 unfolding live blockAt
-returns c = simp (le-ltb (c .before .before .before .before .args .offset) (memoryLength (c .before .before .before .before .args .arenas) (c .before .before .before .before .args .pools)) (omega (arith, c .if1 .taken, c .before .before .before .before .pre .memory)))
+returns c =
+    let at-start = c .before .before .before .before in
+    let a = at-start .args in
+    simp (le-ltb (a .offset) (memoryLength (a .arenas) (a .pools)) (omega (arith, c .if1 .taken, at-start .pre .memory)))
 
 class-at-requires : tie.Need-class-at-requires
 class-at-requires c κs = search needs
 
 returns-2 : tie.Need-returns-2
 unfolding live blockAt
-returns-2 c = simp (lt-ltb (c .before .before .before .before .before .before .args .offset) (memoryLength (c .before .before .before .before .before .before .args .arenas) (c .before .before .before .before .before .before .args .pools)) (omega (arith, c .before .before .if1 .left, c .before .before .before .before .before .before .pre .memory)), ← c .before .class-at .ensures, lt-leb _ _ (c .if2 .taken))
+returns-2 c =
+    let at-if1 = c .before .before in
+    let at-start = at-if1 .before .before .before .before in
+    let a = at-start .args in
+    simp (
+      lt-ltb (a .offset) (memoryLength (a .arenas) (a .pools)) (omega (arith, at-if1 .if1 .left, at-start .pre .memory)),
+      ← c .before .class-at .ensures,
+      lt-leb _ _ (c .if2 .taken),
+    )
 
 size-of-requires : tie.Need-size-of-requires
 size-of-requires c κs = search needs
@@ -32,13 +44,28 @@ is-start-requires c κs = search needs
 returns-3 : tie.Need-returns-3
 unfolding live blockAt
 returns-3 c =
-    let e : isStart (c .before .before .size-of .result) (c .before .before .before .before .before .before .before .before .before .args .offset % 4096) ≡ false = sym (c .before .is-start .ensures) ∙ not-true (c .before .is-start .result) (c .if3 .taken) in
-    simp (lt-ltb (c .before .before .before .before .before .before .before .before .before .args .offset) (memoryLength (c .before .before .before .before .before .before .before .before .before .args .arenas) (c .before .before .before .before .before .before .before .before .before .args .pools)) (omega (arith, c .before .before .before .before .before .if1 .left, c .before .before .before .before .before .before .before .before .before .pre .memory)), ← c .before .before .before .before .class-at .ensures, le-leb _ _ (c .before .before .before .if2 .left), ← c .before .before .size-of .ensures .0, e)
+    let at-is-start = c .before in
+    let at-size-of = at-is-start .before in
+    let at-if2 = at-size-of .before in
+    let at-class-at = at-if2 .before in
+    let at-if1 = at-class-at .before in
+    let at-start = at-if1 .before .before .before .before in
+    let a = at-start .args in
+    let e : isStart (at-size-of .size-of .result) (a .offset % 4096) ≡ false = failed (at-is-start .is-start .ensures) (c .if3 .taken) in
+    simp (
+      lt-ltb (a .offset) (memoryLength (a .arenas) (a .pools)) (omega (arith, at-if1 .if1 .left, at-start .pre .memory)),
+      ← at-class-at .class-at .ensures,
+      le-leb _ _ (at-if2 .if2 .left),
+      ← at-size-of .size-of .ensures .0,
+      e,
+    )
 
 block-no-requires : tie.Need-block-no-requires
 block-no-requires c κs =
-    let s = c .before .before .size-of .ensures in
-    (s .1, s .2, sym (c .before .is-start .ensures) ∙ not-false (c .before .is-start .result) (c .if3 .left))
+    let at-is-start = c .before in
+    let at-size-of = at-is-start .before in
+    let s = at-size-of .size-of .ensures in
+    (s .1, s .2, held (at-is-start .is-start .ensures) (c .if3 .left))
 
 is-set-requires : tie.Need-is-set-requires
 is-set-requires c κs = search needs
@@ -46,14 +73,50 @@ is-set-requires c κs = search needs
 returns-4 : tie.Need-returns-4
 unfolding live blockAt
 returns-4 c =
-    let e : isStart (c .before .before .before .before .before .size-of .result) (c .before .before .before .before .before .before .before .before .before .before .before .before .args .offset % 4096) ≡ true = sym (c .before .before .before .before .is-start .ensures) ∙ not-false (c .before .before .before .before .is-start .result) (c .before .before .before .if3 .left) in
-    simp (lt-ltb (c .before .before .before .before .before .before .before .before .before .before .before .before .args .offset) (memoryLength (c .before .before .before .before .before .before .before .before .before .before .before .before .args .arenas) (c .before .before .before .before .before .before .before .before .before .before .before .before .args .pools)) (omega (arith, c .before .before .before .before .before .before .before .before .if1 .left, c .before .before .before .before .before .before .before .before .before .before .before .before .pre .memory)), ← c .before .before .before .before .before .before .before .class-at .ensures, le-leb _ _ (c .before .before .before .before .before .before .if2 .left), ← c .before .before .before .before .before .size-of .ensures .0, e, ← c .before .before .block-no .ensures .0, sym (c .before .is-set .ensures) ∙ c .if4 .taken)
+    let at-block-no = c .before .before in
+    let at-if3 = at-block-no .before in
+    let at-is-start = at-if3 .before in
+    let at-size-of = at-is-start .before in
+    let at-if2 = at-size-of .before in
+    let at-class-at = at-if2 .before in
+    let at-if1 = at-class-at .before in
+    let at-start = at-if1 .before .before .before .before in
+    let a = at-start .args in
+    let e : isStart (at-size-of .size-of .result) (a .offset % 4096) ≡ true = held (at-is-start .is-start .ensures) (at-if3 .if3 .left) in
+    simp (
+      lt-ltb (a .offset) (memoryLength (a .arenas) (a .pools)) (omega (arith, at-if1 .if1 .left, at-start .pre .memory)),
+      ← at-class-at .class-at .ensures,
+      le-leb _ _ (at-if2 .if2 .left),
+      ← at-size-of .size-of .ensures .0,
+      e,
+      ← at-block-no .block-no .ensures .0,
+      sym (c .before .is-set .ensures)
+          ∙ c .if4 .taken,
+    )
 
 returns-5 : tie.Need-returns-5
 unfolding live blockAt
 returns-5 c =
-    let e : isStart (c .before .before .before .before .before .size-of .result) (c .before .before .before .before .before .before .before .before .before .before .before .before .args .offset % 4096) ≡ true = sym (c .before .before .before .before .is-start .ensures) ∙ not-false (c .before .before .before .before .is-start .result) (c .before .before .before .if3 .left) in
-    simp (lt-ltb (c .before .before .before .before .before .before .before .before .before .before .before .before .args .offset) (memoryLength (c .before .before .before .before .before .before .before .before .before .before .before .before .args .arenas) (c .before .before .before .before .before .before .before .before .before .before .before .before .args .pools)) (omega (arith, c .before .before .before .before .before .before .before .before .if1 .left, c .before .before .before .before .before .before .before .before .before .before .before .before .pre .memory)), ← c .before .before .before .before .before .before .before .class-at .ensures, le-leb _ _ (c .before .before .before .before .before .before .if2 .left), ← c .before .before .before .before .before .size-of .ensures .0, e, ← c .before .before .block-no .ensures .0, sym (c .before .is-set .ensures) ∙ c .if4 .left)
+    let at-block-no = c .before .before in
+    let at-if3 = at-block-no .before in
+    let at-is-start = at-if3 .before in
+    let at-size-of = at-is-start .before in
+    let at-if2 = at-size-of .before in
+    let at-class-at = at-if2 .before in
+    let at-if1 = at-class-at .before in
+    let at-start = at-if1 .before .before .before .before in
+    let a = at-start .args in
+    let e : isStart (at-size-of .size-of .result) (a .offset % 4096) ≡ true = held (at-is-start .is-start .ensures) (at-if3 .if3 .left) in
+    simp (
+      lt-ltb (a .offset) (memoryLength (a .arenas) (a .pools)) (omega (arith, at-if1 .if1 .left, at-start .pre .memory)),
+      ← at-class-at .class-at .ensures,
+      le-leb _ _ (at-if2 .if2 .left),
+      ← at-size-of .size-of .ensures .0,
+      e,
+      ← at-block-no .block-no .ensures .0,
+      sym (c .before .is-set .ensures)
+          ∙ c .if4 .left,
+    )
 
 pub live-block-spec : {M : Type 1} → statement M
 live-block-spec =

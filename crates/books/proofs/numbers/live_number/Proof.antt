@@ -11,11 +11,20 @@ live-block-requires : tie.Need-live-block-requires
 live-block-requires c κs = search needs
 
 returns : tie.Need-returns
-returns c = (sym (not-found 8 (c .before .before .before .before .before .args .arenas) (c .before .before .before .before .before .args .pools) (c .before .before .before .before .before .args .books .now) (c .before .before .before .before .before .args .map .now) (c .before .before .before .before .before .args .offset) (omega arith) (omega arith) (sym (c .before .live-block .ensures) ∙ c .if1 .taken)), λ z. absurd (omega arith))
+returns c =
+    let at-start = c .before .before .before .before .before in
+    let a = at-start .args in (
+      sym (not-found 8 (a .arenas) (a .pools) (a .books .now) (a .map .now) (a .offset) (omega arith) (omega arith)
+          (sym (c .before .live-block .ensures) ∙ c .if1 .taken)),
+      λ z. absurd (omega arith),
+    )
 
 returns-2 : tie.Need-returns-2
 returns-2 c =
-    let f = found 8 (c .before .before .before .before .before .args .arenas) (c .before .before .before .before .before .args .pools) (c .before .before .before .before .before .args .books .now) (c .before .before .before .before .before .args .map .now) (c .before .before .before .before .before .args .offset) (omega arith) (omega arith) (λ z. c .if1 .left (c .before .live-block .ensures ∙ z)) in
+    let at-start = c .before .before .before .before .before in
+    let a = at-start .args in
+    let f = found 8 (a .arenas) (a .pools) (a .books .now) (a .map .now) (a .offset) (omega arith) (omega arith)
+    (λ z. c .if1 .left (c .before .live-block .ensures ∙ z)) in
     (sym (f .number), λ z. f .live-block)
 
 pub live-number-spec : {M : Type 1} → statement M

@@ -28,7 +28,9 @@ fit-number-requires c κs = search needs
 
 returns-2 : tie.Need-returns-2
 unfolding shapeNumber
-returns-2 c = (simp (le-ltb _ _ (c .before .before .before .if1 .left)) (c .fit-number .ensures .0), c .fit-number .ensures .1)
+returns-2 c =
+    let at-if1 = c .before .before .before in
+    (simp (le-ltb _ _ (at-if1 .if1 .left)) (c .fit-number .ensures .0), c .fit-number .ensures .1)
 
 pub shape-number-spec : {M : Type 1} → statement M
 shape-number-spec =

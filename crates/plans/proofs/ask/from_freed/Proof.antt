@@ -14,8 +14,8 @@ take-again-requires c κs = search needs
 mul-keeps : tie.Need-mul-keeps
 mul-keeps c = search needs
 
-count-free-requires : tie.Need-count-free-requires
-count-free-requires c κs = search needs
+counted-requires : tie.Need-counted-requires
+counted-requires c κs = search needs
 
 keeps-requires : tie.Need-keeps-requires
 keeps-requires c κs = search needs
@@ -31,6 +31,6 @@ from-freed-spec =
     pool-word-requires
     take-again-requires
     mul-keeps
-    count-free-requires
+    counted-requires
     keeps-requires
     returns)

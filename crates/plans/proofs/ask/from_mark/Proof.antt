@@ -16,16 +16,24 @@ pool-at-requires c κs = search needs
 set-anew-requires : tie.Need-set-anew-requires
 set-anew-requires c κs = search needs
 
-count-free-requires : tie.Need-count-free-requires
-count-free-requires c κs = search needs
+counted-requires : tie.Need-counted-requires
+counted-requires c κs = search needs
 
 returns : tie.Need-returns
 unfolding fromMark setAnew
-returns c = simp (← c .before .before .before .before .arena-word .ensures .0, lt-ltb (c .before .before .before .before .arena-word .result) (c .before .before .before .before .before .before .before .before .args .pools) (omega arith), ← c .before .before .before .before .before .before .before .before .pre .1 .size) (cc)
+returns c =
+    let at-arena-word = c .before .before .before .before in
+    let at-start = at-arena-word .before .before .before .before in
+    simp
+    (← at-arena-word .arena-word .ensures .0, lt-ltb (at-arena-word .arena-word .result) (at-start .args .pools) (omega arith), ← at-start .pre .1 .size)
+    (cc)
 
 returns-2 : tie.Need-returns-2
 unfolding fromMark setAnew
-returns-2 c = simp (← c .before .arena-word .ensures .0, le-ltb (c .before .arena-word .result) (c .before .before .before .before .before .args .pools) (omega arith))
+returns-2 c =
+    let at-arena-word = c .before in
+    let at-start = at-arena-word .before .before .before .before in
+    simp (← at-arena-word .arena-word .ensures .0, le-ltb (at-arena-word .arena-word .result) (at-start .args .pools) (omega arith))
 
 pub from-mark-spec : {M : Type 1} → statement M
 from-mark-spec =
@@ -34,6 +42,6 @@ from-mark-spec =
     arena-word-requires
     pool-at-requires
     set-anew-requires
-    count-free-requires
+    counted-requires
     returns
     returns-2)

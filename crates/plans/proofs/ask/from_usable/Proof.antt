@@ -16,7 +16,9 @@ from-mark-requires c κs = search needs
 
 returns : tie.Need-returns
 unfolding fromUsable
-returns c = rw (← c .before .before .arena-word .ensures .0, eq-eqb (c .before .before .arena-word .result) 0 (omega arith)) (c .from-mark .ensures)
+returns c =
+    let at-arena-word = c .before .before in
+    rw (← at-arena-word .arena-word .ensures .0, eq-eqb (at-arena-word .arena-word .result) 0 (omega arith)) (c .from-mark .ensures)
 
 mul-if2 : tie.Need-mul-if2
 mul-if2 c = search needs
@@ -29,11 +31,27 @@ from-freed-requires c κs = search needs
 
 returns-2 : tie.Need-returns-2
 unfolding fromUsable
-returns-2 c = rw (← c .before .before .before .arena-word .ensures .0, ne-eqb (c .before .before .before .arena-word .result) 0 (omega arith), le-leb (c .before .before .before .arena-word .result) (c .before .before .before .before .before .before .before .args .arenas * c .before .before .before .before .before .before .before .args .pools) (omega arith)) (c .from-freed .ensures)
+returns-2 c =
+    let at-arena-word = c .before .before .before in
+    let at-start = at-arena-word .before .before .before .before in
+    let a = at-start .args in
+    rw (
+      ← at-arena-word .arena-word .ensures .0,
+      ne-eqb (at-arena-word .arena-word .result) 0 (omega arith),
+      le-leb (at-arena-word .arena-word .result) (a .arenas * a .pools) (omega arith),
+    ) (c .from-freed .ensures)
 
 returns-3 : tie.Need-returns-3
 unfolding fromUsable
-returns-3 c = rw (← c .before .before .arena-word .ensures .0, ne-eqb (c .before .before .arena-word .result) 0 (omega arith), lt-leb (c .before .before .arena-word .result) (c .before .before .before .before .before .before .args .arenas * c .before .before .before .before .before .before .args .pools) (omega arith))
+returns-3 c =
+    let at-arena-word = c .before .before in
+    let at-start = at-arena-word .before .before .before .before in
+    let a = at-start .args in
+    rw (
+      ← at-arena-word .arena-word .ensures .0,
+      ne-eqb (at-arena-word .arena-word .result) 0 (omega arith),
+      lt-leb (at-arena-word .arena-word .result) (a .arenas * a .pools) (omega arith),
+    )
 
 pub from-usable-spec : {M : Type 1} → statement M
 from-usable-spec =

@@ -13,7 +13,9 @@ plan-unused-requires : tie.Need-plan-unused-requires
 plan-unused-requires c κs = search needs
 
 returns : tie.Need-returns
-returns c = rw (← c .before .before .word .ensures .0, eq-eqb (c .before .before .word .result) 0 (omega arith)) (c .plan-unused .ensures)
+returns c =
+    let at-word = c .before .before in
+    rw (← at-word .word .ensures .0, eq-eqb (at-word .word .result) 0 (omega arith)) (c .plan-unused .ensures)
 
 sub-from-usable : tie.Need-sub-from-usable
 sub-from-usable c = search needs
@@ -22,10 +24,18 @@ from-usable-requires : tie.Need-from-usable-requires
 from-usable-requires c κs = search needs
 
 returns-2 : tie.Need-returns-2
-returns-2 c = rw (← c .before .before .before .word .ensures .0, ne-eqb (c .before .before .before .word .result) 0 (omega arith), le-leb (c .before .before .before .word .result) (c .before .before .before .before .before .before .before .args .arenas) (omega arith)) (c .from-usable .ensures)
+returns-2 c =
+    let at-word = c .before .before .before in
+    let at-start = at-word .before .before .before .before in
+    rw
+    (← at-word .word .ensures .0, ne-eqb (at-word .word .result) 0 (omega arith), le-leb (at-word .word .result) (at-start .args .arenas) (omega arith))
+    (c .from-usable .ensures)
 
 returns-3 : tie.Need-returns-3
-returns-3 c = rw (← c .before .before .word .ensures .0, ne-eqb (c .before .before .word .result) 0 (omega arith), lt-leb (c .before .before .word .result) (c .before .before .before .before .before .before .args .arenas) (omega arith))
+returns-3 c =
+    let at-word = c .before .before in
+    let at-start = at-word .before .before .before .before in
+    rw (← at-word .word .ensures .0, ne-eqb (at-word .word .result) 0 (omega arith), lt-leb (at-word .word .result) (at-start .args .arenas) (omega arith))
 
 pub plan-new-spec : {M : Type 1} → statement M
 plan-new-spec =

@@ -10,7 +10,9 @@ word-requires : tie.Need-word-requires
 word-requires c κs = search needs
 
 returns : tie.Need-returns
-returns c = rw (← c .before .word .ensures .0, eq-eqb (c .before .word .result) 0 (omega arith))
+returns c =
+    let at-word = c .before in
+    rw (← at-word .word .ensures .0, eq-eqb (at-word .word .result) 0 (omega arith))
 
 sub-from-unused : tie.Need-sub-from-unused
 sub-from-unused c = search needs
@@ -19,10 +21,18 @@ from-unused-requires : tie.Need-from-unused-requires
 from-unused-requires c κs = search needs
 
 returns-2 : tie.Need-returns-2
-returns-2 c = rw (← c .before .before .before .word .ensures .0, ne-eqb (c .before .before .before .word .result) 0 (omega arith), le-leb (c .before .before .before .word .result) (c .before .before .before .before .before .before .before .args .arenas) (omega arith)) (c .from-unused .ensures)
+returns-2 c =
+    let at-word = c .before .before .before in
+    let at-start = at-word .before .before .before .before in
+    rw
+    (← at-word .word .ensures .0, ne-eqb (at-word .word .result) 0 (omega arith), le-leb (at-word .word .result) (at-start .args .arenas) (omega arith))
+    (c .from-unused .ensures)
 
 returns-3 : tie.Need-returns-3
-returns-3 c = rw (← c .before .before .word .ensures .0, ne-eqb (c .before .before .word .result) 0 (omega arith), lt-leb (c .before .before .word .result) (c .before .before .before .before .before .before .args .arenas) (omega arith))
+returns-3 c =
+    let at-word = c .before .before in
+    let at-start = at-word .before .before .before .before in
+    rw (← at-word .word .ensures .0, ne-eqb (at-word .word .result) 0 (omega arith), lt-leb (at-word .word .result) (at-start .args .arenas) (omega arith))
 
 pub plan-unused-spec : {M : Type 1} → statement M
 plan-unused-spec =

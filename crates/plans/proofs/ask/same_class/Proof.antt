@@ -22,7 +22,12 @@ add-link-at : tie.Need-add-link-at
 add-link-at c = search needs
 
 link-at-requires : tie.Need-link-at-requires
-link-at-requires c κs = let s = start (c .before .before .before .before .before .before .args .size) (c .before .before .pool-word .result) (omega arith) (both _ _ (sym (c .before .spare .ensures) ∙ c .if1 .taken) .0) in omega (arith, s .ends)
+link-at-requires c κs =
+    let at-pool-word = c .before .before in
+    let at-start = at-pool-word .before .before .before .before in
+    let s = start (at-start .args .size) (at-pool-word .pool-word .result) (omega arith) (both _ _ (sym (c .before .spare .ensures) ∙ c .if1 .taken) .0)
+    in
+    omega (arith, s .ends)
 
 index-requires : tie.Need-index-requires
 index-requires c κs = search needs
@@ -35,11 +40,28 @@ keeps-requires c κs = search needs
 
 returns : tie.Need-returns
 unfolding sameClass
-returns c = simp (← c .before .before .before .before .before .before .pool-word .ensures .0, ← c .before .before .before .link-at .ensures, ← c .before .before .index .ensures .0, ← c .before .before .before .before .before .before .before .before .before .before .pre .1 .size, sym (c .before .before .before .before .before .spare .ensures) ∙ c .before .before .before .before .if1 .taken) (cc)
+returns c =
+    let at-index = c .before .before in
+    let at-link-at = at-index .before in
+    let at-if1 = at-link-at .before in
+    let at-spare = at-if1 .before in
+    let at-pool-word = at-spare .before in
+    let at-start = at-pool-word .before .before .before .before in
+    simp (
+      ← at-pool-word .pool-word .ensures .0,
+      ← at-link-at .link-at .ensures,
+      ← at-index .index .ensures .0,
+      ← at-start .pre .1 .size,
+      sym (at-spare .spare .ensures)
+          ∙ at-if1 .if1 .taken,
+    ) (cc)
 
 returns-2 : tie.Need-returns-2
 unfolding sameClass
-returns-2 c = simp (← c .before .before .pool-word .ensures .0, ← c .before .before .before .before .before .before .pre .1 .size, sym (c .before .spare .ensures) ∙ c .if1 .left)
+returns-2 c =
+    let at-pool-word = c .before .before in
+    let at-start = at-pool-word .before .before .before .before in
+    simp (← at-pool-word .pool-word .ensures .0, ← at-start .pre .1 .size, sym (c .before .spare .ensures) ∙ c .if1 .left)
 
 pub same-class-spec : {M : Type 1} → statement M
 same-class-spec =

@@ -9,13 +9,18 @@ is-start-requires : tie.Need-is-start-requires
 is-start-requires c κs = search needs
 
 block-no-requires : tie.Need-block-no-requires
-block-no-requires c κs = (c .before .before .before .pre .0, c .before .before .before .pre .1, sym (c .before .is-start .ensures) ∙ c .if1 .taken)
+block-no-requires c κs =
+    let at-start = c .before .before .before in
+    (at-start .pre .0, at-start .pre .1, sym (c .before .is-start .ensures) ∙ c .if1 .taken)
 
 is-set-requires : tie.Need-is-set-requires
 is-set-requires c κs = search needs
 
 returns : tie.Need-returns
-returns c = rw (sym (c .before .before .before .is-start .ensures) ∙ c .before .before .if1 .taken) (cc)
+returns c =
+    let at-if1 = c .before .before in
+    let at-is-start = at-if1 .before in
+    rw (sym (at-is-start .is-start .ensures) ∙ at-if1 .if1 .taken) (cc)
 
 returns-2 : tie.Need-returns-2
 returns-2 c = rw (sym (c .before .is-start .ensures) ∙ c .if1 .left)

@@ -15,14 +15,21 @@ same-class-requires c κs = search needs
 
 returns : tie.Need-returns
 unfolding takeAgain setAnew
-returns c = simp (← c .before .before .pool-word .ensures .0, eq-eqb (c .before .before .pool-word .result) (c .before .before .before .before .before .before .args .class) (omega arith)) (c .same-class .ensures)
+returns c =
+    let at-pool-word = c .before .before in
+    let at-start = at-pool-word .before .before .before .before in
+    simp (← at-pool-word .pool-word .ensures .0, eq-eqb (at-pool-word .pool-word .result) (at-start .args .class) (omega arith)) (c .same-class .ensures)
 
 set-anew-requires : tie.Need-set-anew-requires
 set-anew-requires c κs = search needs
 
 returns-2 : tie.Need-returns-2
 unfolding takeAgain setAnew
-returns-2 c = simp (← c .before .before .pool-word .ensures .0, ne-eqb (c .before .before .pool-word .result) (c .before .before .before .before .before .before .args .class) (omega arith), ← c .before .before .before .before .before .before .pre .1 .size) (c .set-anew .ensures)
+returns-2 c =
+    let at-pool-word = c .before .before in
+    let at-start = at-pool-word .before .before .before .before in
+    simp (← at-pool-word .pool-word .ensures .0, ne-eqb (at-pool-word .pool-word .result) (at-start .args .class) (omega arith), ← at-start .pre .1 .size)
+    (c .set-anew .ensures)
 
 pub take-again-spec : {M : Type 1} → statement M
 take-again-spec =

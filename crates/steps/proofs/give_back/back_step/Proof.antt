@@ -1,0 +1,324 @@
+-- `steps::give_back::back_step` meets its contract: each of its tests is the next rule of the path, and the writes at its end are the path's. A live
+-- offset has a class, a start and a pool.
+-- Assumes nothing.
+use mathlib.Core.List.{List}
+use mathlib.Core.Path.{ap, _∙_}
+use Prim.Native.Nat.{ℕ, _+_, _*_, _/_, _%_, _≤_}
+use native.Mathlib.Omega.{arith}
+use lib.ListN.{length}
+use borrow.Author.Tests.{leb-true}
+use Rattle.rules.specs.Books.{Heap, at, onBooks, classHead}
+use Rattle.rules.specs.Lists as L
+use Rattle.rules.specs.GiveBack.{afterBack, backAnswer}
+use Rattle.rules.specs.Outcome.{heapOf, outcome, answerOf}
+use Rattle.books.specs.Tests.{held, failed}
+use Rattle.steps.specs.Backs.{Counted, counted, length-taken, taken-before}
+use Rattle.steps.specs.BackPath.{step-is, damaged, miscounted, listless, joins, no-start, falls-empty, stays}
+use borrow.Author.Needs.{needs}
+use Rattle.steps.proofs.give_back.back_step.Statement.{statement}
+use Rattle.steps.proofs.give_back.back_step.Tie as tie
+
+class-at-requires : tie.Need-class-at-requires
+class-at-requires c κs = search needs
+
+size-of-requires : tie.Need-size-of-requires
+size-of-requires c κs = search needs
+
+pool-word-requires : tie.Need-pool-word-requires
+pool-word-requires c κs = search needs
+
+pool-word-requires-2 : tie.Need-pool-word-requires-2
+pool-word-requires-2 c κs = search needs
+
+count-fits-requires : tie.Need-count-fits-requires
+count-fits-requires c κs = search needs
+
+same-length : tie.Need-same-length
+same-length c = search needs
+
+returns : tie.Need-returns
+returns c =
+    let at-pool-word2 = c .before .before in
+    let at-pool-word = at-pool-word2 .before .before in
+    let at-size-of = at-pool-word .before .before in
+    let at-class-at = at-size-of .before in
+    let at-start = at-class-at .before .before .before .before .before in
+    let a = at-start .args in
+    let h = heapOf (a .memory .now) (a .books .now) (a .map .now) in
+    let path = miscounted 8 (a .arenas) (a .pools) (a .books .now) (at-class-at .class-at .result) (a .offset / 4096) (at-size-of .size-of .result)
+    (at-pool-word .pool-word .result) (at-pool-word2 .pool-word2 .result)
+    (at-size-of .size-of .ensures .0) (at-pool-word .pool-word .ensures .0) (at-pool-word2 .pool-word2 .ensures .0)
+    (failed (c .before .count-fits .ensures) (c .if1 .taken)) in
+    step-is 8 (a .arenas) (a .pools) (at-class-at .class-at .result) h (a .offset) _ _ (at-class-at .class-at .ensures) path
+    (damaged 8 (a .arenas) (a .pools) (at-class-at .class-at .result) h (a .offset))
+
+-- the block, once its pool's count has passed
+block : (c : tie.Else1)
+    → let a = c .before .before .before .before .before .before .before .before .before .before .before .before .args in
+    Counted (a .arenas) (a .pools) (c .before .before .before .before .before .before .before .class-at .result) (a .offset / 4096) (a .offset % 4096)
+    (a .k) (a .books .now)
+block c =
+    let at-pool-word2 = c .before .before in
+    let at-class-at = at-pool-word2 .before .before .before .before .before in
+    let at-start = at-class-at .before .before .before .before .before in
+    let a = at-start .args in
+    counted (a .arenas) (a .pools) (at-class-at .class-at .result) (a .k) (a .offset) (at-pool-word2 .pool-word2 .result) (a .books .now) (a .map .now)
+    (at-class-at .class-at .ensures) (at-start .pre .1) (at-start .pre .2) (at-pool-word2 .pool-word2 .ensures .0)
+    (held (c .before .count-fits .ensures) (c .if1 .left))
+
+mul-may-join : tie.Need-mul-may-join
+mul-may-join c = search needs
+
+add-may-join : tie.Need-add-may-join
+add-may-join c = search needs
+
+may-join-requires : tie.Need-may-join-requires
+may-join-requires c κs = search needs
+
+same-length-2 : tie.Need-same-length-2
+same-length-2 c = search needs
+
+returns-2 : tie.Need-returns-2
+returns-2 c =
+    let at-if2 = c .before .before .before in
+    let at-if1 = at-if2 .before in
+    let at-count-fits = at-if1 .before in
+    let at-pool-word2 = at-count-fits .before in
+    let at-pool-word = at-pool-word2 .before .before in
+    let at-size-of = at-pool-word .before .before in
+    let at-class-at = at-size-of .before in
+    let at-start = at-class-at .before .before .before .before .before in
+    let a = at-start .args in
+    let h = heapOf (a .memory .now) (a .books .now) (a .map .now) in
+    let path = listless 8 (a .arenas) (a .pools) (a .books .now) (at-class-at .class-at .result) (a .offset / 4096) (at-size-of .size-of .result)
+    (at-pool-word .pool-word .result) (at-pool-word2 .pool-word2 .result)
+    (at-size-of .size-of .ensures .0) (at-pool-word .pool-word .ensures .0) (at-pool-word2 .pool-word2 .ensures .0)
+    (held (at-count-fits .count-fits .ensures) (at-if1 .if1 .left)) (at-if2 .if2 .taken) (failed (c .before .may-join .ensures) (c .if3 .taken)) in
+    step-is 8 (a .arenas) (a .pools) (at-class-at .class-at .result) h (a .offset) _ _ (at-class-at .class-at .ensures) path
+    (damaged 8 (a .arenas) (a .pools) (at-class-at .class-at .result) h (a .offset))
+
+take-back-requires : tie.Need-take-back-requires
+take-back-requires c κs =
+    let at-if1 = c .before .before .before .before .before .before .before in
+    let at-start = at-if1 .before .before .before .before .before .before .before .before .before .before .before .before in
+    (at-start .pre .0, block at-if1)
+
+mul-join : tie.Need-mul-join
+mul-join c =
+    let at-take-back = c .before .before .before .before .before .before .before .before in
+    let at-start = at-take-back .before .before .before .before .before .before .before .before .before .before .before .before .before .before .before .before .before .before .before in
+    omega (arith, at-start .pre .0 .all)
+
+pool-links-requires : tie.Need-pool-links-requires
+pool-links-requires c κs =
+    let at-take-back = c .before .before .before .before .before .before .before .before in
+    let at-start = at-take-back .before .before .before .before .before .before .before .before .before .before .before .before .before .before .before .before .before .before .before in
+    at-start .pre .0 .arenas-high
+
+add-join : tie.Need-add-join
+add-join c = search needs
+
+join-requires : tie.Need-join-requires
+join-requires c κs =
+    let at-take-back = c .before .before .before .before .before .before .before .before in
+    let at-if3 = at-take-back .before .before .before .before in
+    let at-may-join = at-if3 .before in
+    let at-if1 = at-may-join .before .before .before in
+    let at-class-at = at-if1 .before .before .before .before .before .before .before in
+    let at-start = at-class-at .before .before .before .before .before in
+    let a = at-start .args in
+    let p = a .offset / 4096 in
+    let f = a .offset % 4096 in
+    let b = block at-if1 in
+    let e = ap (λ (h : Heap). h .books) (at-take-back .take-back .ensures) in
+    let long = length-taken (a .arenas) p f (a .books .now) in
+    let head : at (a .books .now) (classHead (at-class-at .class-at .result)) ≤ a .arenas * a .pools = leb-true _ _
+    (held (at-may-join .may-join .ensures) (at-if3 .if3 .left)) in
+    let kept = taken-before (a .arenas) (a .pools) (at-class-at .class-at .result) p f (a .books .now) (classHead (at-class-at .class-at .result))
+    (omega (arith, b .class)) in (
+      b .there,
+      at-start .pre .0 .all,
+      omega (arith, ap length e, long, at-start .pre .0 .books, c .pool-links .ensures),
+      omega (arith, ap length e, long, at-start .pre .0 .books, b .class),
+      rw (e, kept) head,
+    )
+
+same-length-3 : tie.Need-same-length-3
+same-length-3 c = search needs
+
+same-length-4 : tie.Need-same-length-4
+same-length-4 c = search needs
+
+same-length-5 : tie.Need-same-length-5
+same-length-5 c = search needs
+
+returns-3 : tie.Need-returns-3
+unfolding afterBack backAnswer
+returns-3 c =
+    let at-join = c .before .before in
+    let at-pool-links = at-join .before in
+    let at-take-back = at-pool-links .before .before .before .before .before .before .before .before in
+    let at-if3 = at-take-back .before .before .before .before in
+    let at-may-join = at-if3 .before in
+    let at-if2 = at-may-join .before .before in
+    let at-if1 = at-if2 .before in
+    let at-count-fits = at-if1 .before in
+    let at-pool-word2 = at-count-fits .before in
+    let at-pool-word = at-pool-word2 .before .before in
+    let at-size-of = at-pool-word .before .before in
+    let at-class-at = at-size-of .before in
+    let at-start = at-class-at .before .before .before .before .before in
+    let a = at-start .args in
+    let h = heapOf (a .memory .now) (a .books .now) (a .map .now) in
+    let path = joins 8 (a .arenas) (a .pools) (a .books .now) (at-class-at .class-at .result) (a .offset / 4096) (at-size-of .size-of .result)
+    (at-pool-word .pool-word .result) (at-pool-word2 .pool-word2 .result)
+    (at-size-of .size-of .ensures .0) (at-pool-word .pool-word .ensures .0) (at-pool-word2 .pool-word2 .ensures .0)
+    (held (at-count-fits .count-fits .ensures) (at-if1 .if1 .left)) (at-if2 .if2 .taken) (held (at-may-join .may-join .ensures) (at-if3 .if3 .left)) in
+    step-is 8 (a .arenas) (a .pools) (at-class-at .class-at .result) h (a .offset) _ _ (at-class-at .class-at .ensures) path
+    (ap (λ (x : List ℕ). outcome (answerOf 0 (a .offset)) (heapOf (at-take-back .take-back .last .0) x (at-take-back .take-back .last .1 .1 .0)))
+    (at-join .join .ensures
+    ∙ ap (λ (x : ℕ). L.join x (4 + at-class-at .class-at .result) (a .offset / 4096) (at-take-back .take-back .last .1 .0))
+    (at-pool-links .pool-links .ensures))
+    ∙ ap (λ (x : Heap). outcome (answerOf 0 (a .offset))
+    (onBooks (L.join (L.poolLinks (a .arenas)) (classHead (at-class-at .class-at .result)) (a .offset / 4096)) x)) (at-take-back .take-back .ensures))
+
+is-start-requires : tie.Need-is-start-requires
+is-start-requires c κs = search needs
+
+same-length-6 : tie.Need-same-length-6
+same-length-6 c = search needs
+
+returns-4 : tie.Need-returns-4
+returns-4 c =
+    let at-if2 = c .before .before in
+    let at-pool-word2 = at-if2 .before .before .before in
+    let at-pool-word = at-pool-word2 .before .before in
+    let at-size-of = at-pool-word .before .before in
+    let at-class-at = at-size-of .before in
+    let at-start = at-class-at .before .before .before .before .before in
+    let a = at-start .args in
+    let h = heapOf (a .memory .now) (a .books .now) (a .map .now) in
+    let path = no-start 8 (a .arenas) (a .pools) (a .books .now) (at-class-at .class-at .result) (a .offset / 4096) (at-size-of .size-of .result)
+    (at-pool-word .pool-word .result) (at-pool-word2 .pool-word2 .result)
+    (at-size-of .size-of .ensures .0) (at-pool-word .pool-word .ensures .0) (at-pool-word2 .pool-word2 .ensures .0)
+    (at-if2 .if2 .left) (failed (c .before .is-start .ensures) (c .if4 .taken)) in
+    step-is 8 (a .arenas) (a .pools) (at-class-at .class-at .result) h (a .offset) _ _ (at-class-at .class-at .ensures) path
+    (damaged 8 (a .arenas) (a .pools) (at-class-at .class-at .result) h (a .offset))
+
+back-last-requires : tie.Need-back-last-requires
+back-last-requires c κs =
+    let at-if1 = c .before .before .before .before .before .before .before in
+    let at-start = at-if1 .before .before .before .before .before .before .before .before .before .before .before .before in
+    (at-start .pre .0, block at-if1)
+
+same-length-7 : tie.Need-same-length-7
+same-length-7 c = search needs
+
+same-length-8 : tie.Need-same-length-8
+same-length-8 c = search needs
+
+same-length-9 : tie.Need-same-length-9
+same-length-9 c = search needs
+
+returns-5 : tie.Need-returns-5
+returns-5 c =
+    let at-back-last = c .before .before .before .before .before .before in
+    let at-if5 = at-back-last .before .before .before .before in
+    let at-if4 = at-if5 .before in
+    let at-is-start = at-if4 .before in
+    let at-if2 = at-is-start .before in
+    let at-if1 = at-if2 .before in
+    let at-count-fits = at-if1 .before in
+    let at-pool-word2 = at-count-fits .before in
+    let at-pool-word = at-pool-word2 .before .before in
+    let at-size-of = at-pool-word .before .before in
+    let at-class-at = at-size-of .before in
+    let at-start = at-class-at .before .before .before .before .before in
+    let a = at-start .args in
+    let h = heapOf (a .memory .now) (a .books .now) (a .map .now) in
+    let path = falls-empty 8 (a .arenas) (a .pools) (a .books .now) (at-class-at .class-at .result) (a .offset / 4096) (at-size-of .size-of .result)
+    (at-pool-word .pool-word .result) (at-pool-word2 .pool-word2 .result)
+    (at-size-of .size-of .ensures .0) (at-pool-word .pool-word .ensures .0) (at-pool-word2 .pool-word2 .ensures .0)
+    (held (at-count-fits .count-fits .ensures) (at-if1 .if1 .left)) (at-if2 .if2 .left) (held (at-is-start .is-start .ensures) (at-if4 .if4 .left))
+    (at-if5 .if5 .taken) in
+    step-is 8 (a .arenas) (a .pools) (at-class-at .class-at .result) h (a .offset) _ _ (at-class-at .class-at .ensures) path
+    (at-back-last .back-last .ensures)
+
+take-back-requires-2 : tie.Need-take-back-requires-2
+take-back-requires-2 c κs =
+    let at-if1 = c .before .before .before .before .before .before .before in
+    let at-start = at-if1 .before .before .before .before .before .before .before .before .before .before .before .before in
+    (at-start .pre .0, block at-if1)
+
+same-length-10 : tie.Need-same-length-10
+same-length-10 c = search needs
+
+same-length-11 : tie.Need-same-length-11
+same-length-11 c = search needs
+
+same-length-12 : tie.Need-same-length-12
+same-length-12 c = search needs
+
+returns-6 : tie.Need-returns-6
+unfolding afterBack backAnswer
+returns-6 c =
+    let at-take-back2 = c .before .before .before .before .before .before in
+    let at-if5 = at-take-back2 .before .before .before .before in
+    let at-if4 = at-if5 .before in
+    let at-is-start = at-if4 .before in
+    let at-if2 = at-is-start .before in
+    let at-if1 = at-if2 .before in
+    let at-count-fits = at-if1 .before in
+    let at-pool-word2 = at-count-fits .before in
+    let at-pool-word = at-pool-word2 .before .before in
+    let at-size-of = at-pool-word .before .before in
+    let at-class-at = at-size-of .before in
+    let at-start = at-class-at .before .before .before .before .before in
+    let a = at-start .args in
+    let h = heapOf (a .memory .now) (a .books .now) (a .map .now) in
+    let path = stays 8 (a .arenas) (a .pools) (a .books .now) (at-class-at .class-at .result) (a .offset / 4096) (at-size-of .size-of .result)
+    (at-pool-word .pool-word .result) (at-pool-word2 .pool-word2 .result)
+    (at-size-of .size-of .ensures .0) (at-pool-word .pool-word .ensures .0) (at-pool-word2 .pool-word2 .ensures .0)
+    (held (at-count-fits .count-fits .ensures) (at-if1 .if1 .left)) (at-if2 .if2 .left) (held (at-is-start .is-start .ensures) (at-if4 .if4 .left))
+    (at-if5 .if5 .left) in
+    step-is 8 (a .arenas) (a .pools) (at-class-at .class-at .result) h (a .offset) _ _ (at-class-at .class-at .ensures) path
+    (ap (λ (x : Heap). outcome (answerOf 0 (a .offset)) x) (at-take-back2 .take-back2 .ensures))
+
+pub back-step-spec : {M : Type 1} → statement M
+back-step-spec =
+    tie.close
+    (tie.spec
+    class-at-requires
+    size-of-requires
+    pool-word-requires
+    pool-word-requires-2
+    count-fits-requires
+    same-length
+    returns
+    mul-may-join
+    add-may-join
+    may-join-requires
+    same-length-2
+    returns-2
+    take-back-requires
+    mul-join
+    pool-links-requires
+    add-join
+    join-requires
+    same-length-3
+    same-length-4
+    same-length-5
+    returns-3
+    is-start-requires
+    same-length-6
+    returns-4
+    back-last-requires
+    same-length-7
+    same-length-8
+    same-length-9
+    returns-5
+    take-back-requires-2
+    same-length-10
+    same-length-11
+    same-length-12
+    returns-6)

@@ -1,0 +1,83 @@
+-- `steps::give_back::give_old` meets its contract: it tests whether the offset is live and then takes the step, in that order.
+-- Assumes nothing.
+use mathlib.Core.Path.{refl, sym, _∙_}
+use native.Mathlib.Omega.{arith}
+use Rattle.rules.specs.Outcome.{heapOf}
+use Rattle.rules.specs.Resize.{giveOld}
+use Rattle.books.specs.Known.{found, not-found}
+use Rattle.steps.specs.Backs.{gave}
+use Rattle.books.specs.Passing.{refusal, step}
+use borrow.Author.Needs.{needs}
+use Rattle.steps.proofs.give_back.give_old.Statement.{statement}
+use Rattle.steps.proofs.give_back.give_old.Tie as tie
+
+live-block-requires : tie.Need-live-block-requires
+live-block-requires c κs = search needs
+
+same-length : tie.Need-same-length
+same-length c = search needs
+
+same-length-2 : tie.Need-same-length-2
+same-length-2 c = search needs
+
+same-length-3 : tie.Need-same-length-3
+same-length-3 c = search needs
+
+returns : tie.Need-returns
+unfolding giveOld
+returns c =
+    let at-start = c .before .before .before .before .before .before .before .before in
+    let a = at-start .args in
+    let h = heapOf (a .memory .now) (a .books .now) (a .map .now) in (
+      refusal h _ (gave (a .offset) 5) 5 _ refl
+          (sym (not-found 8 (a .arenas) (a .pools) (a .books .now) (a .map .now) (a .offset) (omega arith) (omega arith)
+          (sym (c .before .live-block .ensures) ∙ c .if1 .taken))) (λ z. omega arith),
+      λ z. absurd (omega arith),
+    )
+
+back-step-requires : tie.Need-back-step-requires
+back-step-requires c κs =
+    let at-if1 = c .before .before .before in
+    let at-live-block = at-if1 .before in
+    let at-start = at-live-block .before .before .before .before .before .before .before in
+    let a = at-start .args in
+    let f = found 8 (a .arenas) (a .pools) (a .books .now) (a .map .now) (a .offset) (omega arith) (omega arith)
+    (λ z. at-if1 .if1 .left (at-live-block .live-block .ensures ∙ z)) in
+    (at-start .pre, f .live-block, at-live-block .live-block .ensures ∙ f .block)
+
+same-length-4 : tie.Need-same-length-4
+same-length-4 c = search needs
+
+same-length-5 : tie.Need-same-length-5
+same-length-5 c = search needs
+
+same-length-6 : tie.Need-same-length-6
+same-length-6 c = search needs
+
+returns-2 : tie.Need-returns-2
+unfolding giveOld
+returns-2 c =
+    let at-back-step = c .before .before .before .before .before .before in
+    let at-if1 = at-back-step .before .before .before .before in
+    let at-live-block = at-if1 .before in
+    let at-start = at-live-block .before .before .before .before .before .before .before in
+    let a = at-start .args in
+    let h = heapOf (a .memory .now) (a .books .now) (a .map .now) in
+    let f = found 8 (a .arenas) (a .pools) (a .books .now) (a .map .now) (a .offset) (omega arith) (omega arith)
+    (λ z. at-if1 .if1 .left (at-live-block .live-block .ensures ∙ z)) in
+    (step h _ _ 0 _ (at-back-step .back-step .ensures) (sym (f .number)) refl, λ z. f .live-block .inside)
+
+pub give-old-spec : {M : Type 1} → statement M
+give-old-spec =
+    tie.close
+    (tie.spec
+    live-block-requires
+    same-length
+    same-length-2
+    same-length-3
+    returns
+    back-step-requires
+    same-length-4
+    same-length-5
+    same-length-6
+    returns-2)

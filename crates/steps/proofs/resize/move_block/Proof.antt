@@ -1,0 +1,85 @@
+-- `steps::resize::move_block` meets its contract: it copies, gives back, and answers by the number of the give-back.
+-- Assumes nothing.
+use mathlib.Core.List.{List}
+use mathlib.Core.Path.{sym, ap, _∙_}
+use Prim.Native.Nat.{ℕ}
+use Rattle.rules.specs.Outcome.{heapOf, outcome, answerOf, done}
+use Rattle.rules.specs.Resize.{giveOld, halfDone}
+use Rattle.steps.specs.Backs.{gave, gave-number}
+use Rattle.books.specs.Passing.{stopped, passed}
+use borrow.Author.Needs.{needs}
+use Rattle.steps.proofs.resize.move_block.Statement.{statement}
+use Rattle.steps.proofs.resize.move_block.Tie as tie
+
+copy-within-requires : tie.Need-copy-within-requires
+copy-within-requires c κs = search needs
+
+give-old-requires : tie.Need-give-old-requires
+give-old-requires c κs = search needs
+
+cast-t20 : tie.Need-cast-t20
+cast-t20 c = search needs
+
+same-length : tie.Need-same-length
+same-length c = search needs
+
+same-length-2 : tie.Need-same-length-2
+same-length-2 c = search needs
+
+same-length-3 : tie.Need-same-length-3
+same-length-3 c = search needs
+
+returns : tie.Need-returns
+returns c =
+    let at-give-old = c .before .before .before .before .before .before .before in
+    let at-copy-within = at-give-old .before .before .before .before .before .before in
+    let at-start = at-copy-within .before .before .before .before .before in
+    let a = at-start .args in
+    let after = heapOf (at-give-old .give-old .last .0) (at-give-old .give-old .last .1 .0) (at-give-old .give-old .last .1 .1 .0) in
+    let e = at-give-old .give-old .ensures .0
+    ∙ ap (λ (m : List ℕ). giveOld 8 (a .arenas) (a .pools) (heapOf m (a .books .now) (a .map .now)) (a .from)) (at-copy-within .copy-within .ensures) in
+    sym (stopped (λ j. outcome (answerOf 6 (a .to)) after) (done (a .to) after) (gave (a .from) (at-give-old .give-old .result) .number)
+    (λ z. c .if1 .taken (sym (gave-number (a .from) (at-give-old .give-old .result)) ∙ z)))
+    ∙ ap (halfDone 8 (a .arenas) (a .pools) (a .to)) e
+
+cast-t21 : tie.Need-cast-t21
+cast-t21 c = search needs
+
+same-length-4 : tie.Need-same-length-4
+same-length-4 c = search needs
+
+same-length-5 : tie.Need-same-length-5
+same-length-5 c = search needs
+
+same-length-6 : tie.Need-same-length-6
+same-length-6 c = search needs
+
+returns-2 : tie.Need-returns-2
+returns-2 c =
+    let at-give-old = c .before .before .before .before .before .before .before in
+    let at-copy-within = at-give-old .before .before .before .before .before .before in
+    let at-start = at-copy-within .before .before .before .before .before in
+    let a = at-start .args in
+    let after = heapOf (at-give-old .give-old .last .0) (at-give-old .give-old .last .1 .0) (at-give-old .give-old .last .1 .1 .0) in
+    let e = at-give-old .give-old .ensures .0
+    ∙ ap (λ (m : List ℕ). giveOld 8 (a .arenas) (a .pools) (heapOf m (a .books .now) (a .map .now)) (a .from)) (at-copy-within .copy-within .ensures) in
+    sym (passed (λ j. outcome (answerOf 6 (a .to)) after) (done (a .to) after) (gave (a .from) (at-give-old .give-old .result) .number)
+    (gave-number (a .from) (at-give-old .give-old .result) ∙ c .if1 .left))
+    ∙ ap (halfDone 8 (a .arenas) (a .pools) (a .to)) e
+
+pub move-block-spec : {M : Type 1} → statement M
+move-block-spec =
+    tie.close
+    (tie.spec
+    copy-within-requires
+    give-old-requires
+    cast-t20
+    same-length
+    same-length-2
+    same-length-3
+    returns
+    cast-t21
+    same-length-4
+    same-length-5
+    same-length-6
+    returns-2)

@@ -1,0 +1,170 @@
+-- `steps::resize::resize_step` meets its contract: it keeps the offset, or asks and then moves the block; the two runs of bytes never meet.
+-- Assumes nothing.
+use mathlib.Core.Path.{_≡_, sym, ap, _∙_}
+use Prim.Native.Nat.{ℕ, min}
+use native.Mathlib.Omega.{arith}
+use Rattle.rules.specs.declared.Answer.{Answer}
+use Rattle.rules.specs.Blocks.{sizeOf, sizeAt}
+use Rattle.rules.specs.Outcome.{Outcome, heapOf, outcome}
+use Rattle.rules.specs.Resize.{keeps, copy, giveOld, halfDone, moved}
+use Rattle.steps.specs.Moves.{Moves, moves-apart, resize-kept, resize-moved, moved-refused, moved-done}
+use borrow.Author.Needs.{needs}
+use Rattle.steps.proofs.resize.resize_step.Statement.{statement}
+use Rattle.steps.proofs.resize.resize_step.Tie as tie
+
+class-at-requires : tie.Need-class-at-requires
+class-at-requires c κs = search needs
+
+size-of-requires : tie.Need-size-of-requires
+size-of-requires c κs = search needs
+
+mul-if1 : tie.Need-mul-if1
+mul-if1 c = search needs
+
+mul-if1-2 : tie.Need-mul-if1-2
+mul-if1-2 c = search needs
+
+cast-t18 : tie.Need-cast-t18
+cast-t18 c = search needs
+
+same-length : tie.Need-same-length
+same-length c = search needs
+
+returns : tie.Need-returns
+returns c =
+    let at-size-of = c .before in
+    let at-class-at = at-size-of .before in
+    let at-start = at-class-at .before .before .before .before .before in
+    let a = at-start .args in
+    let h = heapOf (a .memory .now) (a .books .now) (a .map .now) in
+    let s : at-size-of .size-of .result ≡ sizeAt 8 (a .arenas) (a .books .now) (a .offset) = at-size-of .size-of .ensures .0
+    ∙ ap (sizeOf 8) (at-class-at .class-at .ensures) in
+    resize-kept 8 (a .arenas) (a .pools) h (a .offset) (a .n) (ap (λ (x : ℕ). keeps x (a .n)) (sym s) ∙ c .if1 .taken)
+
+ask-step-requires : tie.Need-ask-step-requires
+ask-step-requires c κs = search needs
+
+answer-requires : tie.Need-answer-requires
+answer-requires c κs = search needs
+
+same-length-2 : tie.Need-same-length-2
+same-length-2 c = search needs
+
+same-length-3 : tie.Need-same-length-3
+same-length-3 c = search needs
+
+same-length-4 : tie.Need-same-length-4
+same-length-4 c = search needs
+
+returns-2 : tie.Need-returns-2
+returns-2 c =
+    let at-answer = c .before .before in
+    let at-ask-step = at-answer .before .before .before .before .before .before .before in
+    let at-if1 = at-ask-step .before .before .before .before in
+    let at-size-of = at-if1 .before in
+    let at-class-at = at-size-of .before in
+    let at-start = at-class-at .before .before .before .before .before in
+    let a = at-start .args in
+    let h = heapOf (a .memory .now) (a .books .now) (a .map .now) in
+    let s : at-size-of .size-of .result ≡ sizeAt 8 (a .arenas) (a .books .now) (a .offset) = at-size-of .size-of .ensures .0
+    ∙ ap (sizeOf 8) (at-class-at .class-at .ensures) in
+    let after = heapOf (at-ask-step .ask-step .last .0) (at-ask-step .ask-step .last .1 .0) (at-ask-step .ask-step .last .1 .1 .0) in
+    let asked = ap (λ (x : Answer). outcome x after) (at-answer .answer .ensures) ∙ at-ask-step .ask-step .ensures in
+    let k = min (a .n) (sizeAt 8 (a .arenas) (a .books .now) (a .offset)) in
+    moved-refused 8 (a .arenas) (a .pools) (a .offset) k (at-answer .answer .result) after (c .if2 .taken)
+    ∙ ap (moved 8 (a .arenas) (a .pools) (a .offset) k) asked
+    ∙ resize-moved 8 (a .arenas) (a .pools) h (a .offset) (a .n) (ap (λ (x : ℕ). keeps x (a .n)) (sym s) ∙ at-if1 .if1 .left)
+
+cast-to : tie.Need-cast-to
+cast-to c = search needs
+
+least-requires : tie.Need-least-requires
+least-requires c κs = search needs
+
+move-block-requires : tie.Need-move-block-requires
+move-block-requires c κs =
+    let at-if2 = c .before .before .before .before .before in
+    let at-answer = at-if2 .before .before in
+    let at-ask-step = at-answer .before .before .before .before .before .before .before in
+    let at-size-of = at-ask-step .before .before .before .before .before in
+    let at-class-at = at-size-of .before in
+    let at-start = at-class-at .before .before .before .before .before in
+    let a = at-start .args in
+    let h = heapOf (a .memory .now) (a .books .now) (a .map .now) in
+    let s : at-size-of .size-of .result ≡ sizeAt 8 (a .arenas) (a .books .now) (a .offset) = at-size-of .size-of .ensures .0
+    ∙ ap (sizeOf 8) (at-class-at .class-at .ensures) in
+    let after = heapOf (at-ask-step .ask-step .last .0) (at-ask-step .ask-step .last .1 .0) (at-ask-step .ask-step .last .1 .1 .0) in
+    let asked = ap (λ (x : Answer). outcome x after) (at-answer .answer .ensures) ∙ at-ask-step .ask-step .ensures in
+    let k = min (a .n) (sizeAt 8 (a .arenas) (a .books .now) (a .offset)) in
+    let done = ap (λ (x : Outcome). x .answer .number) asked in
+    let place = ap (λ (x : Outcome). x .answer .offset) asked in
+    let v = moves-apart 8 (a .arenas) (a .pools) h (a .offset) (a .n) (omega arith) (at-start .pre .1) (sym done ∙ at-if2 .if2 .left) in
+    let few : c .least .result ≡ k = c .least .ensures ∙ ap (min (a .n)) s in
+    let w : Moves (a .arenas) (a .pools) (a .offset) (at-answer .answer .result .offset) (c .least .result) = rw (place, few) v in (
+      record
+          { arenas-low = omega arith; arenas-high = omega arith; pools-low = omega arith; pools-high = omega arith; all = omega arith; memory = omega arith; books = omega arith; map = omega arith },
+      omega (arith, w .old-inside),
+      omega (arith, w .new-inside),
+      w .apart,
+      omega (arith, w .new-inside),
+    )
+
+same-length-5 : tie.Need-same-length-5
+same-length-5 c = search needs
+
+same-length-6 : tie.Need-same-length-6
+same-length-6 c = search needs
+
+same-length-7 : tie.Need-same-length-7
+same-length-7 c = search needs
+
+returns-3 : tie.Need-returns-3
+returns-3 c =
+    let at-move-block = c .before .before .before .before .before .before in
+    let at-least = at-move-block .before in
+    let at-if2 = at-least .before .before .before .before .before in
+    let at-answer = at-if2 .before .before in
+    let at-ask-step = at-answer .before .before .before .before .before .before .before in
+    let at-if1 = at-ask-step .before .before .before .before in
+    let at-size-of = at-if1 .before in
+    let at-class-at = at-size-of .before in
+    let at-start = at-class-at .before .before .before .before .before in
+    let a = at-start .args in
+    let h = heapOf (a .memory .now) (a .books .now) (a .map .now) in
+    let s : at-size-of .size-of .result ≡ sizeAt 8 (a .arenas) (a .books .now) (a .offset) = at-size-of .size-of .ensures .0
+    ∙ ap (sizeOf 8) (at-class-at .class-at .ensures) in
+    let after = heapOf (at-ask-step .ask-step .last .0) (at-ask-step .ask-step .last .1 .0) (at-ask-step .ask-step .last .1 .1 .0) in
+    let asked = ap (λ (x : Answer). outcome x after) (at-answer .answer .ensures) ∙ at-ask-step .ask-step .ensures in
+    let k = min (a .n) (sizeAt 8 (a .arenas) (a .books .now) (a .offset)) in
+    at-move-block .move-block .ensures
+    ∙ ap (λ (n : ℕ). halfDone 8 (a .arenas) (a .pools) (at-answer .answer .result .offset)
+    (giveOld 8 (a .arenas) (a .pools) (copy (a .offset) (at-answer .answer .result .offset) n after) (a .offset)))
+    (at-least .least .ensures ∙ ap (min (a .n)) s)
+    ∙ moved-done 8 (a .arenas) (a .pools) (a .offset) k (at-answer .answer .result) after (at-if2 .if2 .left)
+    ∙ ap (moved 8 (a .arenas) (a .pools) (a .offset) k) asked
+    ∙ resize-moved 8 (a .arenas) (a .pools) h (a .offset) (a .n) (ap (λ (x : ℕ). keeps x (a .n)) (sym s) ∙ at-if1 .if1 .left)
+
+pub resize-step-spec : {M : Type 1} → statement M
+resize-step-spec =
+    tie.close
+    (tie.spec
+    class-at-requires
+    size-of-requires
+    mul-if1
+    mul-if1-2
+    cast-t18
+    same-length
+    returns
+    ask-step-requires
+    answer-requires
+    same-length-2
+    same-length-3
+    same-length-4
+    returns-2
+    cast-to
+    least-requires
+    move-block-requires
+    same-length-5
+    same-length-6
+    same-length-7
+    returns-3)

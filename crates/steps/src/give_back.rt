@@ -1,0 +1,276 @@
+// A give-back: decided from the books before it, and then written, the block, then its pool's list, then its arena's. Its path is no value
+// in between, and its answer is a number, which comes back in a register.
+use bits::clear_bit;
+use books::blocks::class_at;
+use books::blocks::is_start;
+use books::blocks::size_of;
+use books::links::put_link;
+use books::lists::join;
+use books::lists::leave;
+use books::lists::link_to;
+use books::lists::may_join;
+use books::lists::may_leave;
+use books::lists::pool_links;
+use books::numbers::DAMAGED;
+use books::numbers::NO_BLOCK;
+use books::numbers::NOT_LIVE;
+use books::numbers::live_block;
+use books::pool::load_pool;
+use books::pool::store_pool;
+use books::words::ARENA_LINKS;
+use books::words::CLASS_HEADS;
+use books::words::COUNT;
+use books::words::FREE_POOLS;
+use books::words::FREEBLOCK;
+use books::words::FREED_HEAD;
+use books::words::NEXT;
+use books::words::OPEN;
+use books::words::PREVIOUS;
+use books::words::RECORDS;
+use books::words::UNUSED_HEAD;
+use books::words::USABLE_HEAD;
+use books::words::arena_word;
+use books::words::pool_word;
+use loops::put_words;
+ghost use mathlib.Core.Path.{_≡_};
+ghost use mathlib.Core.Bool.{true, _&&_};
+ghost use Prim.Native.Nat.{_+_, _*_, _-_, _/_, _%_, _^_, _<_, _≤_};
+ghost use lib.Dec.{leb};
+ghost use lib.ListN.{length};
+ghost use Rattle.rules.specs.Books.{at, memoryLength, booksLength, unusedHead, freePools, arena, poolWord};
+ghost use Rattle.rules.specs.Blocks.{blockNo, sizeAt};
+ghost use Rattle.rules.specs.Lists.{arenaLinks};
+ghost use Rattle.rules.specs.Outcome.{heapOf, outcome};
+ghost use Rattle.rules.specs.GiveBack.{takeBack, emptying, givenBack, backStep};
+ghost use Rattle.rules.specs.Resize.{giveOld};
+ghost use Rattle.books.specs.Known.{Shaped, LiveBlock};
+ghost use Rattle.plans.specs.Class.{Range};
+ghost use Rattle.books.specs.Lists.{Links};
+ghost use Rattle.steps.specs.Backs.{gave, Counted, mayEmpty, FitsEmpty, freedFirst, emptied, released, maySettle, settled};
+
+// The block at f, of number k, goes to the front of its pool's freed blocks.
+fn take_back(
+    memory: &mut [u8],
+    books: &mut [u32],
+    map: &mut [u64],
+    arenas: usize,
+    pools: usize,
+    class: usize,
+    p: usize,
+    f: usize,
+    k: usize,
+)
+    requires { ⌜ Shaped arenas pools (length (now memory)) (length (now books)) (length (now map)) × Counted arenas pools class p f k (now books) ⌝ }
+    ensures { λ _. ⌜ heapOf (now (memory .exit)) (now (books .exit)) (now (map .exit))
+        ≡ takeBack 8 arenas pools class p f (heapOf (now (memory .entry)) (now (books .entry)) (now (map .entry))) ⌝ }
+{
+    let pool = load_pool(books, arenas, p);
+    store_pool(books, arenas, p, pool.give(f as u32));
+    put_link(memory, 4096 * p + f, pool.freeblock);
+    clear_bit(map, p, k);
+}
+
+// The arena of a pool.
+fn arena_of(arenas: usize, pools: usize, p: usize) -> usize
+    requires { ⌜ Range arenas pools × (p < arenas * pools) ⌝ }
+    ensures { λ r. ⌜ (r ≡ p / pools) × (r < arenas) ⌝ }
+{
+    p / pools
+}
+
+// Pool p goes to the front of arena a's freed pools.
+fn free_pool(books: &mut [u32], arenas: usize, a: usize, p: usize)
+    requires { ⌜ (a < arenas) × (arenas ≤ 16) × (p < 1024) × (poolWord arenas 8 p ≤ length (now books)) × (arena (now books) freePools a ≤ 64) ⌝ }
+    ensures { λ _. ⌜ now (books .exit) ≡ freedFirst arenas a p (now (books .entry)) ⌝ }
+{
+    let first = books[RECORDS + 8 * a + FREED_HEAD];
+    let free = books[RECORDS + 8 * a + FREE_POOLS];
+    books[RECORDS + 8 * arenas + 8 * p + NEXT] = first;
+    books[RECORDS + 8 * arenas + 8 * p + PREVIOUS] = 0;
+    books[RECORDS + 8 * a + FREED_HEAD] = link_to(p);
+    books[RECORDS + 8 * a + FREE_POOLS] = free + 1;
+}
+
+// Pool p of arena a, at count 0, leaves its class list and goes to the front of the arena's freed pools.
+fn empty_pool(books: &mut [u32], arenas: usize, pools: usize, class: usize, a: usize, p: usize)
+    requires { ⌜ Range arenas pools × (length (now books) ≡ booksLength arenas pools) × (class ≤ 63) × (p < arenas * pools) × (a ≡ p / pools) × (a < arenas)
+        × FitsEmpty arenas pools p (now books) ⌝ }
+    ensures { λ _. ⌜ now (books .exit) ≡ emptied arenas pools class p (now (books .entry)) ⌝ }
+{
+    leave(
+        books,
+        arenas * pools,
+        pool_links(arenas),
+        CLASS_HEADS + class,
+        p,
+    );
+    free_pool(books, arenas, a, p);
+}
+
+// Arena a leaves the usable list, and its record becomes 0 but for its place at the front of the unused list.
+fn release(books: &mut [u32], arenas: usize, pools: usize, a: usize)
+    requires { ⌜ Range arenas pools × (length (now books) ≡ booksLength arenas pools) × (a < arenas) × Links arenas arenaLinks a (now books) × (at (now books) unusedHead ≤ arenas) ⌝ }
+    ensures { λ _. ⌜ now (books .exit) ≡ released a (now (books .entry)) ⌝ }
+{
+    leave(books, arenas, ARENA_LINKS, USABLE_HEAD, a);
+    // all eight words, from open on
+    put_words(books, RECORDS + 8 * a + OPEN, &[0; 8]);
+    join(books, arenas, ARENA_LINKS, UNUSED_HEAD, a);
+}
+
+// Arena a, which had so many free pools, has one more: where all are free it is released, where it had none it is usable again.
+fn settle(books: &mut [u32], arenas: usize, pools: usize, a: usize, free: usize)
+    requires { ⌜ Range arenas pools × (length (now books) ≡ booksLength arenas pools) × (a < arenas) × (free < 2 ^ 32)
+        × (maySettle arenas pools a free (now books) ≡ true) ⌝ }
+    ensures { λ _. ⌜ now (books .exit) ≡ settled pools a free (now (books .entry)) ⌝ }
+{
+    if free + 1 == pools {
+        release(books, arenas, pools, a);
+        return;
+    }
+    if free + 1 == 1 {
+        join(books, arenas, ARENA_LINKS, USABLE_HEAD, a);
+    }
+}
+
+// Pool p may leave its class list and return to arena a, which has so many free pools.
+fn may_empty(books: &[u32], arenas: usize, pools: usize, a: usize, p: usize, free: usize) -> bool
+    requires { ⌜ Range arenas pools × (length (now books) ≡ booksLength arenas pools) × (a < arenas) × (p < arenas * pools) ⌝ }
+    ensures { λ r. ⌜ r ≡ mayEmpty arenas pools a p free (now (books .entry)) ⌝ }
+{
+    let all = arenas * pools;
+    may_leave(books, all, pool_links(arenas), p)
+        & (arena_word(books, FREED_HEAD, a) <= all)
+        & (free <= pools - 1)
+}
+
+// The arena's links, and the head of the list that it would join, lead somewhere.
+fn may_settle(books: &[u32], arenas: usize, pools: usize, a: usize, free: usize) -> bool
+    requires { ⌜ Range arenas pools × (length (now books) ≡ booksLength arenas pools) × (a < arenas) × (free < 2 ^ 32) ⌝ }
+    ensures { λ r. ⌜ r ≡ maySettle arenas pools a free (now (books .entry)) ⌝ }
+{
+    if free + 1 == pools {
+        return may_leave(books, arenas, ARENA_LINKS, a) & may_join(books, arenas, UNUSED_HEAD);
+    }
+    if free + 1 == 1 {
+        return may_join(books, arenas, USABLE_HEAD);
+    }
+    true
+}
+
+// A give-back with which the pool falls to count 0: 0, or 6.
+fn back_last(
+    memory: &mut [u8],
+    books: &mut [u32],
+    map: &mut [u64],
+    arenas: usize,
+    pools: usize,
+    class: usize,
+    offset: usize,
+    k: usize,
+) -> u32
+    requires { ⌜ Shaped arenas pools (length (now memory)) (length (now books)) (length (now map))
+        × Counted arenas pools class (offset / 4096) (offset % 4096) k (now books) ⌝ }
+    ensures { λ r. ⌜ outcome (gave offset r) (heapOf (now (memory .exit)) (now (books .exit)) (now (map .exit)))
+        ≡ givenBack 8 arenas pools class (heapOf (now (memory .entry)) (now (books .entry)) (now (map .entry))) offset
+        (emptying 8 arenas pools (now (books .entry)) class (offset / 4096)) ⌝ }
+{
+    let p = offset / 4096;
+    let a = arena_of(arenas, pools, p);
+    let free = arena_word(books, FREE_POOLS, a);
+    let may = may_empty(books, arenas, pools, a, p, free)
+        & may_settle(books, arenas, pools, a, free);
+    if !may {
+        return DAMAGED;
+    }
+    take_back(
+        memory,
+        books,
+        map,
+        arenas,
+        pools,
+        class,
+        p,
+        offset % 4096,
+        k,
+    );
+    empty_pool(books, arenas, pools, class, a, p);
+    settle(books, arenas, pools, a, free);
+    0
+}
+
+// What a give-back asks of a count.
+fn count_fits(count: usize) -> bool
+    ensures { λ r. ⌜ r ≡ (leb 1 count && leb count 506) ⌝ }
+{
+    (1 <= count) & (count <= 506)
+}
+
+// A give-back of a live offset, that of block k of its pool: 0, or the number of the refusal.
+fn back_step(
+    memory: &mut [u8],
+    books: &mut [u32],
+    map: &mut [u64],
+    arenas: usize,
+    pools: usize,
+    offset: usize,
+    k: usize,
+) -> u32
+    requires { ⌜ Shaped arenas pools (length (now memory)) (length (now books)) (length (now map)) × LiveBlock 8 arenas pools (now books) (now map) offset
+        × (k ≡ blockNo (sizeAt 8 arenas (now books) offset) (offset % 4096)) ⌝ }
+    ensures { λ r. ⌜ outcome (gave offset r) (heapOf (now (memory .exit)) (now (books .exit)) (now (map .exit)))
+        ≡ backStep 8 arenas pools (heapOf (now (memory .entry)) (now (books .entry)) (now (map .entry))) offset ⌝ }
+{
+    let class = class_at(books, arenas, offset);
+    let size = size_of(class);
+    let p = offset / 4096;
+    let f = offset % 4096;
+    let free = pool_word(books, arenas, FREEBLOCK, p);
+    let count = pool_word(books, arenas, COUNT, p);
+    if !count_fits(count) {
+        return DAMAGED;
+    }
+    if free == 0 {
+        if !may_join(books, arenas * pools, CLASS_HEADS + class) {
+            return DAMAGED;
+        }
+        take_back(memory, books, map, arenas, pools, class, p, f, k);
+        join(
+            books,
+            arenas * pools,
+            pool_links(arenas),
+            CLASS_HEADS + class,
+            p,
+        );
+        return 0;
+    }
+    if !is_start(size, free) {
+        return DAMAGED;
+    }
+    if count == 1 {
+        return back_last(memory, books, map, arenas, pools, class, offset, k);
+    }
+    take_back(memory, books, map, arenas, pools, class, p, f, k);
+    0
+}
+
+// A give-back of any offset, by what the books and the map show: 0, or the number of the refusal.
+pub fn give_old(
+    memory: &mut [u8],
+    books: &mut [u32],
+    map: &mut [u64],
+    arenas: usize,
+    pools: usize,
+    offset: usize,
+) -> u32
+    requires { ⌜ Shaped arenas pools (length (now memory)) (length (now books)) (length (now map)) ⌝ }
+    ensures { λ r. ⌜ (outcome (gave offset r) (heapOf (now (memory .exit)) (now (books .exit)) (now (map .exit)))
+        ≡ giveOld 8 arenas pools (heapOf (now (memory .entry)) (now (books .entry)) (now (map .entry))) offset)
+        × (r ≡ 0 → offset < memoryLength arenas pools) ⌝ }
+{
+    let k = live_block(memory, books, map, arenas, pools, offset);
+    if k == NO_BLOCK {
+        return NOT_LIVE;
+    }
+    back_step(memory, books, map, arenas, pools, offset, k)
+}
