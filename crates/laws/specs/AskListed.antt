@@ -87,8 +87,8 @@ module _ {al A P p : ℕ} {h : Heap} {r : Plain} {ps : List ℕ} (L : Aligned al
   count-is : pool A b 0 p ≡ count r p
   count-is = K .pools 0 p (omega arith) lp ∙ F .pools p lp .count-is
 
-  max-is : pool A b 6 p ≡ lastStart s
-  max-is = K .pools 6 p (omega arith) lp ∙ I .max-is
+  maxnextoffset-is : pool A b 6 p ≡ lastStart s
+  maxnextoffset-is = K .pools 6 p (omega arith) lp ∙ I .maxnextoffset-is
 
   next-is : pool A b 5 p ≡ startOf s (r .virgin p)
   next-is = K .pools 5 p (omega arith) lp ∙ I .blocks .next-is
@@ -129,7 +129,7 @@ module _ {al A P p : ℕ} {h : Heap} {r : Plain} {ps : List ℕ} (L : Aligned al
         front-of head-is lp (fromListed al A P h c) _ ∙ rw (
           class-is,
           eq-eqb c c refl,
-          max-is,
+          maxnextoffset-is,
           eq-eqb (lastStart s) (lastStart s) refl,
           le-leb (pool A b 0 p) 505 (omega (arith, count-is, counts, cap-high)),
           free-is,
@@ -152,7 +152,7 @@ module _ {al A P p : ℕ} {h : Heap} {r : Plain} {ps : List ℕ} (L : Aligned al
           class-is = e .0 ∙ F .pools p lp .class-is;
           used = λ _ _. used-p;
           rule = λ _. inr (rw (count-after, eq-eqb p p refl, e .1)
-              (record { class-low = I .class-low; max-is = I .max-is; blocks = C; two = λ z. absurd (omega arith); one = one′ }));
+              (record { class-low = I .class-low; maxnextoffset-is = I .maxnextoffset-is; blocks = C; two = λ z. absurd (omega arith); one = one′ }));
           home-is = hm;
         }))
 
@@ -215,7 +215,7 @@ module _ {al A P p : ℕ} {h : Heap} {r : Plain} {ps : List ℕ} (L : Aligned al
       unfolding afterAsk noLink askAnswer
       ask-ready more =
           asked (Ready p (startOf s k) (startOf s v)) r′
-          (listed-first _ (rw (no-more, next-is, max-is, free-is, le-leb (startOf s v) (lastStart s) (omega (arith, ends)), spare-is v more v-dead)) (rw no-more))
+          (listed-first _ (rw (no-more, next-is, maxnextoffset-is, free-is, le-leb (startOf s v) (lastStart s) (omega (arith, ends)), spare-is v more v-dead)) (rw no-more))
           (rw (lst, chn, none, lt-ltb (r .virgin p) (capacity s) more)) (rw chn)
           (sound {h = h′} L K′ F′) (quiet-link L F′ p v 0 (I .class-low) more still-dead) (λ _. hand-out p k lp k-low refl k-dead refl refl)
         where
@@ -257,7 +257,7 @@ module _ {al A P p : ℕ} {h : Heap} {r : Plain} {ps : List ℕ} (L : Aligned al
       unfolding afterAsk noLink askAnswer
       ask-last full =
           asked (Last p (startOf s k)) r′
-          (listed-first _ (rw (no-more, next-is, max-is, free-is, lt-leb (startOf s (r .virgin p)) (lastStart s) past, pool-may-leave K c p lc lp (member .is))) (rw no-more))
+          (listed-first _ (rw (no-more, next-is, maxnextoffset-is, free-is, lt-leb (startOf s (r .virgin p)) (lastStart s) past, pool-may-leave K c p lc lp (member .is))) (rw no-more))
           (rw (lst, chn, none, le-ltb (r .virgin p) (capacity s) full)) (rw chn)
           (sound {h = h′} L K′ F′) (quiet-same {r = r′}) (λ _. hand-out p k lp k-low refl k-dead refl refl)
         where

@@ -1,16 +1,21 @@
 -- A run of the public functions of crate heap, each call keeping its promise, is a history: its buffers and numbers are those of the rules' run. So the
 -- theorems speak of the running code.
 -- Assumes nothing.
-use mathlib.Core.Path.{_≡_, refl, sym, ap, ap₂, _∙_}
-use mathlib.Core.List.{List, [], _∷_}
-use Prim.Native.Nat.{ℕ}
+use mathlib.Core.Path.{_≡_, refl, sym, ap, ap₂, _∙_, subst}
+use mathlib.Core.Logic.{_≢_}
+use mathlib.Core.List.{List, [], _∷_, _++_}
+use Prim.Native.Nat.{ℕ, _≤_}
+use native.Mathlib.Omega.{arith}
+use lib.ListN.{length, drop}
 use Rattle.rules.specs.declared.Answer.{Answer}
 use Rattle.rules.specs.declared.Sized.{Sized}
 use Rattle.rules.specs.declared.Rolled.{Rolled}
 use Rattle.rules.specs.Books.{Heap}
 use Rattle.rules.specs.Outcome.{Outcome, outcome}
 use Rattle.rules.specs.Numbers.{RollOutcome, format, ask, giveBack, resize, viewSize, write, rollCall}
-use Rattle.laws.specs.History.{Event, formats, asks, gives, resizes, views, writes, rolls, pokes, Ledger, State, numberOf, after, run}
+use Rattle.laws.specs.Sizes.{Aligned}
+use Rattle.laws.specs.History.{Event, formats, asks, gives, resizes, views, writes, rolls, pokes, Ledger, State, numberOf, after, run, NoSix}
+use Rattle.laws.specs.Theorems.{begun, no-six, entries, entryCount, roll-with-room}
 
 abbrev pub state : Ledger → Heap → State
 state l h = record { heap = h; ledger = l }
@@ -64,3 +69,33 @@ ran-is {l} {h} (next {g = g} {e = e} {es = es} {k = k} t rest) =
       more .0 ∙ ap (λ (x : State). run 8 x es .heap) same,
       ap₂ (λ (a : ℕ) (b : List ℕ). a ∷ b) (s .0) (more .1 ∙ ap (λ (x : State). numbers x es) same),
     )
+
+-- ---- so the theorems hold of it
+-- 01's alignment is one at which the laws hold
+pub eight : Aligned 8
+eight = record { low = omega arith; high = omega arith }
+
+-- none of the numbers is 6
+abbrev pub Sixless : List ℕ → Type 0
+Sixless [] = Unit {0}
+Sixless (k ∷ ks) = (k ≢ 6) × Sixless ks
+
+sixless : (x : State) (es : List Event) → NoSix 8 x es → Sixless (numbers x es)
+unfolding numbers
+sixless x [] t = tt
+sixless x (e ∷ es) t = (t .0, sixless (after 8 x e) es (t .1))
+
+-- a run over any buffers: a format that is done, and then any calls
+module _ (h : Heap) (A P : ℕ) (ok : format h A P .answer .number ≡ 0) (es : List Event) {ks : List ℕ} {g : Heap}
+    (ran : Ran (begun h A P .ledger) (begun h A P .heap) es ks g) where
+  -- no call answers 6
+  pub ran-no-six : Sixless ks
+  ran-no-six = subst Sixless (sym (ran-is ran .1)) (sixless (begun h A P) es (no-six eight h A P ok es))
+
+  -- and a roll call with room for it lists the ledger of the calls: offset and size of each block that is held, and how many there are
+  pub ran-roll : (words v : List ℕ) (r : Rolled) → record { answer = r; words = v } ≡ rollCall 8 g words
+      → length (entries eight h A P ok es) ≤ length words
+      → (r ≡ record { number = 0; count = entryCount eight h A P ok es }) × (v ≡ entries eight h A P ok es ++ drop (length (entries eight h A P ok es)) words)
+  ran-roll words v r kept room =
+      let e = kept ∙ ap (λ (x : Heap). rollCall 8 x words) (ran-is ran .0) ∙ roll-with-room eight h A P ok es words room in
+      (ap (λ (x : RollOutcome). x .answer) e, ap (λ (x : RollOutcome). x .words) e)

@@ -17,6 +17,7 @@ use Rattle.rules.specs.Books.{at, inRange, memoryLength, mapLength, bit, isSet,
 use Rattle.rules.specs.Format.{freshArenas, freshPools, freshBooks}
 use Rattle.rules.specs.Outcome.{heapOf}
 use Rattle.books.specs.Known.{in-range}
+use Rattle.books.specs.Records.{length-arenas, length-pools}
 use Rattle.laws.specs.Rows.{All, Once, In, Seg}
 use Rattle.laws.specs.Linked.{Doubly}
 use Rattle.laws.specs.Families.{At}
@@ -66,14 +67,6 @@ pool-words (suc k) (suc n) w l u = rw (eight n w) (pool-words k n w (omega arith
 pool-words (suc k) zero w l u =
     let e : 8 * 0 + w ≡ w = omega arith in
     rw e (each-word (λ w. at (freshPools (suc k)) w ≡ (if eqb w 4 then noClass else 0)) (refl, refl, refl, refl, refl, refl, refl, refl) w u)
-
-length-arenas : (i k : ℕ) → length (freshArenas i k) ≡ 8 * k
-length-arenas i zero = refl
-length-arenas i (suc k) = omega (arith, length-arenas (suc i) k)
-
-length-pools : (k : ℕ) → length (freshPools k) ≡ 8 * k
-length-pools zero = refl
-length-pools (suc k) = omega (arith, length-pools k)
 
 -- ---- the books, word by word
 module _ (A P : ℕ) where

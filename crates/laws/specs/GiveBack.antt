@@ -128,7 +128,7 @@ module _ {al A P p j : ℕ} {h : Heap} {r : Plain} (G : Given al A P h r p j) wh
   in-class₂ =
       record {
         class-low = I .class-low;
-        max-is = rw (eq-eqb p p refl) (I .max-is);
+        maxnextoffset-is = rw (eq-eqb p p refl) (I .maxnextoffset-is);
         blocks = rw (eq-eqb p p refl) given₂;
         two = λ z. rw (eq-eqb p p refl) (empty-two (omega (arith, count-after)));
         one = λ _. rw (eq-eqb p p refl) (omega arith);

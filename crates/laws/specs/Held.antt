@@ -261,7 +261,7 @@ pub rule-memory : {al n : ℕ} {m m′ : List ℕ} {count free class next max : 
     → (class ≤ lastClass al → Blocks (sizeOf al class) n m free next live chain virgin → Blocks (sizeOf al class) n m′ free next live chain virgin)
     → PoolRule al n m count free class next max live chain virgin → PoolRule al n m′ count free class next max live chain virgin
 rule-memory f (inl t) = inl t
-rule-memory f (inr t) = inr (record { class-low = t .class-low; max-is = t .max-is; blocks = f (t .class-low) (t .blocks); two = t .two; one = t .one })
+rule-memory f (inr t) = inr (record { class-low = t .class-low; maxnextoffset-is = t .maxnextoffset-is; blocks = f (t .class-low) (t .blocks); two = t .two; one = t .one })
 
 -- a pool of the rows that has a live block is in a class, with its blocks
 pub in-class : {al A P : ℕ} {U : View} {m k : List ℕ} {r : Plain} → Aligned al → Says al A P U m k r → (n j : ℕ) → n < A * P → r .live n j ≡ true → InClassOf al U m r n

@@ -56,8 +56,8 @@ module _ (al : ℕ) where
   carried n o new m g =
       to new (take (min n (length (g o))) (g o) ++ drop (min n (length (g o))) (part new (sizeOf al (classOf al n)) m)) (to o [] g)
 
-  -- "a done ask adds offset and block size, a done give-back removes, a done resize moves, a done format empties": with the bytes as they were when the block was
-  -- handed out, and as its holder wrote since
+  -- the state after an event. A done ask adds an entry, a done give-back removes it, a done resize moves it and a done format empties the ledger; an entry has the bytes
+  -- as they were when the block was handed out, and as its holder wrote since
   unfoldable pub after : State → Event → State
   after x (formats A P) = let y = format (x .heap) A P in noted (y .answer .number) (y .heap) (x .ledger) (λ o. [])
   after x (asks n) =

@@ -79,26 +79,26 @@ pub record Lists (al A P : ℕ) (b : List ℕ) (r : Plain) : Type 0 where
   pub full : (n : ℕ) → n < A * P → home al P r n ≡ 0 → (pool A b poolNext n ≡ 0) × (pool A b poolPrevious n ≡ 0)
   pub spent : (a : ℕ) → a < A → base P r a ≡ 0 → (arena b arenaNext a ≡ 0) × (arena b arenaPrevious a ≡ 0)
 
--- "(8) each freed pool of class at most 63, or 65,535 with all else but next 0": pool n, not in use, by its record's words
-pub record Unset (al : ℕ) (count free class next max : ℕ) : Type 0 where
+-- "(8) each freed pool of class at most 63, or 65,535 with all else but next 0": the words of a pool's record, but for its links
+pub record Unset (count freeblock class nextoffset maxnextoffset : ℕ) : Type 0 where
   pub count-is : count ≡ 0
   pub class-is : class ≡ noClass
-  pub free-is : free ≡ 0
-  pub next-is : next ≡ 0
-  pub max-is : max ≡ 0
+  pub freeblock-is : freeblock ≡ 0
+  pub nextoffset-is : nextoffset ≡ 0
+  pub maxnextoffset-is : maxnextoffset ≡ 0
 
 -- ".. in each other carved pool maxnextoffset right, .. with two at least on the chain if the pool is freed, one unless it is full"
-pub record InClass (al n : ℕ) (m : List ℕ) (count free class next max : ℕ) (live : ℕ → Bool) (chain : List ℕ) (virgin : ℕ) : Type 0 where
+pub record InClass (al n : ℕ) (m : List ℕ) (count freeblock class nextoffset maxnextoffset : ℕ) (live : ℕ → Bool) (chain : List ℕ) (virgin : ℕ) : Type 0 where
   pub class-low : class ≤ lastClass al
-  pub max-is : max ≡ lastStart (sizeOf al class)
-  pub blocks : Blocks (sizeOf al class) n m free next live chain virgin
+  pub maxnextoffset-is : maxnextoffset ≡ lastStart (sizeOf al class)
+  pub blocks : Blocks (sizeOf al class) n m freeblock nextoffset live chain virgin
   pub two : count ≡ 0 → 2 ≤ length chain
   pub one : count < capacity (sizeOf al class) → 1 ≤ length chain
 
 -- a carved pool is the one or the other
 abbrev pub PoolRule : ℕ → ℕ → List ℕ → ℕ → ℕ → ℕ → ℕ → ℕ → (ℕ → Bool) → List ℕ → ℕ → Type 0
-PoolRule al n m count free class next max live chain virgin =
-    Unset al count free class next max ⊎ InClass al n m count free class next max live chain virgin
+PoolRule al n m count freeblock class nextoffset maxnextoffset live chain virgin =
+    Unset count freeblock class nextoffset maxnextoffset ⊎ InClass al n m count freeblock class nextoffset maxnextoffset live chain virgin
 
 -- ---- the heap h of A arenas with P pools each holds the rows r
 pub record Sound (al A P : ℕ) (h : Heap) (r : Plain) : Type 0 where

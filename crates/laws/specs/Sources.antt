@@ -209,7 +209,7 @@ module _ {al A P c : ℕ} {h : Heap} {r : Plain} (L : Aligned al) (H : Held al A
               let z = spend-is al A P c a (takeFrom al A P c (Freed a) p h) in
               asked (Again a p (startOf s k) (startOf s j)) r′ plan (rw (lst, us, fr, eq-eqb (r .class p) c cls, e))
               (rw (fr, e) (ap (λ (x : Plain). x ▷ setListed c (p ∷ []) ▷ setChain p (j ∷ js) ▷ setLive p k true) (spend-rows (eqb (free P r a) 1) a (r ▷ setFreed a ps))))
-              (rw z (taken-again L F from-freed lc lst k j js cls B (rw cls at (J .max-is)) (λ w. refl))) (rw z (quiet-same {r = r′}))
+              (rw z (taken-again L F from-freed lc lst k j js cls B (rw cls at (J .maxnextoffset-is)) (λ w. refl))) (rw z (quiet-same {r = r′}))
               (λ _. hand-out p k lp (omega (arith, B .below .0, B .fits)) cls (no-live L F p lp (was .0) k) refl refl)
             where
               r′ : Plain

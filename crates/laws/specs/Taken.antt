@@ -281,7 +281,7 @@ module _ {al A P p a c : ℕ} {b m q us un : List ℕ} {U U₁ : View} {r : Plai
       I =
           record {
             class-low = rw class′ lc;
-            max-is = rw (eq-eqb p p refl);
+            maxnextoffset-is = rw (eq-eqb p p refl);
             blocks = rw (eq-eqb p p refl) (anew s p m (r .live p) (omega (arith, size-low L c lc)) (omega (arith, size-high L c lc)) (omega (arith, F .bytes, lp)) dead);
             two = λ z. absurd (omega (arith, z, one-live 0 (omega arith)));
             one = λ _. rw (eq-eqb p p refl) (omega arith);
@@ -322,7 +322,7 @@ module _ {al A P p a c : ℕ} {b m q us un : List ℕ} {U U₁ : View} {r : Plai
       I =
           record {
             class-low = rw cls lc;
-            max-is = rw (eq-eqb p p refl, words 6, cls) max;
+            maxnextoffset-is = rw (eq-eqb p p refl, words 6, cls) max;
             blocks = rw (eq-eqb p p refl, words 5, cls) (rw (B .chained .1 .0) at (taken k B));
             two = λ z. absurd (omega (arith, z, one-live k k-low));
             one = λ _. rw (eq-eqb p p refl) (omega arith);

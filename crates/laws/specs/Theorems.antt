@@ -13,12 +13,14 @@ use Rattle.rules.specs.Say.{if_then_else_}
 use Rattle.rules.specs.Books.{Heap, at, arenas, pools, memoryLength}
 use Rattle.rules.specs.Blocks.{classOf, sizeOf, sizeAt, live}
 use Rattle.rules.specs.View.{part, roll}
-use Rattle.rules.specs.Numbers.{format, ask, rollCall, rollOf, rollOutcome, roomNumber}
+use Rattle.rules.specs.Outcome.{Outcome, answerOf, refused}
+use Rattle.rules.specs.Numbers.{format, ask, giveBack, resize, rollCall, rollOf, rollOutcome, roomNumber}
 use Rattle.laws.specs.Sizes.{Aligned, size-low}
 use Rattle.laws.specs.Held.{held}
 use Rattle.laws.specs.Holding.{LiveAt, liveSize, live-ends, live-rows, class-is, in-memory, holding-live, holding-long, holding-some, dead-holding}
 use Rattle.laws.specs.Written.{apart}
-use Rattle.laws.specs.Calls.{shape-zero}
+use Rattle.laws.specs.Calls.{shape-zero, back-dead, back-is}
+use Rattle.laws.specs.Free.{live-held, ask-free, resize-free}
 use Rattle.laws.specs.Roll.{listing-same, listing-count, listing-place, sizeHeld, roll-is}
 use Rattle.laws.specs.NoRoom.{four-full, full-four}
 use Rattle.laws.specs.History.{Event, State, NoSix, run, listing, heldBelow, Full}
@@ -53,6 +55,35 @@ module _ {al : ℕ} (L : Aligned al) (h : Heap) (A P : ℕ) (ok : format h A P .
 
   entry-size : (o : ℕ) (t : LiveAt al (T .A) (T .P) (T .rows) o) → length (end .ledger o) ≡ liveSize t
   entry-size o t = ap length (T .tie o) ∙ holding-long L (T .sound) o t
+
+  -- an offset is live exactly if a block is held there
+  pub live-means : (o : ℕ) → (live al (arenas (end .heap)) (pools (end .heap)) (end .heap .books) (end .heap .map) o ≡ true → end .ledger o ≢ [])
+      × (end .ledger o ≢ [] → live al (arenas (end .heap)) (pools (end .heap)) (end .heap .books) (end .heap .map) o ≡ true)
+  live-means o =
+      rw (T .sound .rule1 .arenas-are, T .sound .rule1 .pools-are)
+      (λ e q. live-held L (T .sound) o e (sym (T .tie o) ∙ q), λ some. holding-some al (T .A) (T .P) (end .heap) o (λ q. some (T .tie o ∙ q)))
+
+  -- ---- a block that is held is never handed out: nobody holds what an ask hands out, nor what a resize moves to
+  pub asked-free : (n : ℕ) → ask al (end .heap) n .answer .number ≡ 0 → end .ledger (ask al (end .heap) n .answer .offset) ≡ []
+  asked-free n z = T .tie _ ∙ ask-free L (T .sound) n z
+
+  pub moved-free : (o n : ℕ) → resize al (end .heap) o n .answer .number ≡ 0 → resize al (end .heap) o n .answer .offset ≢ o
+      → end .ledger (resize al (end .heap) o n .answer .offset) ≡ []
+  moved-free o n z d = T .tie _ ∙ resize-free L (T .sound) o n z d
+
+  -- a give-back is done exactly where a block is held; elsewhere it is refused with 5, and nothing changes
+  pub back-means : (o : ℕ) → (end .ledger o ≢ [] → giveBack al (end .heap) o .answer ≡ answerOf 0 o) × (end .ledger o ≡ [] → giveBack al (end .heap) o ≡ refused 5 (end .heap))
+  back-means o = (held-back, dead-back)
+    where
+      held-back : end .ledger o ≢ [] → giveBack al (end .heap) o .answer ≡ answerOf 0 o
+      held-back some = ap (λ (x : Outcome). x .answer) (back-is L (T .sound) o (holding-some al (T .A) (T .P) (end .heap) o (λ q. some (T .tie o ∙ q))))
+
+      dead-back : end .ledger o ≡ [] → giveBack al (end .heap) o ≡ refused 5 (end .heap)
+      dead-back none = go (live al (T .A) (T .P) (end .heap .books) (end .heap .map) o) refl
+        where
+          go : (b : Bool) → live al (T .A) (T .P) (end .heap .books) (end .heap .map) o ≡ b → giveBack al (end .heap) o ≡ refused 5 (end .heap)
+          go true e = absurd (live-held L (T .sound) o e (sym (T .tie o) ∙ none))
+          go false e = back-dead L (T .sound) o e
 
   -- no two entries overlap
   pub entries-apart : (o x : ℕ) → end .ledger o ≢ [] → end .ledger x ≢ [] → x ≢ o → (o + length (end .ledger o) ≤ x) ⊎ (x + length (end .ledger x) ≤ o)

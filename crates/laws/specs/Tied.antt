@@ -4,21 +4,21 @@ use mathlib.Core.Path.{_≡_, refl, sym, ap, _∙_, subst}
 use mathlib.Core.Logic.{_≢_, _⊎_, inl, inr}
 use mathlib.Core.Bool.{Bool, true, false, not, false≢true}
 use mathlib.Core.List.{List, [], _∷_, _++_}
-use Prim.Native.Nat.{ℕ, _+_, _/_, _%_, _≤_, _<_, min}
+use Prim.Native.Nat.{ℕ, _+_, _%_, _≤_, _<_, min}
 use native.Mathlib.Omega.{arith}
 use lib.Dec.{ltb, eqb}
 use lib.ListN.{length, set, take, drop, length-set, replicate}
 use lib.Seq.{sets, length-sets, getD-set-other}
 use borrow.Author.Tests.{eq-eqb, ne-eqb, ltb-true, ltb-false}
 use Rattle.rules.specs.Say.{if_then_else_}
-use Rattle.rules.specs.Books.{Heap, at, inRange, exact, memoryLength, mapLength, arenas, pools}
+use Rattle.rules.specs.Books.{Heap, at, inRange, exact, memoryLength, mapLength}
 use Rattle.rules.specs.Blocks.{classOf, sizeOf, live, liveNumber, sizeAt}
 use Rattle.rules.specs.Outcome.{Outcome, heapOf, refused, passing, done}
 use Rattle.rules.specs.Format.{freshBooks}
 use Rattle.rules.specs.View.{part}
 use Rattle.rules.specs.Ask.{askAnswer, afterAsk}
 use Rattle.rules.specs.Resize.{keeps}
-use Rattle.rules.specs.Numbers.{fitNumber, format, ask, giveBack, resize, viewSize, write, rollCall, roomNumber, sizeNumber, sizedOf, blockSize, rollOf, rollOutcome}
+use Rattle.rules.specs.Numbers.{fitNumber, format, ask, giveBack, resize, write, roomNumber, sizeNumber}
 use Rattle.books.specs.Known.{shaped}
 use Rattle.laws.specs.Update.{is-false, to, to-cong}
 use Rattle.laws.specs.Plain.{Plain, fresh, planAsk as plainAsk}
@@ -30,6 +30,7 @@ use Rattle.laws.specs.Holding.{LiveAt, liveSize, holding, live-rows, cla
 use Rattle.laws.specs.Written.{written-leaves}
 use Rattle.laws.specs.Calls.{shape-zero, DoneOrNot, done-or-not, ask-size, ask-is, ask-leaves, size-number, back-dead, block-of, back-is, back-leaves}
 use Rattle.laws.specs.Resized.{resize-size, resize-dead, resize-keeps, resize-none, resize-moves, differ, moved-leaves}
+use Rattle.laws.specs.Refused.{view-six, roll-six}
 use Rattle.laws.specs.History.{Event, formats, asks, gives, resizes, views, writes, rolls, pokes, Ledger, State, noted, numberOf, carried, after, run, NoSix}
 
 -- ---- what holds after a history, m₀ being memory before it: the heap is sound, the ledger has what the heap holds, the first 48 bytes of each pool stand
@@ -256,23 +257,6 @@ module _ {al : ℕ} (L : Aligned al) (m₀ : List ℕ) where
       go true false e f = same T 2 refl (omega arith) (x .ledger)
       go true true e f = ((omega arith), fresh-tied L (x .heap .memory) m₀ A P e (shaped (x .heap) A P e f .memory) (T .first))
 
-  -- view and roll call never give 6
-  view-number : {x : State} → Tied al m₀ x → (o : ℕ) → viewSize al (x .heap) o .number ≢ 6
-  unfolding viewSize liveNumber
-  view-number {x} T o = rw (shape-zero (T .sound)) (go (live al (arenas (x .heap)) (pools (x .heap)) (x .heap .books) (x .heap .map) o))
-    where
-      go : (b : Bool) → passing (passing (if b then 0 else 5) (λ k. k) 0) (λ k. sizedOf k 0) (sizedOf 0 (blockSize al (x .heap) o)) .number ≢ 6
-      go true = omega arith
-      go false = omega arith
-
-  roll-number : {x : State} → Tied al m₀ x → (words : List ℕ) → rollCall al (x .heap) words .answer .number ≢ 6
-  unfolding rollCall roomNumber
-  roll-number {x} T words = rw (shape-zero (T .sound)) (go (ltb (length words) (length (rollOf al (x .heap)))) (length (rollOf al (x .heap)) / 2) _)
-    where
-      go : (b : Bool) (k : ℕ) (ws : List ℕ) → passing (if b then 7 else 0) (λ k. rollOutcome k 0 words) (rollOutcome 0 k ws) .answer .number ≢ 6
-      go true k ws = omega arith
-      go false k ws = omega arith
-
   -- ---- any event
   step : {x : State} → Tied al m₀ x → (e : Event) → Good al m₀ (numberOf al x e) (after al x e)
   unfolding numberOf after
@@ -280,9 +264,9 @@ module _ {al : ℕ} (L : Aligned al) (m₀ : List ℕ) where
   step T (asks n) = step-ask T n
   step T (gives o) = step-give T o
   step T (resizes o n) = step-resize T o n
-  step {x} T (views o) = (view-number T o, T)
+  step {x} T (views o) = (view-six al (x .heap) o, T)
   step T (writes o text) = step-write T o text
-  step T (rolls words) = (roll-number T words, T)
+  step {x} T (rolls words) = (roll-six al (x .heap) words, T)
   step T (pokes o d v) = step-poke T o d v
 
   -- every history

@@ -1,0 +1,59 @@
+-- Who holds what on a sound heap: a live offset is held, and nothing is held where an ask or a moving resize hands a block out.
+-- Assumes nothing.
+use mathlib.Core.Path.{_≡_, refl, ap}
+use mathlib.Core.Logic.{_≢_, _⊎_, inl, inr}
+use mathlib.Core.Bool.{Bool, true, false}
+use mathlib.Core.List.{[]}
+use Prim.Native.Nat.{ℕ, _≤_}
+use native.Mathlib.Omega.{arith}
+use lib.ListN.{length}
+use Rattle.rules.specs.Books.{Heap}
+use Rattle.rules.specs.Blocks.{classOf, sizeOf, live}
+use Rattle.rules.specs.Outcome.{Outcome}
+use Rattle.rules.specs.Ask.{askAnswer}
+use Rattle.rules.specs.Resize.{keeps}
+use Rattle.rules.specs.Numbers.{sizeNumber, ask, resize}
+use Rattle.laws.specs.Plain.{Plain, planAsk as plainAsk}
+use Rattle.laws.specs.Sizes.{Aligned, has-class}
+use Rattle.laws.specs.Sound.{Sound}
+use Rattle.laws.specs.Holding.{holding, live-rows, holding-more, holding-none}
+use Rattle.laws.specs.Calls.{DoneOrNot, done-or-not, ask-size, ask-done, ask-is, size-number, block-of}
+use Rattle.laws.specs.Resized.{resize-size, resize-dead, resize-keeps, resize-none, resize-moves}
+
+module _ {al A P : ℕ} {h : Heap} {r : Plain} (L : Aligned al) (S : Sound al A P h r) where
+  pub live-held : (o : ℕ) → live al A P (h .books) (h .map) o ≡ true → holding al A P h o ≢ []
+  live-held o e q = absurd (omega (arith, holding-more L S o (live-rows L S o e), ap length q))
+
+  -- where the plain heap's ask hands a block out
+  handed-free : (n : ℕ) → 1 ≤ n → (hi : n ≤ 512) → askAnswer (plainAsk al P r (classOf al n)) .number ≡ 0 → holding al A P h (askAnswer (plainAsk al P r (classOf al n)) .offset) ≡ []
+  handed-free n lo hi z = let D = ask-done L S n lo hi in holding-none L S (D .sound) (D .quiet) (has-class L n hi) (D .hand z)
+
+  pub ask-free : (n : ℕ) → ask al h n .answer .number ≡ 0 → holding al A P h (ask al h n .answer .offset) ≡ []
+  ask-free n = by-size (size-number n)
+    where
+      by-size : ((1 ≤ n) × (n ≤ 512)) ⊎ (sizeNumber n ≡ 3) → ask al h n .answer .number ≡ 0 → holding al A P h (ask al h n .answer .offset) ≡ []
+      by-size (inl t) = rw (ask-is L S n (t .0) (t .1)) (handed-free n (t .0) (t .1))
+      by-size (inr e) = rw (ask-size L S n e) (λ z. absurd (omega arith))
+
+  pub resize-free : (o n : ℕ) → resize al h o n .answer .number ≡ 0 → resize al h o n .answer .offset ≢ o → holding al A P h (resize al h o n .answer .offset) ≡ []
+  resize-free o n = by-size (size-number n)
+    where
+      Q : Outcome → Type 0
+      Q y = y .answer .number ≡ 0 → y .answer .offset ≢ o → holding al A P h (y .answer .offset) ≡ []
+
+      by-room : (lo : 1 ≤ n) (hi : n ≤ 512) (e : live al A P (h .books) (h .map) o ≡ true) → keeps (sizeOf al (r .class (block-of L S o e .pool))) n ≡ false
+          → DoneOrNot al P r (classOf al n) → Q (resize al h o n)
+      by-room lo hi e q (inl z) = rw (resize-moves L S o n lo hi e z q) (λ _ _. handed-free n lo hi z)
+      by-room lo hi e q (inr z) = rw (resize-none L S o n lo hi e q (z .plan-is)) (λ k. absurd (omega arith))
+
+      by-keep : (lo : 1 ≤ n) (hi : n ≤ 512) (e : live al A P (h .books) (h .map) o ≡ true) (b : Bool) → keeps (sizeOf al (r .class (block-of L S o e .pool))) n ≡ b → Q (resize al h o n)
+      by-keep lo hi e true q = rw (resize-keeps L S o n lo hi e q) (λ _ d. absurd (d refl))
+      by-keep lo hi e false q = by-room lo hi e q (done-or-not al P r (classOf al n))
+
+      by-live : (lo : 1 ≤ n) (hi : n ≤ 512) (b : Bool) → live al A P (h .books) (h .map) o ≡ b → Q (resize al h o n)
+      by-live lo hi false e = rw (resize-dead L S o n lo hi e) (λ k. absurd (omega arith))
+      by-live lo hi true e = by-keep lo hi e (keeps (sizeOf al (r .class (block-of L S o e .pool))) n) refl
+
+      by-size : ((1 ≤ n) × (n ≤ 512)) ⊎ (sizeNumber n ≡ 3) → Q (resize al h o n)
+      by-size (inl t) = by-live (t .0) (t .1) (live al A P (h .books) (h .map) o) refl
+      by-size (inr e) = rw (resize-size L S o n e) (λ k. absurd (omega arith))

@@ -1,0 +1,205 @@
+-- Demand 1, over any heap at all: a call that is refused changes nothing, but for the half-done resize; and which calls never give 6.
+-- It holds because a test that fails answers its number over the heap as it was, and so does a path that ends at a broken rule.
+-- Assumes nothing.
+use mathlib.Core.Path.{_≡_, refl, sym, ap, _∙_}
+use mathlib.Core.Logic.{_≢_, _⊎_, inl, inr}
+use mathlib.Core.Bool.{Bool, true, false, not}
+use mathlib.Core.List.{List}
+use Prim.Native.Nat.{ℕ, zero, suc, _/_, min}
+use native.Mathlib.Omega.{arith}
+use lib.Dec.{ltb}
+use lib.ListN.{length}
+use Rattle.rules.specs.declared.Sized.{Sized}
+use Rattle.rules.specs.declared.AskPlan.{AskPlan}
+use Rattle.rules.specs.declared.AskPlan.the-variants.{NoRoom, Damaged, Follow, Ready, Last, Again, Anew}
+use Rattle.rules.specs.declared.BackPlan.{BackPlan}
+use Rattle.rules.specs.declared.BackPlan.the-variants.{Damaged as Broken, Joins, Stays, Empties, Returns, Releases}
+use Rattle.rules.specs.Say.{if_then_else_}
+use Rattle.rules.specs.Books.{Heap, inRange, exact, arenas, pools}
+use Rattle.rules.specs.Blocks.{sizeAt, live, liveNumber}
+use Rattle.rules.specs.Outcome.{Outcome, outcome, answerOf, done, refused, passing}
+use Rattle.rules.specs.Ask.{askAnswer, afterAsk, asked, askStep}
+use Rattle.rules.specs.GiveBack.{backAnswer, afterBack, givenBack, backStep}
+use Rattle.rules.specs.Resize.{keeps, copy, giveOld, halfDone, moved, resizeStep}
+use Rattle.rules.specs.Numbers.{RollOutcome, fitNumber, shapeNumber, sizeNumber, roomNumber, _before_, inOrder, offsetNumber, blockSize, rollOf, rollOutcome, sizedOf, format, ask, giveBack, resize, viewSize, write, rollCall}
+use Rattle.books.specs.Tests.{either}
+
+-- ---- a refusal leaves the heap h as it was
+abbrev pub Unchanged : Heap → Outcome → Type 0
+Unchanged h x = x .answer .number ≢ 0 → x ≡ refused (x .answer .number) h
+
+-- by the tests, or by what comes after them
+tested : (h : Heap) (k : ℕ) (x : Outcome) → Unchanged h x → Unchanged h (passing k (λ j. refused j h) x)
+tested h zero x t = t
+tested h (suc k) x t = λ _. refl
+
+-- what is done is no refusal
+was-done : {h : Heap} {x : Outcome} → x .answer .number ≡ 0 → Unchanged h x
+was-done e n = absurd (n e)
+
+ask-path : (al A P c : ℕ) (h : Heap) (q : AskPlan) → Unchanged h (asked al A P c h q)
+unfolding askAnswer afterAsk
+ask-path al A P c h NoRoom = λ _. refl
+ask-path al A P c h Damaged = λ _. refl
+ask-path al A P c h (Follow p f l) = was-done refl
+ask-path al A P c h (Ready p f m) = was-done refl
+ask-path al A P c h (Last p f) = was-done refl
+ask-path al A P c h (Again a p f l) = was-done refl
+ask-path al A P c h (Anew s p) = was-done refl
+
+back-path : (al A P c : ℕ) (h : Heap) (o : ℕ) (q : BackPlan) → Unchanged h (givenBack al A P c h o q)
+unfolding backAnswer afterBack
+back-path al A P c h o Broken = λ _. refl
+back-path al A P c h o Joins = was-done refl
+back-path al A P c h o Stays = was-done refl
+back-path al A P c h o Empties = was-done refl
+back-path al A P c h o Returns = was-done refl
+back-path al A P c h o Releases = was-done refl
+
+ask-step : (al A P : ℕ) (h : Heap) (n : ℕ) → Unchanged h (askStep al A P h n)
+unfolding askStep
+ask-step al A P h n = ask-path al A P _ h _
+
+back-step : (al A P : ℕ) (h : Heap) (o : ℕ) → Unchanged h (backStep al A P h o)
+unfolding backStep
+back-step al A P h o = back-path al A P _ h o _
+
+pub format-refused : (h : Heap) (A P : ℕ) → Unchanged h (format h A P)
+unfolding format
+format-refused h A P = tested h (fitNumber h A P) _ (was-done refl)
+
+module _ (al : ℕ) (h : Heap) where
+  pub ask-refused : (n : ℕ) → Unchanged h (ask al h n)
+  unfolding ask
+  ask-refused n = tested h (inOrder (shapeNumber h) (sizeNumber n) 0 0) _ (ask-step al (arenas h) (pools h) h n)
+
+  pub back-refused : (o : ℕ) → Unchanged h (giveBack al h o)
+  unfolding giveBack
+  back-refused o = tested h (inOrder (shapeNumber h) 0 (offsetNumber al h o) 0) _ (back-step al (arenas h) (pools h) h o)
+
+  pub write-refused : (o : ℕ) (text : List ℕ) → Unchanged h (write al h o text)
+  unfolding write
+  write-refused o text = tested h (inOrder (shapeNumber h) 0 (offsetNumber al h o) (roomNumber (length text) (blockSize al h o))) _ (was-done refl)
+
+  -- roll call leaves the lent words
+  pub roll-refused : (words : List ℕ) → rollCall al h words .answer .number ≢ 0 → rollCall al h words ≡ rollOutcome (rollCall al h words .answer .number) 0 words
+  unfolding rollCall
+  roll-refused words = go (inOrder (shapeNumber h) 0 0 (roomNumber (length (rollOf al h)) (length words))) _
+    where
+      Q : RollOutcome → Type 0
+      Q x = x .answer .number ≢ 0 → x ≡ rollOutcome (x .answer .number) 0 words
+
+      go : (k : ℕ) (v : List ℕ) → Q (passing k (λ j. rollOutcome j 0 words) (rollOutcome 0 (length (rollOf al h) / 2) v))
+      go zero v n = absurd (n refl)
+      go (suc k) v n = refl
+
+  -- ---- the half-done resize x of o to n: 6 with the new offset, and the ask and the copy stand
+  abbrev A : ℕ
+  A = arenas h
+
+  abbrev P : ℕ
+  P = pools h
+
+  pub record HalfDone (o n : ℕ) (x : Outcome) : Type 0 where
+    pub handed-out : askStep al A P h n .answer .number ≡ 0
+    pub answers : x .answer ≡ answerOf 6 (askStep al A P h n .answer .offset)
+    pub stands : x .heap ≡ copy o (askStep al A P h n .answer .offset) (min n (sizeAt al A (h .books) o)) (askStep al A P h n .heap)
+
+  module _ (o n : ℕ) where
+    -- what the ask leaves, and the copy; and the give-back that comes after them
+    abbrev asked-new : Outcome
+    asked-new = askStep al A P h n
+
+    abbrev copied : Heap
+    copied = copy o (asked-new .answer .offset) (min n (sizeAt al A (h .books) o)) (asked-new .heap)
+
+    abbrev back : Outcome
+    back = giveOld al A P copied o
+
+    back-unchanged : Unchanged copied back
+    unfolding giveOld
+    back-unchanged = tested copied (liveNumber al A P (copied .books) (copied .map) o) _ (back-step al A P copied o)
+
+    abbrev Fair : Outcome → Type 0
+    Fair x = x .answer .number ≢ 0 → (x ≡ refused (x .answer .number) h) ⊎ HalfDone o n x
+
+    by-back : asked-new .answer .number ≡ 0 → (i : ℕ) → back .answer .number ≡ i
+        → Fair (passing i (λ k. outcome (answerOf 6 (asked-new .answer .offset)) (back .heap)) (done (asked-new .answer .offset) (back .heap)))
+    by-back e zero f d = absurd (d refl)
+    by-back e (suc i) f d = inr (record {
+      handed-out = e;
+      answers = refl;
+      stands = ap (λ (x : Outcome). x .heap) (back-unchanged (λ z. absurd (omega (arith, f, z))));
+    })
+
+    by-ask : (j : ℕ) → asked-new .answer .number ≡ j → Fair (passing j (λ number. asked-new) (halfDone al A P (asked-new .answer .offset) back))
+    by-ask zero e d = by-back e (back .answer .number) refl d
+    by-ask (suc j) e d = inl (ask-step al A P h n d)
+
+    by-size : (t : Bool) → Fair (if t then done o h else moved al A P o (min n (sizeAt al A (h .books) o)) asked-new)
+    unfolding moved
+    by-size true d = absurd (d refl)
+    by-size false d = by-ask (asked-new .answer .number) refl d
+
+    by-tests : (k : ℕ) → Fair (passing k (λ j. refused j h) (resizeStep al A P h o n))
+    unfolding resizeStep
+    by-tests zero d = by-size (keeps (sizeAt al A (h .books) o) n) d
+    by-tests (suc k) d = inl refl
+
+    -- a resize that is refused changed nothing, or is half done
+    pub resize-refused : resize al h o n .answer .number ≢ 0 → (resize al h o n ≡ refused (resize al h o n .answer .number) h) ⊎ HalfDone o n (resize al h o n)
+    unfolding resize
+    resize-refused = by-tests (inOrder (shapeNumber h) (sizeNumber n) (offsetNumber al h o) 0)
+
+-- ---- format, view, write and roll call never give 6: none of their tests does, and they take no step
+not-six : (t : Bool) (x y : ℕ) → x ≢ 6 → y ≢ 6 → (if t then x else y) ≢ 6
+not-six t x y u v = either (λ (n : ℕ). n ≢ 6) t x y (λ _. u) (λ _. v)
+
+before-six : (j k : ℕ) → j ≢ 6 → k ≢ 6 → (j before k) ≢ 6
+before-six zero k u v = v
+before-six (suc j) k u v = u
+
+fit-six : (h : Heap) (A P : ℕ) → fitNumber h A P ≢ 6
+unfolding fitNumber
+fit-six h A P = not-six (not (inRange A P)) 1 _ (omega arith) (not-six (not (exact A P h)) 2 0 (omega arith) (omega arith))
+
+shape-six : (h : Heap) → shapeNumber h ≢ 6
+unfolding shapeNumber
+shape-six h = not-six (ltb (length (h .books)) 2) 2 _ (omega arith) (fit-six h (arenas h) (pools h))
+
+live-six : (al A P : ℕ) (b m : List ℕ) (o : ℕ) → liveNumber al A P b m o ≢ 6
+unfolding liveNumber
+live-six al A P b m o = not-six (live al A P b m o) 0 5 (omega arith) (omega arith)
+
+room-six : (wanted room : ℕ) → roomNumber wanted room ≢ 6
+unfolding roomNumber
+room-six wanted room = not-six (ltb room wanted) 7 0 (omega arith) (omega arith)
+
+-- the number of a call that answers its tests' number, or 0
+module _ {X : Type 0} (number : X → ℕ) (refusal : ℕ → X) (is : (k : ℕ) → number (refusal k) ≡ k) (rest : X) (done-is : number rest ≡ 0) where
+  call-six : (k : ℕ) → k ≢ 6 → number (passing k refusal rest) ≢ 6
+  call-six zero d = λ e. absurd (omega (arith, e, done-is))
+  call-six (suc k) d = λ e. d (sym (is (suc k)) ∙ e)
+
+pub format-six : (h : Heap) (A P : ℕ) → format h A P .answer .number ≢ 6
+unfolding format
+format-six h A P = call-six (λ (x : Outcome). x .answer .number) (λ k. refused k h) (λ k. refl) _ refl (fitNumber h A P) (fit-six h A P)
+
+module _ (al : ℕ) (h : Heap) where
+  offset-six : (o room : ℕ) → room ≢ 6 → inOrder (shapeNumber h) 0 (offsetNumber al h o) room ≢ 6
+  offset-six o room d =
+      before-six (shapeNumber h) _ (shape-six h) (before-six (offsetNumber al h o) room (live-six al (arenas h) (pools h) (h .books) (h .map) o) d)
+
+  pub view-six : (o : ℕ) → viewSize al h o .number ≢ 6
+  unfolding viewSize
+  view-six o = call-six (λ (x : Sized). x .number) (λ k. sizedOf k 0) (λ k. refl) _ refl _ (offset-six o 0 (omega arith))
+
+  pub write-six : (o : ℕ) (text : List ℕ) → write al h o text .answer .number ≢ 6
+  unfolding write
+  write-six o text = call-six (λ (x : Outcome). x .answer .number) (λ k. refused k h) (λ k. refl) _ refl _ (offset-six o _ (room-six (length text) (blockSize al h o)))
+
+  pub roll-six : (words : List ℕ) → rollCall al h words .answer .number ≢ 6
+  unfolding rollCall
+  roll-six words =
+      call-six (λ (x : RollOutcome). x .answer .number) (λ k. rollOutcome k 0 words) (λ k. refl) _ refl _
+      (before-six (shapeNumber h) _ (shape-six h) (room-six (length (rollOf al h)) (length words)))
