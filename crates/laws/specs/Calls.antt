@@ -23,6 +23,7 @@ use Rattle.rules.specs.GiveBack.{backStep, backAnswer, afterBack}
 use Rattle.rules.specs.View.{part}
 use Rattle.rules.specs.Numbers.{fitNumber, shapeNumber, sizeNumber, ask, giveBack}
 use Rattle.books.specs.Known.{shaped}
+use Rattle.books.specs.Tests.{either}
 use Rattle.laws.specs.Update.{to}
 use Rattle.laws.specs.Plain.{Plain, count, free, none, front, rest, planAsk as plainAsk, planBack as plainBack, afterBack as plainAfterBack, fromListed, askPlain, backPlain}
 use Rattle.laws.specs.Sizes.{Aligned, has-class}
@@ -54,9 +55,8 @@ pub done-or-not : (al P : ℕ) (r : Plain) (c : ℕ) → DoneOrNot al P r c
 unfolding askAnswer
 done-or-not al P r c = by-class (r .listed c) refl
   where
-    either : (t : Bool) (x y : AskPlan) → askAnswer x .number ≡ 0 → askAnswer y .number ≡ 0 → askAnswer (if t then x else y) .number ≡ 0
-    either true x y e f = e
-    either false x y e f = f
+    done : (t : Bool) (x y : AskPlan) → askAnswer x .number ≡ 0 → askAnswer y .number ≡ 0 → askAnswer (if t then x else y) .number ≡ 0
+    done t x y e f = either (λ (q : AskPlan). askAnswer q .number ≡ 0) t x y (λ _. e) (λ _. f)
 
     by-unused : r .listed c ≡ [] → r .usable ≡ [] → (xs : List ℕ) → r .unused ≡ xs → DoneOrNot al P r c
     by-unused f g [] k = inr (record { plan-is = rw (f, g, k); listed = f; usable = g; unused = k })
@@ -64,7 +64,7 @@ done-or-not al P r c = by-class (r .listed c) refl
 
     by-freed : (a : ℕ) (us : List ℕ) → r .listed c ≡ [] → r .usable ≡ a ∷ us → (xs : List ℕ) → r .freed a ≡ xs → DoneOrNot al P r c
     by-freed a us f g [] k = inl (rw (f, g, k))
-    by-freed a us f g (p ∷ ps) k = inl (rw (f, g, k) (either (eqb (r .class p) c) _ _ refl refl))
+    by-freed a us f g (p ∷ ps) k = inl (rw (f, g, k) (done (eqb (r .class p) c) _ _ refl refl))
 
     by-usable : r .listed c ≡ [] → (xs : List ℕ) → r .usable ≡ xs → DoneOrNot al P r c
     by-usable f [] g = by-unused f g (r .unused) refl
@@ -72,7 +72,7 @@ done-or-not al P r c = by-class (r .listed c) refl
 
     by-chain : (p k : ℕ) (ks : List ℕ) → askAnswer (fromListed al P r c p k ks) .number ≡ 0
     by-chain p k (j ∷ js) = refl
-    by-chain p k [] = either (ltb (r .virgin p) (capacity (sizeOf al c))) _ _ refl refl
+    by-chain p k [] = done (ltb (r .virgin p) (capacity (sizeOf al c))) _ _ refl refl
 
     by-class : (xs : List ℕ) → r .listed c ≡ xs → DoneOrNot al P r c
     by-class [] f = by-usable f (r .usable) refl

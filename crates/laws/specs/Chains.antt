@@ -82,14 +82,13 @@ module _ (size : ℕ → ℕ) (p j n k : ℕ) (other : p ≡ n → j ≢ k) (e :
   pub block-outside : (d : ℕ) → d < size n → Outside (offsetOf p (startOf (size p) j)) (size p) (offsetOf n (startOf (size n) k) + d)
   block-outside d l = clear-outside (offsetOf p (startOf (size p) j)) (size p) (offsetOf n (startOf (size n) k)) (size n) d pools-apart l
 
--- the first 48 bytes of a pool are in no block
-pub first-outside : (s n k i : ℕ) → startOf s k + s ≤ 4096 → i % 4096 < 48 → Outside (offsetOf n (startOf s k)) s i
-first-outside s n k i e u = go (decLe (offsetOf n (startOf s k)) i) (decLe (offsetOf n (startOf s k) + s) i)
+-- the first 48 bytes of a pool are outside of what begins past them and ends in its pool
+pub first-outside : (p f n i : ℕ) → 48 ≤ f → f + n ≤ 4096 → i % 4096 < 48 → Outside (offsetOf p f) n i
+first-outside p f n i low high u = go (decLe (offsetOf p f) i)
   where
-    go : Dec (offsetOf n (startOf s k) ≤ i) → Dec (offsetOf n (startOf s k) + s ≤ i) → Outside (offsetOf n (startOf s k)) s i
-    go (no q) t = inl (omega arith)
-    go (yes q) (yes t) = inr t
-    go (yes q) (no t) = absurd (omega arith)
+    go : Dec (offsetOf p f ≤ i) → Outside (offsetOf p f) n i
+    go (no q) = inl (omega arith)
+    go (yes q) = inr (omega arith)
 
 -- whether k is on the chain
 abbrev pub among : ℕ → List ℕ → Bool

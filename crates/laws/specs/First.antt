@@ -7,7 +7,6 @@ use mathlib.Core.Bool.{Bool, true, false, not}
 use mathlib.Core.List.{List}
 use Prim.Native.Nat.{ℕ, zero, suc, _+_, _/_, _%_, _≤_, _<_, min}
 use native.Mathlib.Nat.{min-le-left}
-use native.Mathlib.Decide.{decLe}
 use native.Mathlib.Omega.{arith}
 use lib.Dec.{ltb}
 use lib.ListN.{length, take, drop, length-take}
@@ -29,11 +28,12 @@ use Rattle.rules.specs.Resize.{keeps, copy, giveOld, halfDone, moved, resizeSte
 use Rattle.rules.specs.Numbers.{fitNumber, shapeNumber, sizeNumber, roomNumber, _before_, inOrder, offsetNumber, blockSize, format, ask, giveBack, resize, write}
 use Rattle.books.specs.Known.{in-range, live-is}
 use Rattle.plans.specs.Fits.{FitsAsk, fits-ask}
-use Rattle.laws.specs.Bytes.{Outside, sets-off}
-use Rattle.laws.specs.Chains.{put-link-other}
+use Rattle.laws.specs.Bytes.{sets-off}
+use Rattle.laws.specs.Chains.{first-outside, put-link-other}
 use Rattle.laws.specs.Sizes.{Aligned, size-low, size-high, has-class, class-fits}
 use Rattle.laws.specs.Taken.{spend-is}
 use Rattle.laws.specs.Calls.{size-number}
+use Rattle.laws.specs.Refused.{tested}
 
 -- memory m′ has the first bytes of m's pools
 abbrev pub First : List ℕ → List ℕ → Type 0
@@ -43,18 +43,11 @@ through : (m m′ m″ : List ℕ) → First m m′ → First m′ m″ → Firs
 through m m′ m″ f g i l = g i l ∙ f i l
 
 -- ---- bytes in a block that begins at f in pool p
-outside : (p f n i : ℕ) → 48 ≤ f → f + n ≤ 4096 → i % 4096 < 48 → Outside (offsetOf p f) n i
-outside p f n i low high l = go (decLe (offsetOf p f) i)
-  where
-    go : Dec (offsetOf p f ≤ i) → Outside (offsetOf p f) n i
-    go (no d) = inl (omega arith)
-    go (yes d) = inr (omega arith)
-
 link-first : (m : List ℕ) (v p f : ℕ) → 48 ≤ f → f + 8 ≤ 4096 → First m (putLink (offsetOf p f) v m)
-link-first m v p f low high i l = put-link-other m (offsetOf p f) v i (outside p f 4 i low (omega arith) l)
+link-first m v p f low high i l = put-link-other m (offsetOf p f) v i (first-outside p f 4 i low (omega arith) l)
 
 text-first : (m text : List ℕ) (p f : ℕ) → 48 ≤ f → f + length text ≤ 4096 → First m (sets m (offsetOf p f) text)
-text-first m text p f low high i l = sets-off m (offsetOf p f) text i (outside p f (length text) i low high l)
+text-first m text p f low high i l = sets-off m (offsetOf p f) text i (first-outside p f (length text) i low high l)
 
 -- ---- an ask
 -- taking a pool writes no memory
@@ -229,14 +222,13 @@ format-first h A P = go (fitNumber h A P) _ _
 
 module _ {al : ℕ} (L : Aligned al) (h : Heap) where
   -- a refusal, or what comes after the tests
-  tested : (k : ℕ) (x : Outcome) → (k ≡ 0 → First (h .memory) (x .heap .memory)) → First (h .memory) (passing k (λ j. refused j h) x .heap .memory)
-  tested zero x f = f refl
-  tested (suc k) x f = λ i l. refl
+  after-tests : (k : ℕ) (x : Outcome) → (k ≡ 0 → First (h .memory) (x .heap .memory)) → First (h .memory) (passing k (λ j. refused j h) x .heap .memory)
+  after-tests k x = tested (λ (y : Outcome). First (h .memory) (y .heap .memory)) h k x (λ j i l. refl)
 
   pub ask-first : (n : ℕ) → First (h .memory) (ask al h n .heap .memory)
   unfolding ask
   ask-first n =
-      tested (inOrder (shapeNumber h) (sizeNumber n) 0 0) (askStep al (arenas h) (pools h) h n)
+      after-tests (inOrder (shapeNumber h) (sizeNumber n) 0 0) (askStep al (arenas h) (pools h) h n)
       (λ e.
       let t = before-zero (shapeNumber h) (sizeNumber n before 0 before 0) e in
       let u = before-zero (sizeNumber n) (0 before 0) (t .1) in
@@ -245,7 +237,7 @@ module _ {al : ℕ} (L : Aligned al) (h : Heap) where
   pub back-first : (o : ℕ) → First (h .memory) (giveBack al h o .heap .memory)
   unfolding giveBack
   back-first o =
-      tested (inOrder (shapeNumber h) 0 (offsetNumber al h o) 0) (backStep al (arenas h) (pools h) h o)
+      after-tests (inOrder (shapeNumber h) 0 (offsetNumber al h o) 0) (backStep al (arenas h) (pools h) h o)
       (λ e.
       let t = before-zero (shapeNumber h) (0 before offsetNumber al h o before 0) e in
       let u = before-zero (offsetNumber al h o) 0 (t .1) in
@@ -254,7 +246,7 @@ module _ {al : ℕ} (L : Aligned al) (h : Heap) where
   pub resize-first : (o n : ℕ) → First (h .memory) (resize al h o n .heap .memory)
   unfolding resize
   resize-first o n =
-      tested (inOrder (shapeNumber h) (sizeNumber n) (offsetNumber al h o) 0) (resizeStep al (arenas h) (pools h) h o n)
+      after-tests (inOrder (shapeNumber h) (sizeNumber n) (offsetNumber al h o) 0) (resizeStep al (arenas h) (pools h) h o n)
       (λ e.
       let t = before-zero (shapeNumber h) (sizeNumber n before offsetNumber al h o before 0) e in
       let u = before-zero (sizeNumber n) (offsetNumber al h o before 0) (t .1) in
@@ -263,7 +255,7 @@ module _ {al : ℕ} (L : Aligned al) (h : Heap) where
   pub write-first : (o : ℕ) (text : List ℕ) → First (h .memory) (write al h o text .heap .memory)
   unfolding write
   write-first o text =
-      tested (inOrder (shapeNumber h) 0 (offsetNumber al h o) (roomNumber (length text) (blockSize al h o))) _
+      after-tests (inOrder (shapeNumber h) 0 (offsetNumber al h o) (roomNumber (length text) (blockSize al h o))) _
       (λ e.
       let t = before-zero (shapeNumber h) (0 before offsetNumber al h o before roomNumber (length text) (blockSize al h o)) e in
       let u = before-zero (offsetNumber al h o) (roomNumber (length text) (blockSize al h o)) (t .1) in

@@ -46,7 +46,7 @@ pub quiet-link : {al A P : ℕ} {U : View} {m m₀ k : List ℕ} {r : Plain} →
 quiet-link {al} {A} {P} {U} {m} {m₀} {k} {r} L F p j v c l dead =
     record {
       same-length = length-link m _ v;
-      first-bytes = λ i u. put-link-other m _ v i (outside-less four (first-outside (sizeOf al (r .class p)) p j i ends u));
+      first-bytes = λ i u. put-link-other m _ v i (outside-less four (first-outside p (startOf (sizeOf al (r .class p)) j) (sizeOf al (r .class p)) i (omega arith) ends u));
       live-bytes = λ n i d ln on u. put-link-other m _ v _ (outside-less four (block-outside (λ y. sizeOf al (r .class y)) p j n i (other n i on) ends (live-ends n i ln on) d u));
     }
   where

@@ -28,10 +28,13 @@ use Rattle.books.specs.Tests.{either}
 abbrev pub Unchanged : Heap → Outcome → Type 0
 Unchanged h x = x .answer .number ≢ 0 → x ≡ refused (x .answer .number) h
 
--- by the tests, or by what comes after them
-tested : (h : Heap) (k : ℕ) (x : Outcome) → Unchanged h x → Unchanged h (passing k (λ j. refused j h) x)
-tested h zero x t = t
-tested h (suc k) x t = λ _. refl
+-- what holds of every refusal over h, and of what comes after the tests
+pub tested : (F : Outcome → Type 0) (h : Heap) (k : ℕ) (x : Outcome) → ((j : ℕ) → F (refused j h)) → (k ≡ 0 → F x) → F (passing k (λ j. refused j h) x)
+tested F h zero x f g = g refl
+tested F h (suc k) x f g = f (suc k)
+
+after-tests : (h : Heap) (k : ℕ) (x : Outcome) → Unchanged h x → Unchanged h (passing k (λ j. refused j h) x)
+after-tests h k x t = tested (Unchanged h) h k x (λ j _. refl) (λ _. t)
 
 -- what is done is no refusal
 was-done : {h : Heap} {x : Outcome} → x .answer .number ≡ 0 → Unchanged h x
@@ -66,20 +69,20 @@ back-step al A P h o = back-path al A P _ h o _
 
 pub format-refused : (h : Heap) (A P : ℕ) → Unchanged h (format h A P)
 unfolding format
-format-refused h A P = tested h (fitNumber h A P) _ (was-done refl)
+format-refused h A P = after-tests h (fitNumber h A P) _ (was-done refl)
 
 module _ (al : ℕ) (h : Heap) where
   pub ask-refused : (n : ℕ) → Unchanged h (ask al h n)
   unfolding ask
-  ask-refused n = tested h (inOrder (shapeNumber h) (sizeNumber n) 0 0) _ (ask-step al (arenas h) (pools h) h n)
+  ask-refused n = after-tests h (inOrder (shapeNumber h) (sizeNumber n) 0 0) _ (ask-step al (arenas h) (pools h) h n)
 
   pub back-refused : (o : ℕ) → Unchanged h (giveBack al h o)
   unfolding giveBack
-  back-refused o = tested h (inOrder (shapeNumber h) 0 (offsetNumber al h o) 0) _ (back-step al (arenas h) (pools h) h o)
+  back-refused o = after-tests h (inOrder (shapeNumber h) 0 (offsetNumber al h o) 0) _ (back-step al (arenas h) (pools h) h o)
 
   pub write-refused : (o : ℕ) (text : List ℕ) → Unchanged h (write al h o text)
   unfolding write
-  write-refused o text = tested h (inOrder (shapeNumber h) 0 (offsetNumber al h o) (roomNumber (length text) (blockSize al h o))) _ (was-done refl)
+  write-refused o text = after-tests h (inOrder (shapeNumber h) 0 (offsetNumber al h o) (roomNumber (length text) (blockSize al h o))) _ (was-done refl)
 
   -- roll call leaves the lent words
   pub roll-refused : (words : List ℕ) → rollCall al h words .answer .number ≢ 0 → rollCall al h words ≡ rollOutcome (rollCall al h words .answer .number) 0 words
@@ -118,7 +121,7 @@ module _ (al : ℕ) (h : Heap) where
 
     back-unchanged : Unchanged copied back
     unfolding giveOld
-    back-unchanged = tested copied (liveNumber al A P (copied .books) (copied .map) o) _ (back-step al A P copied o)
+    back-unchanged = after-tests copied (liveNumber al A P (copied .books) (copied .map) o) _ (back-step al A P copied o)
 
     abbrev Fair : Outcome → Type 0
     Fair x = x .answer .number ≢ 0 → (x ≡ refused (x .answer .number) h) ⊎ HalfDone o n x

@@ -107,7 +107,7 @@ module _ {al A P : ℕ} {h : Heap} {r : Plain} (L : Aligned al) (S : Sound al A 
       record {
         sound = written-sound;
         holds = λ x. go x (ℕ-discrete x o);
-        first = λ i u. same i (subst (λ (x : ℕ). Outside x (liveSize t) i) (sym (t .place)) (first-outside (liveSize t) (t .pool) (t .block) i (live-ends t) u));
+        first = λ i u. same i (subst (λ (x : ℕ). Outside x (liveSize t) i) (sym (t .place)) (first-outside (t .pool) (startOf (liveSize t) (t .block)) (liveSize t) i (omega arith) (live-ends t) u));
       }
     where
       go : (x : ℕ) → Dec (x ≡ o) → holding al A P (heapOf m′ (h .books) (h .map)) x ≡ to o (part o (liveSize t) m′) (holding al A P h) x
