@@ -12,13 +12,14 @@ use borrow.Author.Tests.{eq-eqb, ne-eqb, le-ltb}
 use Rattle.rules.specs.declared.Source.{Source}
 use Rattle.rules.specs.declared.Source.the-variants.{Freed, Carved, Opened}
 use Rattle.rules.specs.Say.{_▷_}
-use Rattle.rules.specs.Books.{Heap, at, put, onMemory, onMap, putMapBit, usableHead, unusedHead, openWord, carveMark, freePools, freedHead, arenaWord, arena, count, freeblock, poolNext, poolPrevious, class, noClass, poolWord, pool, putWord, offsetOf}
+use Rattle.rules.specs.Books.{Heap, at, put, onMemory, onMap, putMapBit, usableHead, unusedHead, classHead, openWord, carveMark, freePools, freedHead, arenaWord, arena, count, freeblock, poolNext, poolPrevious, class, noClass, nextoffset, poolWord, pool, putWord, rise, offsetOf}
 use Rattle.rules.specs.Blocks.{isStart, blockNo}
-use Rattle.rules.specs.Lists.{nextAt, previousAt, leaveBy, leave, join, arenaLinks, poolLinks, arenaLeaves, arenaJoins}
+use Rattle.rules.specs.Lists.{nextAt, previousAt, leaveBy, leave, join, arenaLinks, poolLinks, arenaLeaves, arenaJoins, poolLeaves}
 use Rattle.rules.specs.Outcome.{heapOf, answerOf, outcome}
 use Rattle.rules.specs.Ask.{carve, takeFrom, arenaOf, spend}
 use Rattle.books.specs.Lists.{pool-leaves, leave-keeps, length-leaveBy, length-joinBy, Links}
-use Rattle.books.specs.Records.{poolAt, putPool, taken, take-stored, other-word}
+use Rattle.books.specs.declared.pool.Pool.{Pool}
+use Rattle.books.specs.Records.{poolAt, putPool, taken, exposed, take-stored, expose-stored, other-word}
 use Rattle.books.specs.Starts.{Start, start-is}
 use Rattle.plans.specs.Fits.{Gives, FitsSource}
 use Rattle.asks.specs.Answers.{answered}
@@ -47,21 +48,28 @@ handed s p f h h′ r k low left answer set =
 pub starts : (s o : ℕ) → Start s o → isStart s o ≡ true
 starts s o t = rw (t .place) at (start-is s (blockNo s o) (t .number))
 
--- a pool's links are words of its record
-pub pool-links : (most A n : ℕ) (b : List ℕ) → Links most (poolLinks A) n b
-    → (pool A b poolNext n ≤ most) × (pool A b poolPrevious n ≤ most)
-pool-links most A n b l =
-    let next : poolWord A poolNext n ≡ nextAt (poolLinks A) n = omega arith in
-    let previous : poolWord A poolPrevious n ≡ previousAt (poolLinks A) n = omega arith in
-    (rw next (l .next), rw previous (l .previous))
+-- ---- the record q of pool n was loaded from b, and b′ are the books with what a method made of it stored there
+module _ (A n : ℕ) (q t : Pool) (b b′ : List ℕ) (loaded : q ≡ poolAt A b n) (stored : b′ ≡ putPool A n t b) where
+  pub take-writes : (link : ℕ) → t ≡ taken q link
+      → Writes (λ h. h ▷ rise (poolWord A count n) ▷ putWord (poolWord A freeblock n) link) b b′
+  take-writes link e = record { same = λ m k. rw (stored, e, loaded) (ap (λ (x : List ℕ). heapOf m x k) (take-stored A n b link)) }
 
--- a pool of whose record a block was taken leaves its list by the links that it had before
-pub taken-leaves : (A head link n : ℕ) (b : List ℕ)
-    → leaveBy (poolLinks A) head (pool A b poolNext n) (pool A b poolPrevious n) n (putPool A n (taken (poolAt A b n) link) b)
-    ≡ leave (poolLinks A) head n (b ▷ put (poolWord A count n) (pool A b count n + 1) ▷ put (poolWord A freeblock n) link)
-taken-leaves A head link n b =
-    ap (leaveBy (poolLinks A) head (pool A b poolNext n) (pool A b poolPrevious n) n) (take-stored A n b link)
-    ∙ sym (pool-leaves A head (pool A b poolNext n) (pool A b poolPrevious n) n _ (simp other-word) (simp other-word))
+  -- its nextoffset being i
+  pub expose-writes : (i size : ℕ) → i ≡ q .nextoffset → t ≡ exposed q size
+      → Writes (λ h. h ▷ rise (poolWord A count n) ▷ putWord (poolWord A freeblock n) i ▷ putWord (poolWord A nextoffset n) (i + size)) b b′
+  expose-writes i size next e =
+      record { same = λ m k. rw (stored, e, next, loaded) (ap (λ (x : List ℕ). heapOf m x k) (expose-stored A n b size)) }
+
+  -- and then the pool left the list of class c, by the links that its record had
+  pub last-writes : (c : ℕ) (b″ : List ℕ) → t ≡ taken q 0 → b″ ≡ leaveBy (poolLinks A) (classHead c) (q .next) (q .previous) n b′
+      → Writes (λ h. h ▷ rise (poolWord A count n) ▷ putWord (poolWord A freeblock n) 0 ▷ poolLeaves A c n) b b″
+  last-writes c b″ e left =
+      record {
+        same = λ m k. rw (left, stored, e, loaded)
+            (ap (λ (x : List ℕ). heapOf m (leaveBy (poolLinks A) (classHead c) (pool A b poolNext n) (pool A b poolPrevious n) n x) k) (take-stored A n b 0)
+            ∙ ap (λ (x : List ℕ). heapOf m x k)
+            (sym (pool-leaves A (classHead c) (pool A b poolNext n) (pool A b poolPrevious n) n _ (simp other-word) (simp other-word))));
+      }
 
 -- ---- an arena is opened
 -- "the unused head leaves its list and joins the usable one (open 1, carve mark and freed-pool head 0, free pools P)"

@@ -2,7 +2,7 @@
 -- Assumes nothing.
 use mathlib.Core.Path.{_≡_, refl, ap₂, ap, _∙_}
 use mathlib.Core.Logic.{_≢_}
-use mathlib.Core.Bool.{Bool, true, false}
+use mathlib.Core.Bool.{Bool, true, false, _&&_}
 use mathlib.Core.List.{List}
 use Prim.Native.Nat.{ℕ, _+_, _*_, _≤_, _<_}
 use native.Mathlib.Omega.{arith}
@@ -54,6 +54,11 @@ pub pool-leaves : (A head next previous n : ℕ) (b : List ℕ) → pool A b poo
     → leave (poolLinks A) head n b ≡ leaveBy (poolLinks A) head next previous n b
 pool-leaves A head next previous n b e f =
     leave-reads (poolLinks A) head next previous n b (ap (at b) (omega arith) ∙ e) (ap (at b) (omega arith) ∙ f)
+
+-- and so are the words of the rule for leaving
+pub pool-may-leave : (most A n : ℕ) (b : List ℕ)
+    → mayLeave most (poolLinks A) n b ≡ (leb (pool A b poolNext n) most && leb (pool A b poolPrevious n) most)
+pool-may-leave most A n b = ap₂ (λ (x y : ℕ). leb (at b x) most && leb (at b y) most) (omega arith) (omega arith)
 
 -- ---- a word that they don't write stays
 only-keeps : (t : Bool) (i v : ℕ) (b : List ℕ) (j d : ℕ) → j ≢ i → getD (only t (put i v) b) j d ≡ getD b j d

@@ -1,12 +1,13 @@
--- A pool record as a struct: the one that the books hold of pool n, the books with one stored there, and what the methods make of one.
+-- A pool record as a struct: the one that the books hold of pool n, the books with one stored there, what the methods ask of one and what
+-- they make of it.
 -- Assumes nothing.
 use mathlib.Core.Path.{_≡_, refl, sym, ap, _∙_}
-use mathlib.Core.Bool.{false}
+use mathlib.Core.Bool.{Bool, true, false, _&&_}
 use mathlib.Core.List.{List}
-use Prim.Native.Nat.{ℕ, zero, suc, _+_, _*_, _-_}
+use Prim.Native.Nat.{ℕ, zero, suc, _+_, _*_, _-_, _≤_}
 use native.Mathlib.Omega.{arith}
-use lib.Dec.{eqb}
-use borrow.Author.Tests.{eqb-false}
+use lib.Dec.{leb, eqb}
+use borrow.Author.Tests.{eqb-false, leb-true}
 use lib.ListN.{length}
 use lib.Seq.{getD-set-other, set-getD, set-comm}
 use Rattle.rules.specs.Say.{_▷_}
@@ -14,6 +15,7 @@ use Rattle.rules.specs.Books.{at, put, count, freeblock, poolNext, poolPrevious
 use Rattle.rules.specs.Blocks.{lastStart}
 use Rattle.rules.specs.Format.{freshArenas, freshPools}
 use Rattle.books.specs.declared.pool.Pool.{Pool}
+use Rattle.books.specs.Tests.{both}
 
 -- the eighth word of a record
 abbrev pub spare : ℕ
@@ -58,6 +60,24 @@ putPool A n p b =
     ▷ put (poolWord A maxnextoffset n) (p .maxnextoffset)
     ▷ put (poolWord A freeblock n) (p .freeblock)
     ▷ put (poolWord A spare n) (p .spare)
+
+-- ---- what the methods ask
+-- of a pool on the list of class c, of blocks of the given size, from which one is to be taken
+abbrev pub mayServe : Pool → ℕ → ℕ → Bool
+mayServe p c size = eqb (p .class) c && eqb (p .maxnextoffset) (lastStart size) && leb (p .count) 505
+
+-- of a pool to which a block is to be given back
+abbrev pub mayGive : Pool → Bool
+mayGive p = leb 1 (p .count) && leb (p .count) 506
+
+-- of a pool that is to leave its list: its links are at most `most`
+abbrev pub linksLead : Pool → ℕ → Bool
+linksLead p most = leb (p .next) most && leb (p .previous) most
+
+pub leads : (p : Pool) (most : ℕ) → linksLead p most ≡ true → (p .next ≤ most) × (p .previous ≤ most)
+leads p most e =
+    let t = both (leb (p .next) most) (leb (p .previous) most) e in
+    (leb-true (p .next) most (t .0), leb-true (p .previous) most (t .1))
 
 -- ---- what the methods hand back
 -- a block is taken, and freeblock becomes its link

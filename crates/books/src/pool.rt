@@ -1,10 +1,10 @@
-// A pool record: loaded from the books as a struct, changed by value, stored again.
+// A pool record: loaded from the books as a struct, tested and changed by value, stored again.
 use crate::words;
 ghost use mathlib.Core.Path.{_≡_};
 ghost use Prim.Native.Nat.{_+_, _*_, _^_, _<_, _≤_};
 ghost use lib.ListN.{length};
 ghost use Rattle.rules.specs.Books.{poolWord};
-ghost use Rattle.books.specs.Records.{poolAt, putPool, taken, exposed, given, takenAgain, setTo};
+ghost use Rattle.books.specs.Records.{poolAt, putPool, mayServe, mayGive, linksLead, taken, exposed, given, takenAgain, setTo};
 
 pub struct Pool {
     pub count: u32,
@@ -52,6 +52,30 @@ pub fn store_pool(books: &mut [u32], arenas: usize, n: usize, p: Pool)
 }
 
 impl Pool {
+    // A block of this class and size may be taken: what is asked of the class, the last start and the count.
+    pub fn may_serve(self, class: usize, size: usize) -> bool
+        requires { ⌜ size ≤ 512 ⌝ }
+        ensures { λ r. ⌜ r ≡ mayServe self class size ⌝ }
+    {
+        (words::index(self.class) == class)
+            & (words::index(self.maxnextoffset) == 4096 - size)
+            & (self.count <= 505)
+    }
+
+    // A block may be given back: what is asked of the count.
+    pub fn may_give(self) -> bool
+        ensures { λ r. ⌜ r ≡ mayGive self ⌝ }
+    {
+        (1 <= self.count) & (self.count <= 506)
+    }
+
+    // The pool may leave its list: neither link leads past the last of so many pools.
+    pub fn may_leave(self, most: usize) -> bool
+        ensures { λ r. ⌜ r ≡ linksLead self most ⌝ }
+    {
+        (words::index(self.next) <= most) & (words::index(self.previous) <= most)
+    }
+
     // A block is taken; freeblock becomes its link.
     pub fn take(mut self, link: u32) -> Pool
         requires { ⌜ self .count ≤ 505 ⌝ }

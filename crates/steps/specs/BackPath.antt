@@ -9,11 +9,14 @@ use borrow.Author.Tests.{eq-eqb, ne-eqb}
 use Rattle.rules.specs.declared.BackPlan.{BackPlan}
 use Rattle.rules.specs.declared.BackPlan.the-variants.{Damaged, Joins, Stays, Empties, Returns, Releases}
 use Rattle.rules.specs.Say.{if_then_else_, _▷_}
-use Rattle.rules.specs.Books.{Heap, onBooks, usableHead, unusedHead, classHead, freePools, freedHead, arena, count, freeblock, pool, none?}
+use Rattle.rules.specs.Books.{Heap, onBooks, usableHead, unusedHead, classHead, freePools, freedHead, arena, none?}
 use Rattle.rules.specs.Blocks.{sizeOf, isStart, classAt}
-use Rattle.rules.specs.Lists.{join, mayLeave, mayJoin, arenaLinks, poolLinks}
+use Rattle.rules.specs.Lists.{join, mayLeave, mayJoin, arenaLinks}
 use Rattle.rules.specs.Outcome.{Outcome, outcome, answerOf}
 use Rattle.rules.specs.GiveBack.{_⇛_, emptying, planBack, takeBack, empty, backAnswer, afterBack, givenBack, backStep}
+use Rattle.books.specs.declared.pool.Pool.{Pool}
+use Rattle.books.specs.Lists.{pool-may-leave}
+use Rattle.books.specs.Records.{poolAt, mayGive, linksLead}
 use Rattle.steps.specs.Backs.{gave, mayEmpty, maySettle, released, settled}
 
 -- a give-back whose class and path are known, and so what it leaves
@@ -33,34 +36,33 @@ before-broken : (x : Bool) → (x ⇛ Damaged) ≡ Damaged
 before-broken true = refl
 before-broken false = refl
 
--- ---- the path of a block of pool p, of class c, whose blocks have size s
-module _ (al A P : ℕ) (b : List ℕ) (c p s free n : ℕ) (size : s ≡ sizeOf al c) (block : free ≡ pool A b freeblock p) (so-many : n ≡ pool A b count p) where
-  abbrev in-range : Bool
-  in-range = leb 1 n && leb n 506
+-- ---- the path of a block of class c, of pool p, whose record is q
+module _ (al A P : ℕ) (b : List ℕ) (c p : ℕ) (q : Pool) (loaded : q ≡ poolAt A b p) where
+  -- blocks of the class have size s, and its freeblock is free
+  module _ (s free : ℕ) (size : s ≡ sizeOf al c) (block : free ≡ q .freeblock) where
+    plan-is : planBack al A P b c p ≡ ((none? (q .freeblock) || isStart s free)
+        ⇛ mayGive q
+        ⇛ (if none? (q .freeblock) then mayJoin (A * P) (classHead c) b ⇛ Joins else if eqb (q .count) 1 then emptying al A P b c p else Stays))
+    unfolding planBack
+    plan-is = rw (block, loaded, size)
 
-  plan-is : planBack al A P b c p ≡ ((none? free || isStart s free)
-      ⇛ in-range
-      ⇛ (if none? free then mayJoin (A * P) (classHead c) b ⇛ Joins else if eqb n 1 then emptying al A P b c p else Stays))
-  unfolding planBack
-  plan-is = rw (block, so-many, size)
+    pub no-start : (q .freeblock ≡ 0 → ⊥) → isStart s free ≡ false → planBack al A P b c p ≡ Damaged
+    no-start f u = rw (plan-is, ne-eqb (q .freeblock) 0 f, u)
 
-  pub miscounted : in-range ≡ false → planBack al A P b c p ≡ Damaged
-  miscounted t = rw (plan-is, t) (before-broken (none? free || isStart s free))
+    pub falls-empty : mayGive q ≡ true → (q .freeblock ≡ 0 → ⊥) → isStart s free ≡ true → q .count ≡ 1 → planBack al A P b c p ≡ emptying al A P b c p
+    falls-empty t f u e = rw (plan-is, t, ne-eqb (q .freeblock) 0 f, u, eq-eqb (q .count) 1 e)
 
-  pub listless : in-range ≡ true → free ≡ 0 → mayJoin (A * P) (classHead c) b ≡ false → planBack al A P b c p ≡ Damaged
-  listless t z u = rw (plan-is, t, eq-eqb free 0 z, u)
+    pub stays : mayGive q ≡ true → (q .freeblock ≡ 0 → ⊥) → isStart s free ≡ true → (q .count ≡ 1 → ⊥) → planBack al A P b c p ≡ Stays
+    stays t f u e = rw (plan-is, t, ne-eqb (q .freeblock) 0 f, u, ne-eqb (q .count) 1 e)
 
-  pub joins : in-range ≡ true → free ≡ 0 → mayJoin (A * P) (classHead c) b ≡ true → planBack al A P b c p ≡ Joins
-  joins t z u = rw (plan-is, t, eq-eqb free 0 z, u)
+  pub miscounted : mayGive q ≡ false → planBack al A P b c p ≡ Damaged
+  miscounted t = rw (plan-is (sizeOf al c) (q .freeblock) refl refl, t) (before-broken (none? (q .freeblock) || isStart (sizeOf al c) (q .freeblock)))
 
-  pub no-start : (free ≡ 0 → ⊥) → isStart s free ≡ false → planBack al A P b c p ≡ Damaged
-  no-start f u = rw (plan-is, ne-eqb free 0 f, u)
+  pub listless : mayGive q ≡ true → q .freeblock ≡ 0 → mayJoin (A * P) (classHead c) b ≡ false → planBack al A P b c p ≡ Damaged
+  listless t z u = rw (plan-is (sizeOf al c) (q .freeblock) refl refl, t, eq-eqb (q .freeblock) 0 z, u)
 
-  pub falls-empty : in-range ≡ true → (free ≡ 0 → ⊥) → isStart s free ≡ true → n ≡ 1 → planBack al A P b c p ≡ emptying al A P b c p
-  falls-empty t f u e = rw (plan-is, t, ne-eqb free 0 f, u, eq-eqb n 1 e)
-
-  pub stays : in-range ≡ true → (free ≡ 0 → ⊥) → isStart s free ≡ true → (n ≡ 1 → ⊥) → planBack al A P b c p ≡ Stays
-  stays t f u e = rw (plan-is, t, ne-eqb free 0 f, u, ne-eqb n 1 e)
+  pub joins : mayGive q ≡ true → q .freeblock ≡ 0 → mayJoin (A * P) (classHead c) b ≡ true → planBack al A P b c p ≡ Joins
+  joins t z u = rw (plan-is (sizeOf al c) (q .freeblock) refl refl, t, eq-eqb (q .freeblock) 0 z, u)
 
 -- ---- and of the last block of its pool, whose arena a has so many free pools
 -- what becomes of the arena
@@ -79,18 +81,18 @@ one-test true true false l u j all first = refl
 one-test true false z l u j all first = refl
 one-test false y z l u j all first = refl
 
-module _ (al A P : ℕ) (b : List ℕ) (c p a free : ℕ) (home : a ≡ p / P) (so-many : free ≡ arena b freePools a) where
-  emptying-is : emptying al A P b c p ≡ (mayEmpty A P a p free b && maySettle A P a free b ⇛ settling P free)
+module _ (al A P : ℕ) (b : List ℕ) (c p a free : ℕ) (q : Pool) (loaded : q ≡ poolAt A b p) (home : a ≡ p / P) (so-many : free ≡ arena b freePools a) where
+  emptying-is : emptying al A P b c p ≡ (mayEmpty A P a q free b && maySettle A P a free b ⇛ settling P free)
   unfolding emptying
   emptying-is =
-      rw (← home, ← so-many)
-      (one-test (mayLeave (A * P) (poolLinks A) p b) (leb (arena b freedHead a) (A * P)) (leb free (P - 1)) (mayLeave A arenaLinks a b)
+      rw (← home, ← so-many, loaded, pool-may-leave (A * P) A p b)
+      (one-test (linksLead (poolAt A b p) (A * P)) (leb (arena b freedHead a) (A * P)) (leb free (P - 1)) (mayLeave A arenaLinks a b)
       (mayJoin A unusedHead b) (mayJoin A usableHead b) (eqb (free + 1) P) (eqb (free + 1) 1))
 
-  pub stuck : mayEmpty A P a p free b && maySettle A P a free b ≡ false → emptying al A P b c p ≡ Damaged
+  pub stuck : mayEmpty A P a q free b && maySettle A P a free b ≡ false → emptying al A P b c p ≡ Damaged
   stuck t = rw (emptying-is, t)
 
-  pub settles : mayEmpty A P a p free b && maySettle A P a free b ≡ true → emptying al A P b c p ≡ settling P free
+  pub settles : mayEmpty A P a q free b && maySettle A P a free b ≡ true → emptying al A P b c p ≡ settling P free
   settles t = rw (emptying-is, t)
 
 -- what a give-back leaves that empties its pool: the block is taken back, the pool goes to its arena, and the arena is settled

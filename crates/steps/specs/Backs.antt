@@ -13,14 +13,16 @@ use lib.Seq.{getD-set-other, sets, length-sets}
 use Rattle.rules.specs.declared.Answer.{Answer}
 use Rattle.rules.specs.Say.{if_then_else_, _▷_}
 use Rattle.rules.specs.Books.{Heap, at, put, usableHead, unusedHead, classHead, freePools, freedHead, arenaWord, arena, count, freeblock, poolNext, poolPrevious, poolWord, pool}
-use Rattle.rules.specs.Blocks.{sizeOf, blockNo, classAt, sizeAt}
+use Rattle.rules.specs.Blocks.{sizeOf, blockNo, sizeAt}
 use Rattle.rules.specs.Lists.{nextAt, previousAt, leave, join, mayLeave, mayJoin, arenaLinks, poolLinks}
 use Rattle.rules.specs.GiveBack.{takeBack, empty, release}
 use Rattle.rules.specs.Outcome.{heapOf, answerOf, passing}
+use Rattle.books.specs.declared.pool.Pool.{Pool}
 use Rattle.books.specs.Known.{LiveBlock}
+use Rattle.books.specs.Records.{poolAt, mayGive, linksLead, leads}
 use Rattle.books.specs.Starts.{Start}
 use Rattle.books.specs.Tests.{both}
-use Rattle.books.specs.Lists.{leave-keeps, length-leaveBy, pool-leave-keeps, Links, links}
+use Rattle.books.specs.Lists.{leave-keeps, length-leaveBy, pool-leave-keeps}
 use Rattle.loops.specs.Sets.{sets-other}
 
 -- ---- what a give-back answers, as one number, which comes back in a register
@@ -37,41 +39,49 @@ pub heap-is : {m m′ b b′ k k′ : List ℕ} → m ≡ m′ → b ≡ b′ �
 heap-is {m} {m′} {b} {b′} {k} {k′} e f g = cc
 
 -- ---- what a give-back knows once its tests have passed
--- block k of pool p, of class c, at f: it is there, and its pool counts it
-pub record Counted (A P c p f k : ℕ) (b : List ℕ) : Type 0 where
-  pub class : c ≤ 63
+-- block k of pool p, at f, p's record being q: it is there, and its pool counts it
+pub record Counted (A P p f k : ℕ) (q : Pool) (b : List ℕ) : Type 0 where
+  pub loaded : q ≡ poolAt A b p
+  pub class : q .class ≤ 63
   pub there : p < A * P
-  pub start : Start (sizeOf 8 c) f
-  pub number : k ≡ blockNo (sizeOf 8 c) f
-  pub some : 1 ≤ pool A b count p
+  pub start : Start (sizeOf 8 (q .class)) f
+  pub number : k ≡ blockNo (sizeOf 8 (q .class)) f
+  pub some : 1 ≤ q .count
 
--- a live block is one if the test of the count, n, has passed
-pub counted : (A P c k o n : ℕ) (b m : List ℕ) → c ≡ classAt A b o → LiveBlock 8 A P b m o → k ≡ blockNo (sizeAt 8 A b o) (o % 4096)
-    → n ≡ pool A b count (o / 4096) → leb 1 n && leb n 506 ≡ true → Counted A P c (o / 4096) (o % 4096) k b
-counted A P c k o n b m e live number so-many t =
+-- a live block is one if the test of the count has passed
+pub counted : (A P k o : ℕ) (q : Pool) (b m : List ℕ) → q ≡ poolAt A b (o / 4096) → LiveBlock 8 A P b m o → k ≡ blockNo (sizeAt 8 A b o) (o % 4096)
+    → mayGive q ≡ true → Counted A P (o / 4096) (o % 4096) k q b
+counted A P k o q b m loaded live number t =
     record {
-      class = rw e (live .class);
+      loaded = loaded;
+      class = rw loaded (live .class);
       there = live .pool;
-      start = rw e (live .start);
-      number = rw e number;
-      some = rw (← so-many) (leb-true 1 n (both (leb 1 n) (leb n 506) t .0));
+      start = rw loaded (live .start);
+      number = rw loaded number;
+      some = leb-true 1 (q .count) (both (leb 1 (q .count)) (leb (q .count) 506) t .0);
     }
 
--- pool p may leave its class list and return to its arena a, which has so many free pools
-abbrev pub mayEmpty : ℕ → ℕ → ℕ → ℕ → ℕ → List ℕ → Bool
-mayEmpty A P a p free b = mayLeave (A * P) (poolLinks A) p b && leb (arena b freedHead a) (A * P) && leb free (P - 1)
+-- the pool of record q may leave its class list and return to its arena a, which has so many free pools
+abbrev pub mayEmpty : ℕ → ℕ → ℕ → Pool → ℕ → List ℕ → Bool
+mayEmpty A P a q free b = linksLead q (A * P) && leb (arena b freedHead a) (A * P) && leb free (P - 1)
 
-pub record FitsEmpty (A P p : ℕ) (b : List ℕ) : Type 0 where
-  pub links : Links (A * P) (poolLinks A) p b
+-- pool p, which has the links of the record q, does so
+pub record FitsEmpty (A P p : ℕ) (q : Pool) (b : List ℕ) : Type 0 where
+  pub next : pool A b poolNext p ≡ q .next
+  pub previous : pool A b poolPrevious p ≡ q .previous
+  pub links : (q .next ≤ A * P) × (q .previous ≤ A * P)
   pub head : arena b freedHead (p / P) ≤ A * P
   pub free : arena b freePools (p / P) ≤ P - 1
 
-pub fits-empty : (A P a p free : ℕ) (b : List ℕ) → a ≡ p / P → free ≡ arena b freePools a → mayEmpty A P a p free b ≡ true → FitsEmpty A P p b
-fits-empty A P a p free b home so-many e =
-    let t = both (mayLeave (A * P) (poolLinks A) p b && leb (arena b freedHead a) (A * P)) (leb free (P - 1)) e in
-    let u = both (mayLeave (A * P) (poolLinks A) p b) (leb (arena b freedHead a) (A * P)) (t .0) in
+pub fits-empty : (A P a p free : ℕ) (q : Pool) (b : List ℕ) → q ≡ poolAt A b p → a ≡ p / P → free ≡ arena b freePools a → mayEmpty A P a q free b ≡ true
+    → FitsEmpty A P p q b
+fits-empty A P a p free q b loaded home so-many e =
+    let t = both (linksLead q (A * P) && leb (arena b freedHead a) (A * P)) (leb free (P - 1)) e in
+    let u = both (linksLead q (A * P)) (leb (arena b freedHead a) (A * P)) (t .0) in
     record {
-      links = links (A * P) (poolLinks A) p b (u .0);
+      next = rw loaded;
+      previous = rw loaded;
+      links = leads q (A * P) (u .0);
       head = rw (← home) (leb-true _ (A * P) (u .1));
       free = rw (← home, ← so-many) (leb-true free (P - 1) (t .1));
     }
@@ -114,14 +124,6 @@ module _ (A p f : ℕ) (b : List ℕ) where
 
   pub length-taken : length (takenBack A p f b) ≡ length b
   length-taken = simp length-set
-
-  -- so what its path knows stays
-  pub taken-links : (most base n : ℕ) → nextAt base n ≢ poolWord A freeblock p → nextAt base n ≢ poolWord A count p
-      → previousAt base n ≢ poolWord A freeblock p → previousAt base n ≢ poolWord A count p → Links most base n b → Links most base n (takenBack A p f b)
-  taken-links most base n g h k l t = record {
-    next = rw (taken-keeps (nextAt base n) g h) (t .next);
-    previous = rw (taken-keeps (previousAt base n) k l) (t .previous);
-  }
 
 -- ---- the return of the pool to its arena leaves the first heads and the arenas' links
 -- a place before the first link is none of the links
@@ -178,9 +180,11 @@ module _ (A P c p f : ℕ) (b : List ℕ) where
   pub taken-before : (j : ℕ) → j < 72 + 8 * A → at (takenBack A p f b) j ≡ at b j
   taken-before j h = taken-keeps A p f b j (omega arith) (omega arith)
 
-  pub taken-fits : p / P < A → FitsEmpty A P p b → FitsEmpty A P p (takenBack A p f b)
-  taken-fits l t = record {
-    links = taken-links A p f b (A * P) (poolLinks A) p (omega arith) (omega arith) (omega arith) (omega arith) (t .links);
+  pub taken-fits : (q : Pool) → p / P < A → FitsEmpty A P p q b → FitsEmpty A P p q (takenBack A p f b)
+  taken-fits q l t = record {
+    next = taken-keeps A p f b (poolWord A poolNext p) (omega arith) (omega arith) ∙ t .next;
+    previous = taken-keeps A p f b (poolWord A poolPrevious p) (omega arith) (omega arith) ∙ t .previous;
+    links = t .links;
     head = rw (taken-before (arenaWord freedHead (p / P)) (omega arith)) (t .head);
     free = rw (taken-before (arenaWord freePools (p / P)) (omega arith)) (t .free);
   }

@@ -1,12 +1,12 @@
-// A give-back: decided from the books before it, and then written, the block, then its pool's list, then its arena's. Its path is no value
-// in between, and its answer is a number, which comes back in a register.
+// A give-back: the record of the block's pool is loaded once, the path is decided from it and the books before, and then written, the block, then its
+// pool's list, then its arena's. The path is no value in between, and the answer is a number, which comes back in a register.
 use bits::clear_bit;
-use books::blocks::class_at;
 use books::blocks::is_start;
 use books::blocks::size_of;
 use books::links::put_link;
 use books::lists::join;
 use books::lists::leave;
+use books::lists::leave_by;
 use books::lists::link_to;
 use books::lists::may_join;
 use books::lists::may_leave;
@@ -15,13 +15,12 @@ use books::numbers::DAMAGED;
 use books::numbers::NO_BLOCK;
 use books::numbers::NOT_LIVE;
 use books::numbers::live_block;
+use books::pool::Pool;
 use books::pool::load_pool;
 use books::pool::store_pool;
 use books::words::ARENA_LINKS;
 use books::words::CLASS_HEADS;
-use books::words::COUNT;
 use books::words::FREE_POOLS;
-use books::words::FREEBLOCK;
 use books::words::FREED_HEAD;
 use books::words::NEXT;
 use books::words::OPEN;
@@ -30,12 +29,11 @@ use books::words::RECORDS;
 use books::words::UNUSED_HEAD;
 use books::words::USABLE_HEAD;
 use books::words::arena_word;
-use books::words::pool_word;
+use books::words::index;
 use loops::put_words;
 ghost use mathlib.Core.Path.{_≡_};
-ghost use mathlib.Core.Bool.{true, _&&_};
+ghost use mathlib.Core.Bool.{true};
 ghost use Prim.Native.Nat.{_+_, _*_, _-_, _/_, _%_, _^_, _<_, _≤_};
-ghost use lib.Dec.{leb};
 ghost use lib.ListN.{length};
 ghost use Rattle.rules.specs.Books.{at, memoryLength, booksLength, unusedHead, freePools, arena, poolWord};
 ghost use Rattle.rules.specs.Blocks.{blockNo, sizeAt};
@@ -48,23 +46,22 @@ ghost use Rattle.plans.specs.Class.{Range};
 ghost use Rattle.books.specs.Lists.{Links};
 ghost use Rattle.steps.specs.Backs.{gave, Counted, mayEmpty, FitsEmpty, freedFirst, emptied, released, maySettle, settled};
 
-// The block at f, of number k, goes to the front of its pool's freed blocks.
+// The block at f, of number k, goes to the front of the freed blocks of pool p, whose record is given.
 fn take_back(
     memory: &mut [u8],
     books: &mut [u32],
     map: &mut [u64],
     arenas: usize,
     pools: usize,
-    class: usize,
     p: usize,
+    pool: Pool,
     f: usize,
     k: usize,
 )
-    requires { ⌜ Shaped arenas pools (length (now memory)) (length (now books)) (length (now map)) × Counted arenas pools class p f k (now books) ⌝ }
+    requires { ⌜ Shaped arenas pools (length (now memory)) (length (now books)) (length (now map)) × Counted arenas pools p f k pool (now books) ⌝ }
     ensures { λ _. ⌜ heapOf (now (memory .exit)) (now (books .exit)) (now (map .exit))
-        ≡ takeBack 8 arenas pools class p f (heapOf (now (memory .entry)) (now (books .entry)) (now (map .entry))) ⌝ }
+        ≡ takeBack 8 arenas pools (pool .class) p f (heapOf (now (memory .entry)) (now (books .entry)) (now (map .entry))) ⌝ }
 {
-    let pool = load_pool(books, arenas, p);
     store_pool(books, arenas, p, pool.give(f as u32));
     put_link(memory, 4096 * p + f, pool.freeblock);
     clear_bit(map, p, k);
@@ -91,17 +88,18 @@ fn free_pool(books: &mut [u32], arenas: usize, a: usize, p: usize)
     books[RECORDS + 8 * a + FREE_POOLS] = free + 1;
 }
 
-// Pool p of arena a, at count 0, leaves its class list and goes to the front of the arena's freed pools.
-fn empty_pool(books: &mut [u32], arenas: usize, pools: usize, class: usize, a: usize, p: usize)
-    requires { ⌜ Range arenas pools × (length (now books) ≡ booksLength arenas pools) × (class ≤ 63) × (p < arenas * pools) × (a ≡ p / pools) × (a < arenas)
-        × FitsEmpty arenas pools p (now books) ⌝ }
-    ensures { λ _. ⌜ now (books .exit) ≡ emptied arenas pools class p (now (books .entry)) ⌝ }
+// Pool p of arena a, at count 0, leaves its class list, by the links of its record, and goes to the front of the arena's freed pools.
+fn empty_pool(books: &mut [u32], arenas: usize, pools: usize, a: usize, p: usize, pool: Pool)
+    requires { ⌜ Range arenas pools × (length (now books) ≡ booksLength arenas pools) × (a ≡ p / pools) × (a < arenas) × (p < arenas * pools)
+        × (pool .class ≤ 63) × FitsEmpty arenas pools p pool (now books) ⌝ }
+    ensures { λ _. ⌜ now (books .exit) ≡ emptied arenas pools (pool .class) p (now (books .entry)) ⌝ }
 {
-    leave(
+    leave_by(
         books,
-        arenas * pools,
         pool_links(arenas),
-        CLASS_HEADS + class,
+        CLASS_HEADS + index(pool.class),
+        pool.next,
+        pool.previous,
         p,
     );
     free_pool(books, arenas, a, p);
@@ -133,15 +131,13 @@ fn settle(books: &mut [u32], arenas: usize, pools: usize, a: usize, free: usize)
     }
 }
 
-// Pool p may leave its class list and return to arena a, which has so many free pools.
-fn may_empty(books: &[u32], arenas: usize, pools: usize, a: usize, p: usize, free: usize) -> bool
-    requires { ⌜ Range arenas pools × (length (now books) ≡ booksLength arenas pools) × (a < arenas) × (p < arenas * pools) ⌝ }
-    ensures { λ r. ⌜ r ≡ mayEmpty arenas pools a p free (now (books .entry)) ⌝ }
+// The pool may leave its class list and return to arena a, which has so many free pools.
+fn may_empty(books: &[u32], arenas: usize, pools: usize, a: usize, pool: Pool, free: usize) -> bool
+    requires { ⌜ Range arenas pools × (length (now books) ≡ booksLength arenas pools) × (a < arenas) ⌝ }
+    ensures { λ r. ⌜ r ≡ mayEmpty arenas pools a pool free (now (books .entry)) ⌝ }
 {
     let all = arenas * pools;
-    may_leave(books, all, pool_links(arenas), p)
-        & (arena_word(books, FREED_HEAD, a) <= all)
-        & (free <= pools - 1)
+    pool.may_leave(all) & (arena_word(books, FREED_HEAD, a) <= all) & (free <= pools - 1)
 }
 
 // The arena's links, and the head of the list that it would join, lead somewhere.
@@ -165,45 +161,28 @@ fn back_last(
     map: &mut [u64],
     arenas: usize,
     pools: usize,
-    class: usize,
+    pool: Pool,
     offset: usize,
     k: usize,
 ) -> u32
     requires { ⌜ Shaped arenas pools (length (now memory)) (length (now books)) (length (now map))
-        × Counted arenas pools class (offset / 4096) (offset % 4096) k (now books) ⌝ }
+        × Counted arenas pools (offset / 4096) (offset % 4096) k pool (now books) ⌝ }
     ensures { λ r. ⌜ outcome (gave offset r) (heapOf (now (memory .exit)) (now (books .exit)) (now (map .exit)))
-        ≡ givenBack 8 arenas pools class (heapOf (now (memory .entry)) (now (books .entry)) (now (map .entry))) offset
-        (emptying 8 arenas pools (now (books .entry)) class (offset / 4096)) ⌝ }
+        ≡ givenBack 8 arenas pools (pool .class) (heapOf (now (memory .entry)) (now (books .entry)) (now (map .entry))) offset
+        (emptying 8 arenas pools (now (books .entry)) (pool .class) (offset / 4096)) ⌝ }
 {
     let p = offset / 4096;
     let a = arena_of(arenas, pools, p);
     let free = arena_word(books, FREE_POOLS, a);
-    let may = may_empty(books, arenas, pools, a, p, free)
+    let may = may_empty(books, arenas, pools, a, pool, free)
         & may_settle(books, arenas, pools, a, free);
     if !may {
         return DAMAGED;
     }
-    take_back(
-        memory,
-        books,
-        map,
-        arenas,
-        pools,
-        class,
-        p,
-        offset % 4096,
-        k,
-    );
-    empty_pool(books, arenas, pools, class, a, p);
+    take_back(memory, books, map, arenas, pools, p, pool, offset % 4096, k);
+    empty_pool(books, arenas, pools, a, p, pool);
     settle(books, arenas, pools, a, free);
     0
-}
-
-// What a give-back asks of a count.
-fn count_fits(count: usize) -> bool
-    ensures { λ r. ⌜ r ≡ (leb 1 count && leb count 506) ⌝ }
-{
-    (1 <= count) & (count <= 506)
 }
 
 // A give-back of a live offset, that of block k of its pool: 0, or the number of the refusal.
@@ -221,20 +200,18 @@ fn back_step(
     ensures { λ r. ⌜ outcome (gave offset r) (heapOf (now (memory .exit)) (now (books .exit)) (now (map .exit)))
         ≡ backStep 8 arenas pools (heapOf (now (memory .entry)) (now (books .entry)) (now (map .entry))) offset ⌝ }
 {
-    let class = class_at(books, arenas, offset);
-    let size = size_of(class);
     let p = offset / 4096;
     let f = offset % 4096;
-    let free = pool_word(books, arenas, FREEBLOCK, p);
-    let count = pool_word(books, arenas, COUNT, p);
-    if !count_fits(count) {
+    let pool = load_pool(books, arenas, p);
+    if !pool.may_give() {
         return DAMAGED;
     }
-    if free == 0 {
+    let class = index(pool.class);
+    if pool.freeblock == 0 {
         if !may_join(books, arenas * pools, CLASS_HEADS + class) {
             return DAMAGED;
         }
-        take_back(memory, books, map, arenas, pools, class, p, f, k);
+        take_back(memory, books, map, arenas, pools, p, pool, f, k);
         join(
             books,
             arenas * pools,
@@ -244,13 +221,13 @@ fn back_step(
         );
         return 0;
     }
-    if !is_start(size, free) {
+    if !is_start(size_of(class), index(pool.freeblock)) {
         return DAMAGED;
     }
-    if count == 1 {
-        return back_last(memory, books, map, arenas, pools, class, offset, k);
+    if pool.count == 1 {
+        return back_last(memory, books, map, arenas, pools, pool, offset, k);
     }
-    take_back(memory, books, map, arenas, pools, class, p, f, k);
+    take_back(memory, books, map, arenas, pools, p, pool, f, k);
     0
 }
 

@@ -38,7 +38,7 @@ tested : (c : tie.After-may-settle)
     let at-arena-of = at-arena-word .before .before in
     let a = at-arena-of .before .before .before .before .args in
     c .before .before .may-empty .result && c .may-settle .result
-    ≡ mayEmpty (a .arenas) (a .pools) (at-arena-of .arena-of .result) (a .offset / 4096) (at-arena-word .arena-word .result) (a .books .now)
+    ≡ mayEmpty (a .arenas) (a .pools) (at-arena-of .arena-of .result) (a .pool) (at-arena-word .arena-word .result) (a .books .now)
     && maySettle (a .arenas) (a .pools) (at-arena-of .arena-of .result) (at-arena-word .arena-word .result) (a .books .now)
 tested c = ap₂ _&&_ (c .before .before .may-empty .ensures) (c .may-settle .ensures)
 
@@ -49,25 +49,23 @@ returns c =
     let at-start = at-arena-of .before .before .before .before in
     let a = at-start .args in
     let h = heapOf (a .memory .now) (a .books .now) (a .map .now) in
-    let broken = stuck 8 (a .arenas) (a .pools) (a .books .now) (a .class) (a .offset / 4096) (at-arena-of .arena-of .result)
-    (at-arena-word .arena-word .result)
+    let broken = stuck 8 (a .arenas) (a .pools) (a .books .now) (a .pool .class) (a .offset / 4096) (at-arena-of .arena-of .result)
+    (at-arena-word .arena-word .result) (a .pool) (at-start .pre .1 .loaded)
     (at-arena-of .arena-of .ensures .0) (at-arena-word .arena-word .ensures .0) (failed (tested (c .before)) (c .if1 .taken)) in
-    damaged 8 (a .arenas) (a .pools) (a .class) h (a .offset)
-    ∙ ap (givenBack 8 (a .arenas) (a .pools) (a .class) h (a .offset)) (sym broken)
+    damaged 8 (a .arenas) (a .pools) (a .pool .class) h (a .offset)
+    ∙ ap (givenBack 8 (a .arenas) (a .pools) (a .pool .class) h (a .offset)) (sym broken)
 
 -- once the test has passed, each of the two holds
 passed : (c : tie.Else1)
     → let at-arena-word = c .before .before .before .before .before in
     let at-arena-of = at-arena-word .before .before in
     let a = at-arena-of .before .before .before .before .args in
-    (mayEmpty (a .arenas) (a .pools) (at-arena-of .arena-of .result) (a .offset / 4096) (at-arena-word .arena-word .result) (a .books .now) ≡ true)
+    (mayEmpty (a .arenas) (a .pools) (at-arena-of .arena-of .result) (a .pool) (at-arena-word .arena-word .result) (a .books .now) ≡ true)
     × (maySettle (a .arenas) (a .pools) (at-arena-of .arena-of .result) (at-arena-word .arena-word .result) (a .books .now) ≡ true)
 passed c = both _ _ (held (tested (c .before)) (c .if1 .left))
 
 take-back-requires : tie.Need-take-back-requires
-take-back-requires c κs =
-    let at-start = c .before .before .before .before .before .before .before .before .before .before .before .before .before .before in
-    (at-start .pre .0, at-start .pre .1)
+take-back-requires c κs = search needs
 
 empty-pool-requires : tie.Need-empty-pool-requires
 empty-pool-requires c κs =
@@ -80,17 +78,17 @@ empty-pool-requires c κs =
     let p = a .offset / 4096 in
     let f = a .offset % 4096 in
     let e = ap (λ (h : Heap). h .books) (at-take-back .take-back .ensures) in
-    let fits = fits-empty (a .arenas) (a .pools) (at-arena-of .arena-of .result) p (at-arena-word .arena-word .result) (a .books .now)
-    (at-arena-of .arena-of .ensures .0)
-    (at-arena-word .arena-word .ensures .0) (passed at-if1 .0) in (
+    let fits = fits-empty (a .arenas) (a .pools) (at-arena-of .arena-of .result) p (at-arena-word .arena-word .result) (a .pool) (a .books .now)
+    (at-start .pre .1 .loaded) (at-arena-of .arena-of .ensures .0) (at-arena-word .arena-word .ensures .0) (passed at-if1 .0) in (
       ranged (at-start .pre .0),
       omega (arith, ap length e, length-taken (a .arenas) p f (a .books .now), at-start .pre .0 .books),
-      at-start .pre .1 .class,
-      at-start .pre .1 .there,
       at-arena-of .arena-of .ensures .0,
       at-arena-of .arena-of .ensures .1,
+      at-start .pre .1 .there,
+      at-start .pre .1 .class,
       rw e
-          (taken-fits (a .arenas) (a .pools) (a .class) p f (a .books .now) (omega (arith, at-arena-of .arena-of .ensures .0, at-arena-of .arena-of .ensures .1)) fits),
+          (taken-fits (a .arenas) (a .pools) (a .pool .class) p f (a .books .now) (a .pool)
+          (omega (arith, at-arena-of .arena-of .ensures .0, at-arena-of .arena-of .ensures .1)) fits),
     )
 
 -- the books after the pool is emptied
@@ -98,52 +96,31 @@ last-books : (c : tie.After-empty-pool)
     → let at-take-back = c .before .before .before .before .before .before .before .before in
     let a = at-take-back .before .before .before .before .before .before .before .before .before .before .before .before .before .before .before .args in
     c .empty-pool .last .0
-    ≡ emptied (a .arenas) (a .pools) (a .class) (a .offset / 4096) (takenBack (a .arenas) (a .offset / 4096) (a .offset % 4096) (a .books .now))
+    ≡ emptied (a .arenas) (a .pools) (a .pool .class) (a .offset / 4096) (takenBack (a .arenas) (a .offset / 4096) (a .offset % 4096) (a .books .now))
 last-books c =
     let at-take-back = c .before .before .before .before .before .before .before .before in
     let at-start = at-take-back .before .before .before .before .before .before .before .before .before .before .before .before .before .before .before in
     let a = at-start .args in
-    c .empty-pool .ensures ∙ ap (emptied (a .arenas) (a .pools) (a .class) (a .offset / 4096)) (ap (λ (h : Heap). h .books) (at-take-back .take-back .ensures))
+    c .empty-pool .ensures ∙ ap (emptied (a .arenas) (a .pools) (a .pool .class) (a .offset / 4096)) (ap (λ (h : Heap). h .books) (at-take-back .take-back .ensures))
 
 settle-requires : tie.Need-settle-requires
 settle-requires c κs =
     let at-empty-pool = c .before .before .before in
     let at-if1 = at-empty-pool .before .before .before .before .before .before .before .before .before .before .before .before in
-    let at-start = at-if1 .before .before .before .before .before .before .before .before .before .before .before in
-    let a = at-if1 .before .before
-    .before .before .before .before .before .before .before .before .before .args in
+    let at-arena-word = at-if1 .before .before .before .before .before in
+    let at-arena-of = at-arena-word .before .before in
+    let at-start = at-arena-of .before .before .before .before in
+    let a = at-start .args in
     let p = a .offset / 4096 in
     let f = a .offset % 4096 in
     let e = last-books at-empty-pool in
-    let kept = may-settle-last (a .arenas) (a .pools) (a .class) p f (a .books .now)
-    (at-if1 .before .before .before
-    .before .before .before .before .before .before .before .before .pre .1 .class)
-    (omega (
-      arith,
-      at-if1 .before .before .before
-          .before .before .before .before .arena-of .ensures .0,
-      at-if1 .before .before .before
-          .before .before .before .before .arena-of .ensures .1,
-    ))
-    (at-if1 .before .before .before
-    .before .before .arena-word .result) in (
-      ranged
-          (at-start .pre .0),
-      omega
-          (arith, ap length e, last-length (a .arenas) (a .pools) (a .class) p f (a .books .now), at-start .pre .0 .books),
-      at-if1 .before .before .before
-          .before .before .before .before .arena-of .ensures .1,
-      at-if1 .before .before .before
-          .before .before .arena-word .ensures .1,
-      rw (
-        e,
-        at-if1 .before .before .before
-            .before .before .before .before .arena-of .ensures .0,
-        kept,
-        ← at-if1 .before .before .before
-            .before .before .before .before .arena-of .ensures .0,
-      )
-          (passed at-if1 .1),
+    let kept = may-settle-last (a .arenas) (a .pools) (a .pool .class) p f (a .books .now) (at-start .pre .1 .class)
+    (omega (arith, at-arena-of .arena-of .ensures .0, at-arena-of .arena-of .ensures .1)) (at-arena-word .arena-word .result) in (
+      ranged (at-start .pre .0),
+      omega (arith, ap length e, last-length (a .arenas) (a .pools) (a .pool .class) p f (a .books .now), at-start .pre .0 .books),
+      at-arena-of .arena-of .ensures .1,
+      at-arena-word .arena-word .ensures .1,
+      rw (e, at-arena-of .arena-of .ensures .0, kept, ← at-arena-of .arena-of .ensures .0) (passed at-if1 .1),
     )
 
 same-length-2 : tie.Need-same-length-2
@@ -170,15 +147,15 @@ returns-2 c =
     let f = a .offset % 4096 in
     let h = heapOf (a .memory .now) (a .books .now) (a .map .now) in
     let free = at-arena-word .arena-word .result in
-    let path = settles 8 (a .arenas) (a .pools) (a .books .now) (a .class) p (at-arena-of .arena-of .result) free (at-arena-of .arena-of .ensures .0)
-    (at-arena-word .arena-word .ensures .0) (held (tested at-may-settle) (at-if1 .if1 .left)) in
+    let path = settles 8 (a .arenas) (a .pools) (a .books .now) (a .pool .class) p (at-arena-of .arena-of .result) free (a .pool) (at-start .pre .1 .loaded)
+    (at-arena-of .arena-of .ensures .0) (at-arena-word .arena-word .ensures .0) (held (tested at-may-settle) (at-if1 .if1 .left)) in
     ap (λ (x : List ℕ). outcome (answerOf 0 (a .offset)) (heapOf (at-take-back .take-back .last .0) x (at-take-back .take-back .last .1 .1 .0)))
     (at-settle .settle .ensures
     ∙ ap₂ (λ (n : ℕ) (x : List ℕ). settled (a .pools) n free x) (at-arena-of .arena-of .ensures .0) (at-empty-pool .empty-pool .ensures))
     ∙ ap (λ (x : Heap). outcome (answerOf 0 (a .offset))
-    (onBooks (λ b. settled (a .pools) (p / a .pools) free (emptied (a .arenas) (a .pools) (a .class) p b)) x)) (at-take-back .take-back .ensures)
-    ∙ sym (emptied-settled 8 (a .arenas) (a .pools) (a .class) h (a .offset) free)
-    ∙ ap (givenBack 8 (a .arenas) (a .pools) (a .class) h (a .offset)) (sym path)
+    (onBooks (λ b. settled (a .pools) (p / a .pools) free (emptied (a .arenas) (a .pools) (a .pool .class) p b)) x)) (at-take-back .take-back .ensures)
+    ∙ sym (emptied-settled 8 (a .arenas) (a .pools) (a .pool .class) h (a .offset) free)
+    ∙ ap (givenBack 8 (a .arenas) (a .pools) (a .pool .class) h (a .offset)) (sym path)
 
 pub back-last-spec : {M : Type 1} → statement M
 back-last-spec =

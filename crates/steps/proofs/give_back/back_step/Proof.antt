@@ -2,15 +2,17 @@
 -- offset has a class, a start and a pool.
 -- Assumes nothing.
 use mathlib.Core.List.{List}
-use mathlib.Core.Path.{ap, _∙_}
+use mathlib.Core.Path.{ap, ap₂, _∙_}
 use Prim.Native.Nat.{ℕ, _+_, _*_, _/_, _%_, _≤_}
 use native.Mathlib.Omega.{arith}
 use lib.ListN.{length}
 use borrow.Author.Tests.{leb-true}
 use Rattle.rules.specs.Books.{Heap, at, onBooks, classHead}
+use Rattle.rules.specs.Blocks.{sizeOf}
 use Rattle.rules.specs.Lists as L
 use Rattle.rules.specs.GiveBack.{afterBack, backAnswer}
 use Rattle.rules.specs.Outcome.{heapOf, outcome, answerOf}
+use Rattle.books.specs.declared.pool.Pool.{Pool}
 use Rattle.books.specs.Tests.{held, failed}
 use Rattle.steps.specs.Backs.{Counted, counted, length-taken, taken-before}
 use Rattle.steps.specs.BackPath.{step-is, damaged, miscounted, listless, joins, no-start, falls-empty, stays}
@@ -18,53 +20,42 @@ use borrow.Author.Needs.{needs}
 use Rattle.steps.proofs.give_back.back_step.Statement.{statement}
 use Rattle.steps.proofs.give_back.back_step.Tie as tie
 
-class-at-requires : tie.Need-class-at-requires
-class-at-requires c κs = search needs
+load-pool-requires : tie.Need-load-pool-requires
+load-pool-requires c κs = search needs
 
-size-of-requires : tie.Need-size-of-requires
-size-of-requires c κs = search needs
-
-pool-word-requires : tie.Need-pool-word-requires
-pool-word-requires c κs = search needs
-
-pool-word-requires-2 : tie.Need-pool-word-requires-2
-pool-word-requires-2 c κs = search needs
-
-count-fits-requires : tie.Need-count-fits-requires
-count-fits-requires c κs = search needs
+may-give-requires : tie.Need-may-give-requires
+may-give-requires c κs = search needs
 
 same-length : tie.Need-same-length
 same-length c = search needs
 
 returns : tie.Need-returns
 returns c =
-    let at-pool-word2 = c .before .before in
-    let at-pool-word = at-pool-word2 .before .before in
-    let at-size-of = at-pool-word .before .before in
-    let at-class-at = at-size-of .before in
-    let at-start = at-class-at .before .before .before .before .before in
+    let at-may-give = c .before in
+    let at-load-pool = at-may-give .before in
+    let at-start = at-load-pool .before .before .before .before .before in
     let a = at-start .args in
     let h = heapOf (a .memory .now) (a .books .now) (a .map .now) in
-    let path = miscounted 8 (a .arenas) (a .pools) (a .books .now) (at-class-at .class-at .result) (a .offset / 4096) (at-size-of .size-of .result)
-    (at-pool-word .pool-word .result) (at-pool-word2 .pool-word2 .result)
-    (at-size-of .size-of .ensures .0) (at-pool-word .pool-word .ensures .0) (at-pool-word2 .pool-word2 .ensures .0)
-    (failed (c .before .count-fits .ensures) (c .if1 .taken)) in
-    step-is 8 (a .arenas) (a .pools) (at-class-at .class-at .result) h (a .offset) _ _ (at-class-at .class-at .ensures) path
-    (damaged 8 (a .arenas) (a .pools) (at-class-at .class-at .result) h (a .offset))
+    let q = at-load-pool .load-pool .result in
+    let path = miscounted 8 (a .arenas) (a .pools) (a .books .now) (q .class) (a .offset / 4096) q (at-load-pool .load-pool .ensures)
+    (failed (at-may-give .may-give .ensures) (c .if1 .taken)) in
+    step-is 8 (a .arenas) (a .pools) (q .class) h (a .offset) _ _ (ap (λ (x : Pool). x .class) (at-load-pool .load-pool .ensures)) path
+    (damaged 8 (a .arenas) (a .pools) (q .class) h (a .offset))
 
 -- the block, once its pool's count has passed
 block : (c : tie.Else1)
-    → let a = c .before .before .before .before .before .before .before .before .before .before .before .before .args in
-    Counted (a .arenas) (a .pools) (c .before .before .before .before .before .before .before .class-at .result) (a .offset / 4096) (a .offset % 4096)
-    (a .k) (a .books .now)
+    → let a = c .before .before .before .before .before .before .before .args in
+    Counted (a .arenas) (a .pools) (a .offset / 4096) (a .offset % 4096) (a .k) (c .before .before .load-pool .result) (a .books .now)
 block c =
-    let at-pool-word2 = c .before .before in
-    let at-class-at = at-pool-word2 .before .before .before .before .before in
-    let at-start = at-class-at .before .before .before .before .before in
+    let at-may-give = c .before in
+    let at-load-pool = at-may-give .before in
+    let at-start = at-load-pool .before .before .before .before .before in
     let a = at-start .args in
-    counted (a .arenas) (a .pools) (at-class-at .class-at .result) (a .k) (a .offset) (at-pool-word2 .pool-word2 .result) (a .books .now) (a .map .now)
-    (at-class-at .class-at .ensures) (at-start .pre .1) (at-start .pre .2) (at-pool-word2 .pool-word2 .ensures .0)
-    (held (c .before .count-fits .ensures) (c .if1 .left))
+    counted (a .arenas) (a .pools) (a .k) (a .offset) (at-load-pool .load-pool .result) (a .books .now) (a .map .now)
+    (at-load-pool .load-pool .ensures) (at-start .pre .1) (at-start .pre .2) (held (at-may-give .may-give .ensures) (c .if1 .left))
+
+index-requires : tie.Need-index-requires
+index-requires c κs = search needs
 
 mul-may-join : tie.Need-mul-may-join
 mul-may-join c = search needs
@@ -73,46 +64,49 @@ add-may-join : tie.Need-add-may-join
 add-may-join c = search needs
 
 may-join-requires : tie.Need-may-join-requires
-may-join-requires c κs = search needs
+may-join-requires c κs =
+    let at-index = c .before .before .before in
+    let at-if1 = at-index .before in
+    let at-start = at-if1 .before .before .before .before .before .before .before in
+    omega (arith, block at-if1 .class, at-index .index .ensures .0, at-start .pre .0 .books)
 
 same-length-2 : tie.Need-same-length-2
 same-length-2 c = search needs
 
 returns-2 : tie.Need-returns-2
 returns-2 c =
-    let at-if2 = c .before .before .before in
-    let at-if1 = at-if2 .before in
-    let at-count-fits = at-if1 .before in
-    let at-pool-word2 = at-count-fits .before in
-    let at-pool-word = at-pool-word2 .before .before in
-    let at-size-of = at-pool-word .before .before in
-    let at-class-at = at-size-of .before in
-    let at-start = at-class-at .before .before .before .before .before in
+    let at-may-join = c .before in
+    let at-if2 = at-may-join .before .before in
+    let at-index = at-if2 .before .before in
+    let at-if1 = at-index .before in
+    let at-may-give = at-if1 .before in
+    let at-load-pool = at-may-give .before in
+    let at-start = at-load-pool .before .before .before .before .before in
     let a = at-start .args in
     let h = heapOf (a .memory .now) (a .books .now) (a .map .now) in
-    let path = listless 8 (a .arenas) (a .pools) (a .books .now) (at-class-at .class-at .result) (a .offset / 4096) (at-size-of .size-of .result)
-    (at-pool-word .pool-word .result) (at-pool-word2 .pool-word2 .result)
-    (at-size-of .size-of .ensures .0) (at-pool-word .pool-word .ensures .0) (at-pool-word2 .pool-word2 .ensures .0)
-    (held (at-count-fits .count-fits .ensures) (at-if1 .if1 .left)) (at-if2 .if2 .taken) (failed (c .before .may-join .ensures) (c .if3 .taken)) in
-    step-is 8 (a .arenas) (a .pools) (at-class-at .class-at .result) h (a .offset) _ _ (at-class-at .class-at .ensures) path
-    (damaged 8 (a .arenas) (a .pools) (at-class-at .class-at .result) h (a .offset))
+    let q = at-load-pool .load-pool .result in
+    let path = listless 8 (a .arenas) (a .pools) (a .books .now) (q .class) (a .offset / 4096) q (at-load-pool .load-pool .ensures)
+    (held (at-may-give .may-give .ensures) (at-if1 .if1 .left)) (at-if2 .if2 .taken)
+    (rw (at-index .index .ensures .0) at (failed (at-may-join .may-join .ensures) (c .if3 .taken))) in
+    step-is 8 (a .arenas) (a .pools) (q .class) h (a .offset) _ _ (ap (λ (x : Pool). x .class) (at-load-pool .load-pool .ensures)) path
+    (damaged 8 (a .arenas) (a .pools) (q .class) h (a .offset))
 
 take-back-requires : tie.Need-take-back-requires
 take-back-requires c κs =
-    let at-if1 = c .before .before .before .before .before .before .before in
-    let at-start = at-if1 .before .before .before .before .before .before .before .before .before .before .before .before in
+    let at-if1 = c .before .before .before .before .before .before .before .before .before in
+    let at-start = at-if1 .before .before .before .before .before .before .before in
     (at-start .pre .0, block at-if1)
 
 mul-join : tie.Need-mul-join
 mul-join c =
-    let at-take-back = c .before .before .before .before .before .before .before .before in
-    let at-start = at-take-back .before .before .before .before .before .before .before .before .before .before .before .before .before .before .before .before .before .before .before in
+    let at-load-pool = c .before .before .before .before .before .before .before .before .before .before .before .before .before .before .before .before .before .before .before in
+    let at-start = at-load-pool .before .before .before .before .before in
     omega (arith, at-start .pre .0 .all)
 
 pool-links-requires : tie.Need-pool-links-requires
 pool-links-requires c κs =
-    let at-take-back = c .before .before .before .before .before .before .before .before in
-    let at-start = at-take-back .before .before .before .before .before .before .before .before .before .before .before .before .before .before .before .before .before .before .before in
+    let at-load-pool = c .before .before .before .before .before .before .before .before .before .before .before .before .before .before .before .before .before .before .before in
+    let at-start = at-load-pool .before .before .before .before .before in
     at-start .pre .0 .arenas-high
 
 add-join : tie.Need-add-join
@@ -123,23 +117,24 @@ join-requires c κs =
     let at-take-back = c .before .before .before .before .before .before .before .before in
     let at-if3 = at-take-back .before .before .before .before in
     let at-may-join = at-if3 .before in
-    let at-if1 = at-may-join .before .before .before in
-    let at-class-at = at-if1 .before .before .before .before .before .before .before in
-    let at-start = at-class-at .before .before .before .before .before in
+    let at-index = at-may-join .before .before .before .before in
+    let at-if1 = at-index .before in
+    let at-load-pool = at-if1 .before .before in
+    let at-start = at-load-pool .before .before .before .before .before in
     let a = at-start .args in
     let p = a .offset / 4096 in
     let f = a .offset % 4096 in
     let b = block at-if1 in
     let e = ap (λ (h : Heap). h .books) (at-take-back .take-back .ensures) in
     let long = length-taken (a .arenas) p f (a .books .now) in
-    let head : at (a .books .now) (classHead (at-class-at .class-at .result)) ≤ a .arenas * a .pools = leb-true _ _
+    let head : at (a .books .now) (classHead (at-index .index .result)) ≤ a .arenas * a .pools = leb-true _ _
     (held (at-may-join .may-join .ensures) (at-if3 .if3 .left)) in
-    let kept = taken-before (a .arenas) (a .pools) (at-class-at .class-at .result) p f (a .books .now) (classHead (at-class-at .class-at .result))
-    (omega (arith, b .class)) in (
+    let kept = taken-before (a .arenas) (a .pools) (at-index .index .result) p f (a .books .now) (classHead (at-index .index .result))
+    (omega (arith, b .class, at-index .index .ensures .0)) in (
       b .there,
       at-start .pre .0 .all,
       omega (arith, ap length e, long, at-start .pre .0 .books, c .pool-links .ensures),
-      omega (arith, ap length e, long, at-start .pre .0 .books, b .class),
+      omega (arith, ap length e, long, at-start .pre .0 .books, b .class, at-index .index .ensures .0),
       rw (e, kept) head,
     )
 
@@ -161,26 +156,33 @@ returns-3 c =
     let at-if3 = at-take-back .before .before .before .before in
     let at-may-join = at-if3 .before in
     let at-if2 = at-may-join .before .before in
-    let at-if1 = at-if2 .before in
-    let at-count-fits = at-if1 .before in
-    let at-pool-word2 = at-count-fits .before in
-    let at-pool-word = at-pool-word2 .before .before in
-    let at-size-of = at-pool-word .before .before in
-    let at-class-at = at-size-of .before in
-    let at-start = at-class-at .before .before .before .before .before in
+    let at-index = at-if2 .before .before in
+    let at-if1 = at-index .before in
+    let at-may-give = at-if1 .before in
+    let at-load-pool = at-may-give .before in
+    let at-start = at-load-pool .before .before .before .before .before in
     let a = at-start .args in
     let h = heapOf (a .memory .now) (a .books .now) (a .map .now) in
-    let path = joins 8 (a .arenas) (a .pools) (a .books .now) (at-class-at .class-at .result) (a .offset / 4096) (at-size-of .size-of .result)
-    (at-pool-word .pool-word .result) (at-pool-word2 .pool-word2 .result)
-    (at-size-of .size-of .ensures .0) (at-pool-word .pool-word .ensures .0) (at-pool-word2 .pool-word2 .ensures .0)
-    (held (at-count-fits .count-fits .ensures) (at-if1 .if1 .left)) (at-if2 .if2 .taken) (held (at-may-join .may-join .ensures) (at-if3 .if3 .left)) in
-    step-is 8 (a .arenas) (a .pools) (at-class-at .class-at .result) h (a .offset) _ _ (at-class-at .class-at .ensures) path
+    let q = at-load-pool .load-pool .result in
+    let path = joins 8 (a .arenas) (a .pools) (a .books .now) (q .class) (a .offset / 4096) q (at-load-pool .load-pool .ensures)
+    (held (at-may-give .may-give .ensures) (at-if1 .if1 .left)) (at-if2 .if2 .taken)
+    (rw (at-index .index .ensures .0) at (held (at-may-join .may-join .ensures) (at-if3 .if3 .left))) in
+    step-is 8 (a .arenas) (a .pools) (q .class) h (a .offset) _ _ (ap (λ (x : Pool). x .class) (at-load-pool .load-pool .ensures)) path
     (ap (λ (x : List ℕ). outcome (answerOf 0 (a .offset)) (heapOf (at-take-back .take-back .last .0) x (at-take-back .take-back .last .1 .1 .0)))
     (at-join .join .ensures
-    ∙ ap (λ (x : ℕ). L.join x (4 + at-class-at .class-at .result) (a .offset / 4096) (at-take-back .take-back .last .1 .0))
-    (at-pool-links .pool-links .ensures))
-    ∙ ap (λ (x : Heap). outcome (answerOf 0 (a .offset))
-    (onBooks (L.join (L.poolLinks (a .arenas)) (classHead (at-class-at .class-at .result)) (a .offset / 4096)) x)) (at-take-back .take-back .ensures))
+    ∙ ap₂ (λ (x y : ℕ). L.join x (4 + y) (a .offset / 4096) (at-take-back .take-back .last .1 .0))
+    (at-pool-links .pool-links .ensures) (at-index .index .ensures .0))
+    ∙ ap (λ (x : Heap). outcome (answerOf 0 (a .offset)) (onBooks (L.join (L.poolLinks (a .arenas)) (classHead (q .class)) (a .offset / 4096)) x))
+    (at-take-back .take-back .ensures))
+
+size-of-requires : tie.Need-size-of-requires
+size-of-requires c κs =
+    let at-index = c .before .before in
+    let at-if1 = at-index .before in
+    omega (arith, block at-if1 .class, at-index .index .ensures .0)
+
+index-requires-2 : tie.Need-index-requires-2
+index-requires-2 c κs = search needs
 
 is-start-requires : tie.Need-is-start-requires
 is-start-requires c κs = search needs
@@ -190,25 +192,27 @@ same-length-6 c = search needs
 
 returns-4 : tie.Need-returns-4
 returns-4 c =
-    let at-if2 = c .before .before in
-    let at-pool-word2 = at-if2 .before .before .before in
-    let at-pool-word = at-pool-word2 .before .before in
-    let at-size-of = at-pool-word .before .before in
-    let at-class-at = at-size-of .before in
-    let at-start = at-class-at .before .before .before .before .before in
+    let at-is-start = c .before in
+    let at-index2 = at-is-start .before in
+    let at-size-of = at-index2 .before in
+    let at-if2 = at-size-of .before in
+    let at-index = at-if2 .before .before in
+    let at-load-pool = at-index .before .before .before in
+    let at-start = at-load-pool .before .before .before .before .before in
     let a = at-start .args in
     let h = heapOf (a .memory .now) (a .books .now) (a .map .now) in
-    let path = no-start 8 (a .arenas) (a .pools) (a .books .now) (at-class-at .class-at .result) (a .offset / 4096) (at-size-of .size-of .result)
-    (at-pool-word .pool-word .result) (at-pool-word2 .pool-word2 .result)
-    (at-size-of .size-of .ensures .0) (at-pool-word .pool-word .ensures .0) (at-pool-word2 .pool-word2 .ensures .0)
-    (at-if2 .if2 .left) (failed (c .before .is-start .ensures) (c .if4 .taken)) in
-    step-is 8 (a .arenas) (a .pools) (at-class-at .class-at .result) h (a .offset) _ _ (at-class-at .class-at .ensures) path
-    (damaged 8 (a .arenas) (a .pools) (at-class-at .class-at .result) h (a .offset))
+    let q = at-load-pool .load-pool .result in
+    let path = no-start 8 (a .arenas) (a .pools) (a .books .now) (q .class) (a .offset / 4096) q (at-load-pool .load-pool .ensures)
+    (at-size-of .size-of .result) (at-index2 .index2 .result)
+    (at-size-of .size-of .ensures .0 ∙ ap (sizeOf 8) (at-index .index .ensures .0)) (at-index2 .index2 .ensures .0)
+    (at-if2 .if2 .left) (failed (at-is-start .is-start .ensures) (c .if4 .taken)) in
+    step-is 8 (a .arenas) (a .pools) (q .class) h (a .offset) _ _ (ap (λ (x : Pool). x .class) (at-load-pool .load-pool .ensures)) path
+    (damaged 8 (a .arenas) (a .pools) (q .class) h (a .offset))
 
 back-last-requires : tie.Need-back-last-requires
 back-last-requires c κs =
-    let at-if1 = c .before .before .before .before .before .before .before in
-    let at-start = at-if1 .before .before .before .before .before .before .before .before .before .before .before .before in
+    let at-if1 = c .before .before .before .before .before .before .before .before .before .before .before .before in
+    let at-start = at-if1 .before .before .before .before .before .before .before in
     (at-start .pre .0, block at-if1)
 
 same-length-7 : tie.Need-same-length-7
@@ -224,30 +228,30 @@ returns-5 : tie.Need-returns-5
 returns-5 c =
     let at-back-last = c .before .before .before .before .before .before in
     let at-if5 = at-back-last .before .before .before .before in
-    let at-if4 = at-if5 .before in
+    let at-if4 = at-if5 .before .before in
     let at-is-start = at-if4 .before in
-    let at-if2 = at-is-start .before in
-    let at-if1 = at-if2 .before in
-    let at-count-fits = at-if1 .before in
-    let at-pool-word2 = at-count-fits .before in
-    let at-pool-word = at-pool-word2 .before .before in
-    let at-size-of = at-pool-word .before .before in
-    let at-class-at = at-size-of .before in
-    let at-start = at-class-at .before .before .before .before .before in
+    let at-index2 = at-is-start .before in
+    let at-size-of = at-index2 .before in
+    let at-if2 = at-size-of .before in
+    let at-index = at-if2 .before .before in
+    let at-if1 = at-index .before in
+    let at-may-give = at-if1 .before in
+    let at-load-pool = at-may-give .before in
+    let at-start = at-load-pool .before .before .before .before .before in
     let a = at-start .args in
     let h = heapOf (a .memory .now) (a .books .now) (a .map .now) in
-    let path = falls-empty 8 (a .arenas) (a .pools) (a .books .now) (at-class-at .class-at .result) (a .offset / 4096) (at-size-of .size-of .result)
-    (at-pool-word .pool-word .result) (at-pool-word2 .pool-word2 .result)
-    (at-size-of .size-of .ensures .0) (at-pool-word .pool-word .ensures .0) (at-pool-word2 .pool-word2 .ensures .0)
-    (held (at-count-fits .count-fits .ensures) (at-if1 .if1 .left)) (at-if2 .if2 .left) (held (at-is-start .is-start .ensures) (at-if4 .if4 .left))
-    (at-if5 .if5 .taken) in
-    step-is 8 (a .arenas) (a .pools) (at-class-at .class-at .result) h (a .offset) _ _ (at-class-at .class-at .ensures) path
+    let q = at-load-pool .load-pool .result in
+    let path = falls-empty 8 (a .arenas) (a .pools) (a .books .now) (q .class) (a .offset / 4096) q (at-load-pool .load-pool .ensures)
+    (at-size-of .size-of .result) (at-index2 .index2 .result)
+    (at-size-of .size-of .ensures .0 ∙ ap (sizeOf 8) (at-index .index .ensures .0)) (at-index2 .index2 .ensures .0)
+    (held (at-may-give .may-give .ensures) (at-if1 .if1 .left)) (at-if2 .if2 .left) (held (at-is-start .is-start .ensures) (at-if4 .if4 .left)) (at-if5 .if5 .taken) in
+    step-is 8 (a .arenas) (a .pools) (q .class) h (a .offset) _ _ (ap (λ (x : Pool). x .class) (at-load-pool .load-pool .ensures)) path
     (at-back-last .back-last .ensures)
 
 take-back-requires-2 : tie.Need-take-back-requires-2
 take-back-requires-2 c κs =
-    let at-if1 = c .before .before .before .before .before .before .before in
-    let at-start = at-if1 .before .before .before .before .before .before .before .before .before .before .before .before in
+    let at-if1 = c .before .before .before .before .before .before .before .before .before .before .before .before in
+    let at-start = at-if1 .before .before .before .before .before .before .before in
     (at-start .pre .0, block at-if1)
 
 same-length-10 : tie.Need-same-length-10
@@ -264,37 +268,35 @@ unfolding afterBack backAnswer
 returns-6 c =
     let at-take-back2 = c .before .before .before .before .before .before in
     let at-if5 = at-take-back2 .before .before .before .before in
-    let at-if4 = at-if5 .before in
+    let at-if4 = at-if5 .before .before in
     let at-is-start = at-if4 .before in
-    let at-if2 = at-is-start .before in
-    let at-if1 = at-if2 .before in
-    let at-count-fits = at-if1 .before in
-    let at-pool-word2 = at-count-fits .before in
-    let at-pool-word = at-pool-word2 .before .before in
-    let at-size-of = at-pool-word .before .before in
-    let at-class-at = at-size-of .before in
-    let at-start = at-class-at .before .before .before .before .before in
+    let at-index2 = at-is-start .before in
+    let at-size-of = at-index2 .before in
+    let at-if2 = at-size-of .before in
+    let at-index = at-if2 .before .before in
+    let at-if1 = at-index .before in
+    let at-may-give = at-if1 .before in
+    let at-load-pool = at-may-give .before in
+    let at-start = at-load-pool .before .before .before .before .before in
     let a = at-start .args in
     let h = heapOf (a .memory .now) (a .books .now) (a .map .now) in
-    let path = stays 8 (a .arenas) (a .pools) (a .books .now) (at-class-at .class-at .result) (a .offset / 4096) (at-size-of .size-of .result)
-    (at-pool-word .pool-word .result) (at-pool-word2 .pool-word2 .result)
-    (at-size-of .size-of .ensures .0) (at-pool-word .pool-word .ensures .0) (at-pool-word2 .pool-word2 .ensures .0)
-    (held (at-count-fits .count-fits .ensures) (at-if1 .if1 .left)) (at-if2 .if2 .left) (held (at-is-start .is-start .ensures) (at-if4 .if4 .left))
-    (at-if5 .if5 .left) in
-    step-is 8 (a .arenas) (a .pools) (at-class-at .class-at .result) h (a .offset) _ _ (at-class-at .class-at .ensures) path
+    let q = at-load-pool .load-pool .result in
+    let path = stays 8 (a .arenas) (a .pools) (a .books .now) (q .class) (a .offset / 4096) q (at-load-pool .load-pool .ensures)
+    (at-size-of .size-of .result) (at-index2 .index2 .result)
+    (at-size-of .size-of .ensures .0 ∙ ap (sizeOf 8) (at-index .index .ensures .0)) (at-index2 .index2 .ensures .0)
+    (held (at-may-give .may-give .ensures) (at-if1 .if1 .left)) (at-if2 .if2 .left) (held (at-is-start .is-start .ensures) (at-if4 .if4 .left)) (at-if5 .if5 .left) in
+    step-is 8 (a .arenas) (a .pools) (q .class) h (a .offset) _ _ (ap (λ (x : Pool). x .class) (at-load-pool .load-pool .ensures)) path
     (ap (λ (x : Heap). outcome (answerOf 0 (a .offset)) x) (at-take-back2 .take-back2 .ensures))
 
 pub back-step-spec : {M : Type 1} → statement M
 back-step-spec =
     tie.close
     (tie.spec
-    class-at-requires
-    size-of-requires
-    pool-word-requires
-    pool-word-requires-2
-    count-fits-requires
+    load-pool-requires
+    may-give-requires
     same-length
     returns
+    index-requires
     mul-may-join
     add-may-join
     may-join-requires
@@ -309,6 +311,8 @@ back-step-spec =
     same-length-4
     same-length-5
     returns-3
+    size-of-requires
+    index-requires-2
     is-start-requires
     same-length-6
     returns-4

@@ -1,4 +1,4 @@
--- `steps::give_back::may_empty` makes the three tests of the rules on the words that it reads.
+-- `steps::give_back::may_empty` makes the three tests of the rules, on the record and on the words that it reads.
 -- Assumes nothing.
 use borrow.Author.Needs.{needs}
 use Rattle.steps.proofs.give_back.may_empty.Statement.{statement}
@@ -6,9 +6,6 @@ use Rattle.steps.proofs.give_back.may_empty.Tie as tie
 
 mul-all : tie.Need-mul-all
 mul-all c = search needs
-
-pool-links-requires : tie.Need-pool-links-requires
-pool-links-requires c κs = search needs
 
 may-leave-requires : tie.Need-may-leave-requires
 may-leave-requires c κs = search needs
@@ -24,11 +21,4 @@ returns c = cc
 
 pub may-empty-spec : {M : Type 1} → statement M
 may-empty-spec =
-    tie.close
-    (tie.spec
-    mul-all
-    pool-links-requires
-    may-leave-requires
-    arena-word-requires
-    sub-result
-    returns)
+    tie.close (tie.spec mul-all may-leave-requires arena-word-requires sub-result returns)

@@ -2,7 +2,6 @@
 -- Assumes nothing.
 use mathlib.Core.Path.{ap, _∙_}
 use Prim.Native.Nat.{ℕ, _+_, _*_}
-use native.Mathlib.Omega.{arith}
 use Rattle.rules.specs.Blocks.{putLink}
 use Rattle.rules.specs.Books.{putMapBit}
 use Rattle.books.specs.Records.{putPool, given, give-stored}
@@ -12,16 +11,11 @@ use borrow.Author.Needs.{needs}
 use Rattle.steps.proofs.give_back.take_back.Statement.{statement}
 use Rattle.steps.proofs.give_back.take_back.Tie as tie
 
-load-pool-requires : tie.Need-load-pool-requires
-load-pool-requires c κs = search needs
-
 cast-give : tie.Need-cast-give
-cast-give c =
-    let at-start = c .before .before .before .before .before .before in
-    let s = at-start .pre .1 .start in omega (arith, s .ends)
+cast-give c = search needs
 
 give-requires : tie.Need-give-requires
-give-requires c κs = let e = ap (λ (q : Pool). q .count) (c .before .load-pool .ensures) in omega arith
+give-requires c κs = search needs
 
 store-pool-requires : tie.Need-store-pool-requires
 store-pool-requires c κs = search needs
@@ -30,20 +24,13 @@ mul-put-link : tie.Need-mul-put-link
 mul-put-link c = search needs
 
 add-put-link : tie.Need-add-put-link
-add-put-link c =
-    let at-start = c .before .before .before .before .before .before .before .before .before .before .before in
-    let s = at-start .pre .1 .start in omega (arith, s .ends)
+add-put-link c = search needs
 
 put-link-requires : tie.Need-put-link-requires
-put-link-requires c κs =
-    let at-start = c .before .before .before .before .before .before .before .before .before .before .before in
-    let s = at-start .pre .1 .start in omega (arith, s .ends)
+put-link-requires c κs = search needs
 
 clear-bit-requires : tie.Need-clear-bit-requires
-clear-bit-requires c κs =
-    let at-start = c .before .before .before .before .before .before .before .before .before .before .before .before .before .before .before in
-    let s = at-start .pre .1 .start in
-    (omega (arith, s .few, at-start .pre .1 .number), omega arith)
+clear-bit-requires c κs = search needs
 
 same-length : tie.Need-same-length
 same-length c = search needs
@@ -60,23 +47,20 @@ returns c =
     let at-put-link = at-clear-bit .before .before .before .before in
     let at-store-pool = at-put-link .before .before .before .before in
     let at-give = at-store-pool .before in
-    let at-load-pool = at-give .before .before in
-    let at-start = at-load-pool .before .before .before .before .before in
+    let at-start = at-give .before .before .before .before .before in
     let a = at-start .args in
     heap-is
-    (at-put-link .put-link .ensures ∙ ap (λ (q : Pool). putLink (4096 * a .p + a .f) (q .freeblock) (a .memory .now)) (at-load-pool .load-pool .ensures))
+    (at-put-link .put-link .ensures ∙ ap (λ (q : Pool). putLink (4096 * a .p + a .f) (q .freeblock) (a .memory .now)) (at-start .pre .1 .loaded))
     (at-store-pool .store-pool .ensures
     ∙ ap (λ (q : Pool). putPool (a .arenas) (a .p) q (a .books .now))
-    (at-give .give .ensures ∙ ap (λ (q : Pool). given q (a .f)) (at-load-pool .load-pool .ensures))
+    (at-give .give .ensures ∙ ap (λ (q : Pool). given q (a .f)) (at-start .pre .1 .loaded))
     ∙ give-stored (a .arenas) (a .p) (a .books .now) (a .f))
-    (at-clear-bit .clear-bit .ensures
-    ∙ ap (λ (k : ℕ). putMapBit (a .p) k 0 (a .map .now)) (at-start .pre .1 .number))
+    (at-clear-bit .clear-bit .ensures ∙ ap (λ (k : ℕ). putMapBit (a .p) k 0 (a .map .now)) (at-start .pre .1 .number))
 
 pub take-back-spec : {M : Type 1} → statement M
 take-back-spec =
     tie.close
     (tie.spec
-    load-pool-requires
     cast-give
     give-requires
     store-pool-requires
