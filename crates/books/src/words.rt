@@ -3,7 +3,7 @@
 ghost use mathlib.Core.Path.{_≡_};
 ghost use Prim.Native.Nat.{_^_, _<_};
 ghost use lib.ListN.{length};
-ghost use Rattle.rules.specs.Books.{at, arenaWord, arena, poolWord, pool};
+ghost use Rattle.rules.specs.Books.{at, arenaWord, arena};
 
 // The heads of the lists, and the first record.
 pub const USABLE_HEAD: usize = 2;
@@ -67,12 +67,4 @@ pub fn arena_word(books: &[u32], w: usize, a: usize) -> usize
     ensures { λ r. ⌜ (r ≡ arena (now (books .entry)) w a) × (r < 2 ^ 32) ⌝ }
 {
     word(books, RECORDS + 8 * a + w)
-}
-
-// Word w of pool p's record, in books of so many arenas.
-pub fn pool_word(books: &[u32], arenas: usize, w: usize, p: usize) -> usize
-    requires { ⌜ poolWord arenas w p < length (now books) ⌝ }
-    ensures { λ r. ⌜ (r ≡ pool arenas (now (books .entry)) w p) × (r < 2 ^ 32) ⌝ }
-{
-    word(books, RECORDS + 8 * arenas + 8 * p + w)
 }

@@ -4,18 +4,16 @@ use books::blocks::block_no;
 use books::blocks::is_start;
 use books::links::link_at;
 use books::lists::may_leave;
+use books::pool::Pool;
+use books::pool::load_pool;
 use books::words::ARENA_LINKS;
 use books::words::CARVE_MARK;
-use books::words::CLASS;
 use books::words::FREE_POOLS;
-use books::words::FREEBLOCK;
 use books::words::FREED_HEAD;
-use books::words::NEXT;
 use books::words::UNUSED_HEAD;
 use books::words::USABLE_HEAD;
 use books::words::arena_word;
 use books::words::index;
-use books::words::pool_word;
 use books::words::word;
 use rules::AskPlan;
 use rules::Source;
@@ -30,6 +28,7 @@ ghost use Rattle.rules.specs.Lists.{mayLeave, arenaLinks};
 ghost use Rattle.rules.specs.Outcome.{heapOf};
 ghost use Rattle.rules.specs.Ask.{_⇛_, sameClass, takeAgain, fromMark, fromFreed, frontOf, fromUsable, fromUnused};
 ghost use Rattle.books.specs.Known.{Shaped};
+ghost use Rattle.books.specs.Records.{poolAt};
 ghost use Rattle.plans.specs.Class.{Range, Class};
 ghost use Rattle.plans.specs.Fits.{planNew};
 
@@ -72,7 +71,7 @@ fn set_anew(map: &[u64], size: usize, source: Source, p: usize) -> AskPlan
     )
 }
 
-// Pool p is of the class already.
+// Pool p, whose record is given, is of the class already.
 fn same_class(
     memory: &[u8],
     books: &[u32],
@@ -83,11 +82,13 @@ fn same_class(
     size: usize,
     a: usize,
     p: usize,
+    pool: Pool,
 ) -> AskPlan
-    requires { ⌜ Shaped arenas pools (length (now memory)) (length (now books)) (length (now map)) × Class class size × (p < arenas * pools) ⌝ }
+    requires { ⌜ Shaped arenas pools (length (now memory)) (length (now books)) (length (now map)) × Class class size × (p < arenas * pools)
+        × (pool ≡ poolAt arenas (now books) p) ⌝ }
     ensures { λ r. ⌜ r ≡ sameClass 8 arenas pools (heapOf (now (memory .entry)) (now (books .entry)) (now (map .entry))) class a p ⌝ }
 {
-    let f = pool_word(books, arenas, FREEBLOCK, p);
+    let f = index(pool.freeblock);
     if spare(map, p, size, f) {
         let l = index(link_at(memory, 4096 * p + f));
         return keeps(follows(map, p, size, l), AskPlan::Again(a, p, f, l));
@@ -95,7 +96,7 @@ fn same_class(
     AskPlan::Damaged
 }
 
-// Pool p, just taken from the freed pools.
+// Pool p, whose record is given, just taken from the freed pools.
 fn take_again(
     memory: &[u8],
     books: &[u32],
@@ -106,12 +107,14 @@ fn take_again(
     size: usize,
     a: usize,
     p: usize,
+    pool: Pool,
 ) -> AskPlan
-    requires { ⌜ Shaped arenas pools (length (now memory)) (length (now books)) (length (now map)) × Class class size × (p < arenas * pools) ⌝ }
+    requires { ⌜ Shaped arenas pools (length (now memory)) (length (now books)) (length (now map)) × Class class size × (p < arenas * pools)
+        × (pool ≡ poolAt arenas (now books) p) ⌝ }
     ensures { λ r. ⌜ r ≡ takeAgain 8 arenas pools (heapOf (now (memory .entry)) (now (books .entry)) (now (map .entry))) class a p ⌝ }
 {
-    if pool_word(books, arenas, CLASS, p) == class {
-        return same_class(memory, books, map, arenas, pools, class, size, a, p);
+    if index(pool.class) == class {
+        return same_class(memory, books, map, arenas, pools, class, size, a, p, pool);
     }
     set_anew(map, size, Source::Freed(a), p)
 }
@@ -179,10 +182,10 @@ fn from_freed(
     requires { ⌜ Shaped arenas pools (length (now memory)) (length (now books)) (length (now map)) × Class class size × (a < arenas) × (p < arenas * pools) ⌝ }
     ensures { λ r. ⌜ r ≡ fromFreed 8 arenas pools (heapOf (now (memory .entry)) (now (books .entry)) (now (map .entry))) class a p ⌝ }
 {
-    let next = pool_word(books, arenas, NEXT, p);
-    let again = take_again(memory, books, map, arenas, pools, class, size, a, p);
+    let pool = load_pool(books, arenas, p);
+    let again = take_again(memory, books, map, arenas, pools, class, size, a, p, pool);
     keeps(
-        next <= arenas * pools,
+        index(pool.next) <= arenas * pools,
         counted(books, arenas, pools, a, again),
     )
 }

@@ -1,15 +1,20 @@
 -- `plans::ask::from_freed` meets its contract: it makes the tests of the rules.
 -- Assumes nothing.
-use borrow.Author.Needs.{needs}
+use mathlib.Core.Path.{ap, _∙_}
 use Rattle.rules.specs.Ask.{fromFreed}
+use Rattle.books.specs.declared.pool.Pool.{Pool}
+use borrow.Author.Needs.{needs}
 use Rattle.plans.proofs.ask.from_freed.Statement.{statement}
 use Rattle.plans.proofs.ask.from_freed.Tie as tie
 
-pool-word-requires : tie.Need-pool-word-requires
-pool-word-requires c κs = search needs
+load-pool-requires : tie.Need-load-pool-requires
+load-pool-requires c κs = search needs
 
 take-again-requires : tie.Need-take-again-requires
 take-again-requires c κs = search needs
+
+index-requires : tie.Need-index-requires
+index-requires c κs = search needs
 
 mul-keeps : tie.Need-mul-keeps
 mul-keeps c = search needs
@@ -22,14 +27,18 @@ keeps-requires c κs = search needs
 
 returns : tie.Need-returns
 unfolding fromFreed
-returns c = cc
+returns c =
+    let at-index = c .before .before in
+    let at-load-pool = at-index .before .before in
+    cc (at-index .index .ensures .0 ∙ ap (λ (q : Pool). q .next) (at-load-pool .load-pool .ensures))
 
 pub from-freed-spec : {M : Type 1} → statement M
 from-freed-spec =
     tie.close
     (tie.spec
-    pool-word-requires
+    load-pool-requires
     take-again-requires
+    index-requires
     mul-keeps
     counted-requires
     keeps-requires
