@@ -166,44 +166,19 @@ module _ {al A P : ℕ} {h : Heap} {r : Plain} (L : Aligned al) (S : Sound al A 
         new-fits : new + size ≤ length (asked .memory)
         new-fits = rw (← new-size) (in-memory L (D .sound) new new-at)
 
-        new-long : length (part new size (copied .memory)) ≡ size
-        new-long = part-long (copied .memory) new size (rw (length-sets (asked .memory) new text) new-fits)
-
-        -- the give-back leaves the new block's bytes
-        new-stays : part new size (giveBack al copied o .heap .memory) ≡ part new size (copied .memory)
-        new-stays = sym (holding-live L moved-sound new w ∙ ap (λ (s : ℕ). part new s (giveBack al copied o .heap .memory)) long) ∙ here
-          where
-            here : holding al A P (giveBack al copied o .heap) new ≡ part new size (copied .memory)
-            here =
-                moved-holds new
-                ∙ to-other o [] (to new (part new size (copied .memory)) (holding al A P h)) new (λ q. differ (sym q))
-                ∙ to-same new (part new size (copied .memory)) (holding al A P h) new refl
-
-            w : LiveAt al A P (backPlain P (askPlain al P r n) (t .pool) (t .block)) new
-            w = live-rows L moved-sound new (holding-some al A P (giveBack al copied o .heap) new some)
-              where
-                some : holding al A P (giveBack al copied o .heap) new ≢ []
-                some q = omega (arith, ap length (sym here ∙ q), new-long, size-low L (classOf al n) (has-class L n hi))
-
-            long : liveSize w ≡ size
-            long = sym (holding-long L moved-sound new w) ∙ ap length here ∙ new-long
-
         text-is : text ≡ take k (holding al A P h o)
         text-is =
             sym (take-take k (liveSize u) (drop o (asked .memory)) (omega (arith, same-size, size-is, min-le-right n (sizeAt al A (h .books) o))))
             ∙ ap (take k) (sym (holding-live L (D .sound) o u) ∙ old-stays)
 
-        new-bytes : take k (holding al A P h o) ++ drop k (part new size (copied .memory)) ≡ part new size (copied .memory)
+        new-bytes : part new size (copied .memory) ≡ take k (holding al A P h o) ++ drop k (part new size (asked .memory))
         new-bytes =
-            let e = text-part (asked .memory) text new size (omega (arith, text-fits, new-size)) new-fits in
-            ap (λ (b : List ℕ). take k (holding al A P h o) ++ drop k b) e
-            ∙ ap (λ (b : List ℕ). take k (holding al A P h o) ++ b) (drop-at text (drop (length text) (part new size (asked .memory))) k text-long)
-            ∙ ap (λ (b : List ℕ). b ++ drop (length text) (part new size (asked .memory))) (sym text-is)
-            ∙ sym e
+            text-part (asked .memory) text new size (omega (arith, text-fits, new-size)) new-fits
+            ∙ ap₂ (λ (b : List ℕ) (i : ℕ). b ++ drop i (part new size (asked .memory))) text-is text-long
 
         -- a moving resize carries the first bytes of the old block over to the new one
         pub moved-leaves : Leaves al A P h (giveBack al copied o .heap) (backPlain P (askPlain al P r n) (t .pool) (t .block))
-            (carried al n o new (giveBack al copied o .heap .memory) (holding al A P h))
+            (carried al n o new (asked .memory) (holding al A P h))
         moved-leaves =
             record {
               sound = moved-sound;
@@ -218,10 +193,8 @@ module _ {al A P : ℕ} {h : Heap} {r : Plain} (L : Aligned al) (S : Sound al A 
             length-is = ap (min n) (size-is ∙ sym (holding-long L S o t))
 
             go : (y : ℕ) → Dec (y ≡ new) → Dec (y ≡ o)
-                → to o [] (to new (part new size (copied .memory)) (holding al A P h)) y ≡ carried al n o new (giveBack al copied o .heap .memory) (holding al A P h) y
-            go y (yes q) d =
-                rw (ne-eqb y o (λ v. differ (sym v ∙ q)), eq-eqb y new q, ← length-is)
-                (sym (ap (λ (b : List ℕ). take k (holding al A P h o) ++ drop k b) new-stays ∙ new-bytes))
+                → to o [] (to new (part new size (copied .memory)) (holding al A P h)) y ≡ carried al n o new (asked .memory) (holding al A P h) y
+            go y (yes q) d = rw (ne-eqb y o (λ v. differ (sym v ∙ q)), eq-eqb y new q, ← length-is) new-bytes
             go y (no q) (yes d) = rw (ne-eqb y new q, eq-eqb y o d)
             go y (no q) (no d) = rw (ne-eqb y new q, ne-eqb y o d)
 
