@@ -10,7 +10,7 @@ use native.Mathlib.Nat.{min-le-left, min-le-right}
 use native.Mathlib.Decide.{ℕ-discrete}
 use native.Mathlib.Omega.{arith}
 use lib.ListN.{length, take, drop, length-drop}
-use lib.Seq.{sets, length-sets, length-take-le, take-take, drop-at}
+use lib.Seq.{sets, length-sets, length-take-le, take-take}
 use borrow.Author.Tests.{eq-eqb, ne-eqb, le-leb}
 use Rattle.rules.specs.declared.AskPlan.the-variants.{NoRoom}
 use Rattle.rules.specs.Books.{Heap}
@@ -20,12 +20,12 @@ use Rattle.rules.specs.Ask.{askAnswer, afterAsk, askStep}
 use Rattle.rules.specs.Resize.{keeps, giveOld, moved, resizeStep}
 use Rattle.rules.specs.View.{part}
 use Rattle.rules.specs.Numbers.{giveBack, resize, sizeNumber}
-use Rattle.laws.specs.Update.{to, to-same, to-other, to-cong}
+use Rattle.laws.specs.Update.{to, to-cong}
 use Rattle.laws.specs.Plain.{Plain, planAsk as plainAsk, askPlain, backPlain, resizePlain, resizeAnswer}
-use Rattle.laws.specs.Sizes.{Aligned, size-low, has-class, class-fits}
+use Rattle.laws.specs.Sizes.{Aligned, has-class, class-fits}
 use Rattle.laws.specs.Sound.{Sound}
 use Rattle.laws.specs.Paths.{Hand, Asked}
-use Rattle.laws.specs.Bytes.{outside-less, part-long, sets-off, text-part}
+use Rattle.laws.specs.Bytes.{outside-less, sets-off, text-part}
 use Rattle.laws.specs.Holding.{LiveAt, liveSize, holding, live-rows, class-is, rows-live, in-memory, one-pool, one-block, at-block, at-class, holding-live, holding-long, holding-more, holding-some, holding-none, holding-others, Leaves}
 use Rattle.laws.specs.Calls.{shape-zero, DoneOrNot, done-or-not, ask-done, block-of, back-is, back-leaves}
 use Rattle.laws.specs.Written.{written-leaves}
