@@ -1,4 +1,5 @@
--- Each promise determines its call: any two outcomes that it allows, of one heap and the same arguments, are equal in answer and in every byte and word.
+-- Each promise determines its call: any two outcomes that it allows, of one heap and the same arguments, are equal in
+-- answer and in every byte and word.
 -- Assumes nothing.
 use mathlib.Core.Path.{_≡_, sym, ap, ap₂, _∙_}
 use mathlib.Core.List.{List}
@@ -9,7 +10,17 @@ use Rattle.rules.specs.declared.Rolled.{Rolled}
 use Rattle.rules.specs.Books.{Heap}
 use Rattle.rules.specs.Outcome.{Outcome, outcome}
 use Rattle.rules.specs.Numbers.{RollOutcome, format, ask, giveBack, resize, write}
-use Rattle.rules.specs.Promises.{FormatPromise, AskPromise, GiveBackPromise, ResizePromise, ViewPromise, ViewPlace, ViewSizePromise, WritePromise, RollCallPromise}
+use Rattle.rules.specs.Promises.{
+  FormatPromise,
+  AskPromise,
+  GiveBackPromise,
+  ResizePromise,
+  ViewPromise,
+  ViewPlace,
+  ViewSizePromise,
+  WritePromise,
+  RollCallPromise,
+}
 
 -- two outcomes that a rule allows
 one : (x : Outcome) (r s : Answer) (g k : Heap) → outcome r g ≡ x → outcome s k ≡ x → (r ≡ s) × (g ≡ k)
@@ -35,7 +46,9 @@ module _ (h g k : Heap) where
 
   -- view's part: its bytes, and its place, `memory` being where memory lies
   pub view-one : (o : ℕ) (memory : ℕ × ℕ) (part other : List ℕ) (at to : ℕ × ℕ)
-      → ViewPromise h g o part × ViewPlace h o memory at → ViewPromise h k o other × ViewPlace h o memory to → (part ≡ other) × (at ≡ to) × (g ≡ k)
+      → ViewPromise h g o part × ViewPlace h o memory at
+      → ViewPromise h k o other × ViewPlace h o memory to
+      → (part ≡ other) × (at ≡ to) × (g ≡ k)
   view-one o memory part other at to e f = (
     e .0 .0 ∙ sym (f .0 .0),
     ap₂ (λ (x y : ℕ). (x, y)) (e .1 .0 ∙ sym (f .1 .0)) (e .1 .1 ∙ sym (f .1 .1)),
@@ -46,7 +59,8 @@ module _ (h g k : Heap) where
   view-size-one o r s e f = (e .0 ∙ sym (f .0), e .1 ∙ sym (f .1))
 
   -- and the roll words that it leaves
-  pub roll-call-one : (w u v : List ℕ) (r s : Rolled) → RollCallPromise h g w u r → RollCallPromise h k w v s → (r ≡ s) × (u ≡ v) × (g ≡ k)
+  pub roll-call-one : (w u v : List ℕ) (r s : Rolled)
+      → RollCallPromise h g w u r → RollCallPromise h k w v s → (r ≡ s) × (u ≡ v) × (g ≡ k)
   roll-call-one w u v r s e f =
       let t = e .0 ∙ sym (f .0) in
       (ap (λ (o : RollOutcome). o .answer) t, ap (λ (o : RollOutcome). o .words) t, e .1 ∙ sym (f .1))

@@ -1,5 +1,6 @@
-// The calls of 01, over three lent buffers: memory, books and map. Each tests in 01's order and then takes its step. None requires anything
-// of its caller, and the promise of each, said in crate rules (`Promises`), is one equation: what it answers and what it leaves is what the rules say.
+// The calls of 01, over three lent buffers: memory, books and map. Each tests in 01's order and then takes its step.
+// None requires anything of its caller, and the promise of each (`Promises` in crate rules) is one equation: what it
+// answers and what it leaves is what the rules say.
 use asks::answers::answer;
 use asks::answers::refuse;
 use asks::ask::ask_step;
@@ -30,7 +31,17 @@ ghost use Rattle.rules.specs.Books.{at, poolWord};
 ghost use Rattle.rules.specs.Blocks.{classAt, sizeAt};
 ghost use Rattle.rules.specs.Outcome.{heapOf};
 ghost use Rattle.rules.specs.Numbers.{inOrder, shapeNumber, sizeNumber, offsetNumber};
-ghost use Rattle.rules.specs.Promises.{FormatPromise, AskPromise, GiveBackPromise, ResizePromise, ViewPromise, ViewPlace, ViewSizePromise, WritePromise, RollCallPromise};
+ghost use Rattle.rules.specs.Promises.{
+  FormatPromise,
+  AskPromise,
+  GiveBackPromise,
+  ResizePromise,
+  ViewPromise,
+  ViewPlace,
+  ViewSizePromise,
+  WritePromise,
+  RollCallPromise,
+};
 ghost use Rattle.heap.specs.Order.{Askable, Passed};
 
 // Format: makes a fresh heap of so many arenas and pools. All books and map are written, and no memory.
@@ -167,7 +178,8 @@ pub fn view<'a, 'b, 'c>(
 ) -> &'a [u8]
     ensures what { λ r. ⌜ ViewPromise (heapOf (now (memory .entry)) (now (books .entry)) (now (map .entry)))
         (heapOf (now (memory .exit)) (now (books .exit)) (now (map .exit))) offset (now r) ⌝ }
-    ensures wherever { λ r. ⌜ ViewPlace (heapOf (now (memory .entry)) (now (books .entry)) (now (map .entry))) offset (ptr (memory .entry)) (ptr r) ⌝ }
+    ensures wherever { λ r. ⌜ ViewPlace (heapOf (now (memory .entry)) (now (books .entry)) (now (map .entry)))
+        offset (ptr (memory .entry)) (ptr r) ⌝ }
 {
     let number = offset_test(memory, books, map, offset);
     if number != 0 {

@@ -9,7 +9,15 @@ use Rattle.rules.specs.declared.Rolled.{Rolled}
 use Rattle.rules.specs.Books.{Heap}
 use Rattle.rules.specs.Outcome.{answerOf}
 use Rattle.rules.specs.Numbers.{rolledOf, sizedOf}
-use Rattle.rules.specs.Promises.{FormatPromise, AskPromise, GiveBackPromise, ResizePromise, ViewSizePromise, WritePromise, RollCallPromise}
+use Rattle.rules.specs.Promises.{
+  FormatPromise,
+  AskPromise,
+  GiveBackPromise,
+  ResizePromise,
+  ViewSizePromise,
+  WritePromise,
+  RollCallPromise,
+}
 use Rattle.heap.specs.Unique as H
 use Rattle.heskavern.specs.declared.HeskavernAnswer.{HeskavernAnswer}
 
@@ -32,28 +40,35 @@ module _ (h g k : Heap) (r s : HeskavernAnswer) where
   both : (answerIn r ≡ answerIn s) × (g ≡ k) → (r ≡ s) × (g ≡ k)
   both t = (same (t .0), t .1)
 
-  pub format-one : (A P : ℕ) → FormatPromise h g A P (answerIn r) → FormatPromise h k A P (answerIn s) → (r ≡ s) × (g ≡ k)
+  pub format-one : (A P : ℕ)
+      → FormatPromise h g A P (answerIn r) → FormatPromise h k A P (answerIn s) → (r ≡ s) × (g ≡ k)
   format-one A P e f = both (H.format-one h g k (answerIn r) (answerIn s) A P e f)
 
-  pub ask-one : (n : ℕ) → AskPromise h g n (answerIn r) → AskPromise h k n (answerIn s) → (r ≡ s) × (g ≡ k)
+  pub ask-one : (n : ℕ)
+      → AskPromise h g n (answerIn r) → AskPromise h k n (answerIn s) → (r ≡ s) × (g ≡ k)
   ask-one n e f = both (H.ask-one h g k (answerIn r) (answerIn s) n e f)
 
-  pub give-back-one : (o : ℕ) → GiveBackPromise h g o (answerIn r) → GiveBackPromise h k o (answerIn s) → (r ≡ s) × (g ≡ k)
+  pub give-back-one : (o : ℕ)
+      → GiveBackPromise h g o (answerIn r) → GiveBackPromise h k o (answerIn s) → (r ≡ s) × (g ≡ k)
   give-back-one o e f = both (H.give-back-one h g k (answerIn r) (answerIn s) o e f)
 
-  pub resize-one : (o n : ℕ) → ResizePromise h g o n (answerIn r) → ResizePromise h k o n (answerIn s) → (r ≡ s) × (g ≡ k)
+  pub resize-one : (o n : ℕ)
+      → ResizePromise h g o n (answerIn r) → ResizePromise h k o n (answerIn s) → (r ≡ s) × (g ≡ k)
   resize-one o n e f = both (H.resize-one h g k (answerIn r) (answerIn s) o n e f)
 
-  pub view-size-one : (o : ℕ) → ViewSizePromise h g o (sizedIn r) → ViewSizePromise h k o (sizedIn s) → (r ≡ s) × (g ≡ k)
+  pub view-size-one : (o : ℕ)
+      → ViewSizePromise h g o (sizedIn r) → ViewSizePromise h k o (sizedIn s) → (r ≡ s) × (g ≡ k)
   view-size-one o e f =
       let t = H.view-size-one h g k o (sizedIn r) (sizedIn s) e f in
       (ap (λ (x : Sized). record { number = x .number; value = x .size }) (t .0), t .1)
 
-  pub write-one : (o : ℕ) (text : List ℕ) → WritePromise h g o text (answerIn r) → WritePromise h k o text (answerIn s) → (r ≡ s) × (g ≡ k)
+  pub write-one : (o : ℕ) (text : List ℕ)
+      → WritePromise h g o text (answerIn r) → WritePromise h k o text (answerIn s) → (r ≡ s) × (g ≡ k)
   write-one o text e f = both (H.write-one h g k (answerIn r) (answerIn s) o text e f)
 
   -- and the roll words that it leaves
-  pub roll-call-one : (w u v : List ℕ) → RollCallPromise h g w u (rolledIn r) → RollCallPromise h k w v (rolledIn s) → (r ≡ s) × (u ≡ v) × (g ≡ k)
+  pub roll-call-one : (w u v : List ℕ)
+      → RollCallPromise h g w u (rolledIn r) → RollCallPromise h k w v (rolledIn s) → (r ≡ s) × (u ≡ v) × (g ≡ k)
   roll-call-one w u v e f =
       let t = H.roll-call-one h g k w u v (rolledIn r) (rolledIn s) e f in
       (ap (λ (x : Rolled). record { number = x .number; value = x .count }) (t .0), t .1, t .2)

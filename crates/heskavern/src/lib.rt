@@ -3,7 +3,15 @@
 // since an exported function cannot return a slice.
 ghost use Rattle.rules.specs.Outcome.{answerOf, heapOf};
 ghost use Rattle.rules.specs.Numbers.{rolledOf, sizedOf};
-ghost use Rattle.rules.specs.Promises.{FormatPromise, AskPromise, GiveBackPromise, ResizePromise, ViewSizePromise, WritePromise, RollCallPromise};
+ghost use Rattle.rules.specs.Promises.{
+  FormatPromise,
+  AskPromise,
+  GiveBackPromise,
+  ResizePromise,
+  ViewSizePromise,
+  WritePromise,
+  RollCallPromise,
+};
 
 // What each call answers: 01's number, and the offset, block size or count that stands beside it. The answers of crate heap, in the layout of C.
 #[repr(C)]
@@ -22,7 +30,8 @@ pub extern "C" fn heskavern_format(
     pools: usize,
 ) -> HeskavernAnswer
     ensures { λ r. ⌜ FormatPromise (heapOf (now (memory .entry)) (now (books .entry)) (now (map .entry)))
-        (heapOf (now (memory .exit)) (now (books .exit)) (now (map .exit))) arenas pools (answerOf (r .number) (r .value)) ⌝ }
+        (heapOf (now (memory .exit)) (now (books .exit)) (now (map .exit)))
+        arenas pools (answerOf (r .number) (r .value)) ⌝ }
 {
     let answer = heap::format(memory, books, map, arenas, pools);
     HeskavernAnswer {
@@ -77,7 +86,8 @@ pub extern "C" fn heskavern_resize(
     size: usize,
 ) -> HeskavernAnswer
     ensures { λ r. ⌜ ResizePromise (heapOf (now (memory .entry)) (now (books .entry)) (now (map .entry)))
-        (heapOf (now (memory .exit)) (now (books .exit)) (now (map .exit))) offset size (answerOf (r .number) (r .value)) ⌝ }
+        (heapOf (now (memory .exit)) (now (books .exit)) (now (map .exit)))
+        offset size (answerOf (r .number) (r .value)) ⌝ }
 {
     let answer = heap::resize(memory, books, map, offset, size);
     HeskavernAnswer {
@@ -114,7 +124,8 @@ pub extern "C" fn heskavern_write(
     text: &[u8],
 ) -> HeskavernAnswer
     ensures { λ r. ⌜ WritePromise (heapOf (now (memory .entry)) (now (books .entry)) (now (map .entry)))
-        (heapOf (now (memory .exit)) (now (books .exit)) (now (map .exit))) offset (now (text .entry)) (answerOf (r .number) (r .value)) ⌝ }
+        (heapOf (now (memory .exit)) (now (books .exit)) (now (map .exit)))
+        offset (now (text .entry)) (answerOf (r .number) (r .value)) ⌝ }
 {
     let answer = heap::write(memory, books, map, offset, text);
     HeskavernAnswer {
@@ -132,7 +143,8 @@ pub extern "C" fn heskavern_roll_call(
     roll: &mut [u32],
 ) -> HeskavernAnswer
     ensures { λ r. ⌜ RollCallPromise (heapOf (now (memory .entry)) (now (books .entry)) (now (map .entry)))
-        (heapOf (now (memory .exit)) (now (books .exit)) (now (map .exit))) (now (roll .entry)) (now (roll .exit)) (rolledOf (r .number) (r .value)) ⌝ }
+        (heapOf (now (memory .exit)) (now (books .exit)) (now (map .exit)))
+        (now (roll .entry)) (now (roll .exit)) (rolledOf (r .number) (r .value)) ⌝ }
 {
     let rolled = heap::roll_call(memory, books, map, roll);
     HeskavernAnswer {

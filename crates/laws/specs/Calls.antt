@@ -1,5 +1,5 @@
--- The calls of 01 over a sound heap: the tests of 1 and 2 pass, ask and give back do the plain heap's step, which is never damage, and view shows what is held; and what
--- they leave to be held.
+-- The calls of 01 over a sound heap: the tests of 1 and 2 pass, ask and give back do the plain heap's step, which is
+-- never damage, and view shows what is held; and what they leave to be held.
 -- Assumes nothing.
 use mathlib.Core.Path.{_≡_, refl, _∙_}
 use mathlib.Core.Logic.{_⊎_, inl, inr}
@@ -22,7 +22,19 @@ use Rattle.rules.specs.Outcome.{outcome, refused, answerOf, passing}
 use Rattle.rules.specs.Ask.{askStep, askAnswer, afterAsk}
 use Rattle.rules.specs.GiveBack.{backStep, backAnswer, afterBack}
 use Rattle.rules.specs.View.{part}
-use Rattle.rules.specs.Numbers.{fitNumber, shapeNumber, sizeNumber, inOrder, offsetNumber, blockSize, sizedOf, ask, giveBack, view, viewSize}
+use Rattle.rules.specs.Numbers.{
+  fitNumber,
+  shapeNumber,
+  sizeNumber,
+  inOrder,
+  offsetNumber,
+  blockSize,
+  sizedOf,
+  ask,
+  giveBack,
+  view,
+  viewSize,
+}
 use Rattle.books.specs.Known.{shaped}
 use Rattle.books.specs.Tests.{either}
 use Rattle.laws.specs.Update.{to}
@@ -45,7 +57,8 @@ shape-zero {al} {A} {P} {h} S =
 module _ {al A P : ℕ} {h : Heap} {r : Plain} (S : Sound al A P h r) (o : ℕ) where
   -- the tests of a call on an offset come to the live test
   by-live : {X : Type 0} (refusal : ℕ → X) (rest : X)
-      → passing (inOrder (shapeNumber h) 0 (offsetNumber al h o) 0) refusal rest ≡ (if live al A P (h .books) (h .map) o then rest else refusal 5)
+      → passing (inOrder (shapeNumber h) 0 (offsetNumber al h o) 0) refusal rest
+      ≡ (if live al A P (h .books) (h .map) o then rest else refusal 5)
   unfolding liveNumber
   by-live refusal rest = rw (shape-zero S, S .rule1 .arenas-are, S .rule1 .pools-are) (go (live al A P (h .books) (h .map) o))
     where
@@ -57,7 +70,8 @@ module _ {al A P : ℕ} {h : Heap} {r : Plain} (S : Sound al A P h r) (o : ℕ) 
   unfolding view holding
   view-is = by-live (λ k. []) (part o (blockSize al h o) (h .memory)) ∙ rw (S .rule1 .arenas-are)
 
-  pub view-size-is : viewSize al h o ≡ (if live al A P (h .books) (h .map) o then sizedOf 0 (sizeAt al A (h .books) o) else sizedOf 5 0)
+  pub view-size-is : viewSize al h o
+      ≡ (if live al A P (h .books) (h .map) o then sizedOf 0 (sizeAt al A (h .books) o) else sizedOf 5 0)
   unfolding viewSize
   view-size-is = by-live (λ k. sizedOf k 0) (sizedOf 0 (blockSize al h o)) ∙ rw (S .rule1 .arenas-are)
 

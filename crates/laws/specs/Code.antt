@@ -13,16 +13,42 @@ use Rattle.rules.specs.declared.Rolled.{Rolled}
 use Rattle.rules.specs.Books.{Heap}
 use Rattle.rules.specs.Outcome.{Outcome, outcome}
 use Rattle.rules.specs.Numbers.{RollOutcome, rolledOf, format, ask, giveBack, resize, view, write, rollCall}
-use Rattle.rules.specs.Promises.{FormatPromise, AskPromise, GiveBackPromise, ResizePromise, ViewPromise, ViewSizePromise, WritePromise, RollCallPromise}
+use Rattle.rules.specs.Promises.{
+  FormatPromise,
+  AskPromise,
+  GiveBackPromise,
+  ResizePromise,
+  ViewPromise,
+  ViewSizePromise,
+  WritePromise,
+  RollCallPromise,
+}
 use Rattle.laws.specs.Sizes.{Aligned}
-use Rattle.laws.specs.History.{Event, formats, asks, gives, resizes, views, sizes, writes, rolls, pokes, Ledger, State, numberOf, after, run, NoSix}
+use Rattle.laws.specs.History.{
+  Event,
+  formats,
+  asks,
+  gives,
+  resizes,
+  views,
+  sizes,
+  writes,
+  rolls,
+  pokes,
+  Ledger,
+  State,
+  numberOf,
+  after,
+  run,
+  NoSix,
+}
 use Rattle.laws.specs.Theorems.{begun, end, no-six, view-shows, entries, entryCount, roll-with-room}
 
 abbrev pub state : Ledger → Heap → State
 state l h = record { heap = h; ledger = l }
 
--- the call of event e, over the buffers of h, answered number k and left the buffers of g: what its promise says of that (crate rules, `Promises`; the contracts of crate
--- heap say the same). View answers no number, and a holder writes its byte itself
+-- the call of event e, over the buffers of h, answered number k and left the buffers of g: that it kept its promise, which
+-- has here the name that its contract in crate heap uses. View answers no number, and a holder writes its byte itself
 abbrev pub Kept : Ledger → Heap → Event → ℕ → Heap → Type 0
 Kept l h (formats A P) k g = (r : Answer) × (r .number ≡ k) × FormatPromise h g A P r
 Kept l h (asks n) k g = (r : Answer) × (r .number ≡ k) × AskPromise h g n r
@@ -95,13 +121,17 @@ module _ (h : Heap) (A P : ℕ) (ok : format h A P .answer .number ≡ 0) (es : 
   pub ran-no-six : Sixless ks
   ran-no-six = subst Sixless (sym (ran-is ran .1)) (sixless (begun h A P) es (no-six eight h A P ok es))
 
-  -- a roll call with room for it lists the ledger of the calls: offset and size of each block that is held, and how many there are
-  pub ran-roll : {left : Heap} (words v : List ℕ) (r : Rolled) → RollCallPromise g left words v r → length (entries eight h A P ok es) ≤ length words
-      → (r ≡ rolledOf 0 (entryCount eight h A P ok es)) × (v ≡ entries eight h A P ok es ++ drop (length (entries eight h A P ok es)) words)
+  -- a roll call with room for it lists the ledger of the calls: offset and size of each block that is held, and how many
+  -- there are
+  pub ran-roll : {left : Heap} (words v : List ℕ) (r : Rolled)
+      → RollCallPromise g left words v r → length (entries eight h A P ok es) ≤ length words
+      → (r ≡ rolledOf 0 (entryCount eight h A P ok es))
+      × (v ≡ entries eight h A P ok es ++ drop (length (entries eight h A P ok es)) words)
   ran-roll words v r kept room =
       let e = kept .0 ∙ ap (λ (x : Heap). rollCall 8 x words) (ran-is ran .0) ∙ roll-with-room eight h A P ok es words room in
       (ap (λ (x : RollOutcome). x .answer) e, ap (λ (x : RollOutcome). x .words) e)
 
   -- and a view shows the ledger of the calls: the bytes of the block that is held there, or none
-  pub ran-view : {left : Heap} (o : ℕ) (part : List ℕ) → ViewPromise g left o part → part ≡ end eight h A P ok es .ledger o
+  pub ran-view : {left : Heap} (o : ℕ) (part : List ℕ)
+      → ViewPromise g left o part → part ≡ end eight h A P ok es .ledger o
   ran-view o part kept = kept .0 ∙ ap (λ (x : Heap). view 8 x o) (ran-is ran .0) ∙ view-shows eight h A P ok es o

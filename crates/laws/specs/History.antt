@@ -53,8 +53,8 @@ module _ (al : ℕ) where
   numberOf x (rolls words) = rollCall al (x .heap) words .answer .number
   numberOf x (pokes o d v) = 0
 
-  -- a resize to n that moves the block at o to new: its first bytes go along; the others are as they were when the new block was handed out, m being memory as the
-  -- ask left it
+  -- a resize to n that moves the block at o to new: its first bytes go along; the others are as they were when the new
+  -- block was handed out, m being memory as the ask left it
   abbrev pub carried : ℕ → ℕ → ℕ → List ℕ → Ledger → Ledger
   carried n o new m g =
       to new (take (min n (length (g o))) (g o) ++ drop (min n (length (g o))) (part new (sizeOf al (classOf al n)) m)) (to o [] g)

@@ -1,4 +1,5 @@
--- Small histories, computed by `run` itself, that reach each path of ask and give back, a refusal with 4, a moved resize and a second arena: the theorems are not empty.
+-- Small histories, computed by `run` itself, that reach each path of ask and give back, a refusal with 4, a moved resize
+-- and a second arena: the theorems are not empty.
 -- Assumes nothing.
 use mathlib.Core.Path.{_≡_}
 use mathlib.Core.Bool.{Bool, true, _&&_}
@@ -21,10 +22,35 @@ use Rattle.rules.specs.GiveBack.{emptying, planBack, afterBack, backAnswer, bac
 use Rattle.rules.specs.Resize.{giveOld, moved, resizeStep}
 use Rattle.rules.specs.Outcome.{heapOf}
 use Rattle.rules.specs.View.{part, rollBlocks, rollPool, rollPools}
-use Rattle.rules.specs.Numbers.{fitNumber, shapeNumber, sizeNumber, roomNumber, rollOf, format, ask, giveBack, resize, write}
+use Rattle.rules.specs.Numbers.{
+  fitNumber,
+  shapeNumber,
+  sizeNumber,
+  roomNumber,
+  rollOf,
+  format,
+  ask,
+  giveBack,
+  resize,
+  write,
+}
 use Rattle.rules.specs.Lines.{same}
 use Rattle.rules.specs.Whole.{tab, each-three}
-use Rattle.laws.specs.History.{Event, formats, asks, gives, resizes, views, sizes, writes, rolls, pokes, State, after, run}
+use Rattle.laws.specs.History.{
+  Event,
+  formats,
+  asks,
+  gives,
+  resizes,
+  views,
+  sizes,
+  writes,
+  rolls,
+  pokes,
+  State,
+  after,
+  run,
+}
 use Rattle.laws.specs.Theorems.{begun}
 
 -- the paths by number: of an ask 0 no room, 1 by link, 2 by a block set ready, 3 as the last spare block, 4 freed of the same class, 5 freed of another,
@@ -51,7 +77,8 @@ backNo Empties = 3
 backNo Returns = 4
 backNo Releases = 5
 
--- the path that an event's call takes on a heap of A arenas with P pools; of a resize the offset that it answers, of the others nothing
+-- the path that an event's call takes on a heap of A arenas with P pools; of a resize the offset that it answers, of the
+-- others nothing
 abbrev pathOf : ℕ → ℕ → Heap → Event → ℕ
 pathOf A P h (formats A′ P′) = 0
 pathOf A P h (asks n) = askNo (planAsk 8 A P h (classOf 8 n))
@@ -84,7 +111,8 @@ ends es x listed o bytes =
     let y = run 8 x es in
     same (rollOf 8 (y .heap)) listed && same (y .ledger o) bytes && same (part o (length bytes) (y .heap .memory)) bytes
 
--- a history of A arenas with P pools, by its turns and by its end, whatever memory, books and map of the right lengths held before format
+-- a history of A arenas with P pools, by its turns and by its end, whatever memory, books and map of the right lengths
+-- held before format
 pub record Story : Type 0 where
   pub A : ℕ
   pub P : ℕ
@@ -99,7 +127,10 @@ Holds s m b k =
     T (reaches (s .A) (s .P) (s .turns) x && ends (events (s .turns)) x (s .listed) (s .offset) (s .bytes))
 
 abbrev pub Reached : Story → Type 0
-Reached s = (m b k : List ℕ) → length m ≡ memoryLength (s .A) (s .P) → length b ≡ booksLength (s .A) (s .P) → length k ≡ mapLength (s .A) (s .P) → Holds s m b k
+Reached s =
+    (m b k : List ℕ)
+    → length m ≡ memoryLength (s .A) (s .P) → length b ≡ booksLength (s .A) (s .P) → length k ≡ mapLength (s .A) (s .P)
+    → Holds s m b k
 
 -- two pools, and blocks of 512, seven to a pool: all paths but one, and a refusal with 4
 abbrev pub two-pools : Story
@@ -114,7 +145,8 @@ two-pools = record {
       ∷ (gives 1072, 2) ∷ (gives 1584, 2) ∷ (gives 2096, 2) ∷ (gives 2608, 2) ∷ (gives 3120, 4)
       ∷ (asks 512, 4) ∷ (gives 3120, 4)
       ∷ (asks 8, 5) ∷ (resizes 48 6, 56) ∷ (gives 56, 4)
-      ∷ (gives 4144, 1) ∷ (gives 4656, 2) ∷ (gives 5168, 2) ∷ (gives 5680, 2) ∷ (gives 6192, 2) ∷ (gives 6704, 2) ∷ (gives 7216, 5)
+      ∷ (gives 4144, 1) ∷ (gives 4656, 2) ∷ (gives 5168, 2) ∷ (gives 5680, 2) ∷ (gives 6192, 2) ∷ (gives 6704, 2)
+      ∷ (gives 7216, 5)
       ∷ [];
   listed = [];
   offset = 48;
@@ -123,15 +155,24 @@ two-pools = record {
 
 -- with three pools an arena keeps its place when a pool comes free
 abbrev pub three-pools : Story
-three-pools = record { A = 1; P = 3; turns = (asks 512, 7) ∷ (asks 8, 6) ∷ (gives 4144, 3) ∷ []; listed = 48 ∷ 512 ∷ []; offset = 4144; bytes = [] }
+three-pools = record {
+  A = 1;
+  P = 3;
+  turns = (asks 512, 7) ∷ (asks 8, 6) ∷ (gives 4144, 3) ∷ [];
+  listed = 48 ∷ 512 ∷ [];
+  offset = 4144;
+  bytes = [];
+}
 
--- two arenas of two pools: the second is opened when the first is spent, the first is released and opened again, and 'owed', in the second, moves to the first
+-- two arenas of two pools: the second is opened when the first is spent, the first is released and opened again, and
+-- 'owed', in the second, moves to the first
 abbrev pub two-arenas : Story
 two-arenas = record {
   A = 2;
   P = 2;
   turns =
-      (asks 8, 7) ∷ (asks 16, 6) ∷ (asks 24, 7) ∷ (asks 32, 6) ∷ (writes 8240 (111 ∷ 119 ∷ 101 ∷ 100 ∷ 0 ∷ 0 ∷ 0 ∷ 0 ∷ []), 0)
+      (asks 8, 7) ∷ (asks 16, 6) ∷ (asks 24, 7) ∷ (asks 32, 6)
+      ∷ (writes 8240 (111 ∷ 119 ∷ 101 ∷ 100 ∷ 0 ∷ 0 ∷ 0 ∷ 0 ∷ []), 0)
       ∷ (gives 48, 4) ∷ (gives 4144, 5) ∷ (asks 40, 7) ∷ (resizes 8240 8, 4144) ∷ (pokes 4144 7 33, 0) ∷ (asks 48, 5)
       ∷ [];
   listed = 48 ∷ 40 ∷ 4144 ∷ 8 ∷ 8240 ∷ 48 ∷ 12336 ∷ 32 ∷ [];

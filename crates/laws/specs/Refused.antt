@@ -80,7 +80,8 @@ path-six o Empties d = absurd (d refl)
 path-six o Returns d = absurd (d refl)
 path-six o Releases d = absurd (d refl)
 
-old-meets : (al A P : ℕ) (h : Heap) (o : ℕ) → giveOld al A P h o .answer .number ≢ 0 → FiveOrSix (giveOld al A P h o .answer .number)
+old-meets : (al A P : ℕ) (h : Heap) (o : ℕ)
+    → giveOld al A P h o .answer .number ≢ 0 → FiveOrSix (giveOld al A P h o .answer .number)
 unfolding giveOld backStep liveNumber
 old-meets al A P h o = go (live al A P (h .books) (h .map) o)
   where
@@ -118,7 +119,8 @@ module _ (al : ℕ) (h : Heap) where
       go zero v n = absurd (n refl)
       go (suc k) v n = refl
 
-  -- ---- the half-done resize x of o to n: 6 with the new offset, and the ask and the copy stand, because the give-back over them meets 5 or 6
+  -- ---- the half-done resize x of o to n: 6 with the new offset, and the ask and the copy stand, because the give-back
+  -- over them meets 5 or 6
   abbrev A : ℕ
   A = arenas h
 
@@ -128,7 +130,8 @@ module _ (al : ℕ) (h : Heap) where
   pub record HalfDone (o n : ℕ) (x : Outcome) : Type 0 where
     pub handed-out : askStep al A P h n .answer .number ≡ 0
     pub answers : x .answer ≡ answerOf 6 (askStep al A P h n .answer .offset)
-    pub stands : x .heap ≡ copy o (askStep al A P h n .answer .offset) (min n (sizeAt al A (h .books) o)) (askStep al A P h n .heap)
+    pub stands : x .heap
+        ≡ copy o (askStep al A P h n .answer .offset) (min n (sizeAt al A (h .books) o)) (askStep al A P h n .heap)
     pub meets : FiveOrSix (giveOld al A P (x .heap) o .answer .number)
 
   module _ (o n : ℕ) where

@@ -14,7 +14,19 @@ use Rattle.rules.specs.Books.{Heap, at, arenas, pools, memoryLength}
 use Rattle.rules.specs.Blocks.{classOf, sizeOf, sizeAt, live}
 use Rattle.rules.specs.View.{part, roll}
 use Rattle.rules.specs.Outcome.{Outcome, answerOf, refused}
-use Rattle.rules.specs.Numbers.{format, ask, giveBack, resize, view, viewSize, sizedOf, rollCall, rollOf, rollOutcome, roomNumber}
+use Rattle.rules.specs.Numbers.{
+  format,
+  ask,
+  giveBack,
+  resize,
+  view,
+  viewSize,
+  sizedOf,
+  rollCall,
+  rollOf,
+  rollOutcome,
+  roomNumber,
+}
 use Rattle.laws.specs.Update.{is-false}
 use Rattle.laws.specs.Sizes.{Aligned, size-low}
 use Rattle.laws.specs.Held.{held}
@@ -83,13 +95,15 @@ module _ {al : ℕ} (L : Aligned al) (h : Heap) (A P : ℕ) (ok : format h A P .
     λ none. back-dead L (T .sound) o (none-dead o none),
   )
 
-  -- ---- what is read out: view hands back the bytes that the ledger has, and the empty part exactly where nothing is held
+  -- ---- what is read out: view hands back the bytes that the ledger has, and the empty part exactly where nothing is
+  -- held
   pub view-shows : (o : ℕ) → view al (end .heap) o ≡ end .ledger o
   view-shows o = view-is (T .sound) o ∙ sym (T .tie o)
 
   -- and its companion the size of what is held, or 5
   pub size-shows : (o : ℕ)
-      → (end .ledger o ≢ [] → viewSize al (end .heap) o ≡ sizedOf 0 (length (end .ledger o))) × (end .ledger o ≡ [] → viewSize al (end .heap) o ≡ sizedOf 5 0)
+      → (end .ledger o ≢ [] → viewSize al (end .heap) o ≡ sizedOf 0 (length (end .ledger o)))
+      × (end .ledger o ≡ [] → viewSize al (end .heap) o ≡ sizedOf 5 0)
   size-shows o = (held-size-shown, λ none. view-size-is (T .sound) o ∙ rw (none-dead o none) refl)
     where
       held-size-shown : end .ledger o ≢ [] → viewSize al (end .heap) o ≡ sizedOf 0 (length (end .ledger o))
@@ -107,7 +121,9 @@ module _ {al : ℕ} (L : Aligned al) (h : Heap) (A P : ℕ) (ok : format h A P .
 
   -- each entry lies in memory, in one pool, past the pool's first 48 bytes
   pub entry-inside : (o : ℕ) → end .ledger o ≢ []
-      → (o + length (end .ledger o) ≤ length (end .heap .memory)) × (48 ≤ o % 4096) × (o % 4096 + length (end .ledger o) ≤ 4096)
+      → (o + length (end .ledger o) ≤ length (end .heap .memory))
+      × (48 ≤ o % 4096)
+      × (o % 4096 + length (end .ledger o) ≤ 4096)
   entry-inside o a =
       let t = entry-live o a in
       let l = size-low L (T .rows .class (t .pool)) (t .class) in

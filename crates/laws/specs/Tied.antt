@@ -31,7 +31,26 @@ use Rattle.laws.specs.Written.{written-leaves}
 use Rattle.laws.specs.Calls.{shape-zero, DoneOrNot, done-or-not, ask-size, ask-is, ask-leaves, size-number, back-dead, block-of, back-is, back-leaves}
 use Rattle.laws.specs.Resized.{resize-size, resize-dead, resize-keeps, resize-none, resize-moves, differ, moved-leaves}
 use Rattle.laws.specs.Refused.{view-six, roll-six}
-use Rattle.laws.specs.History.{Event, formats, asks, gives, resizes, views, sizes, writes, rolls, pokes, Ledger, State, noted, numberOf, carried, after, run, NoSix}
+use Rattle.laws.specs.History.{
+  Event,
+  formats,
+  asks,
+  gives,
+  resizes,
+  views,
+  sizes,
+  writes,
+  rolls,
+  pokes,
+  Ledger,
+  State,
+  noted,
+  numberOf,
+  carried,
+  after,
+  run,
+  NoSix,
+}
 
 -- ---- what holds after a history, m₀ being memory before it: the heap is sound, the ledger has what the heap holds, the first 48 bytes of each pool stand
 pub record Tied (al : ℕ) (m₀ : List ℕ) (x : State) : Type 0 where

@@ -1,5 +1,6 @@
--- What each call promises, once for all who say it: the contracts of crates heap and heskavern, that each determines its call, and the runs of crate laws.
--- `found` is the heap as the call finds it, `left` as it leaves it, in every byte and word; then its arguments and its answer. The alignment is 01's, 8.
+-- What each call promises, once for all who say it: the contracts of crates heap and heskavern, that each determines its
+-- call, and the runs of crate laws. `found` is the heap as the call finds it, `left` as it leaves it, in every byte and
+-- word; then its arguments and its answer. The alignment is 01's, 8.
 -- Assumes nothing.
 use mathlib.Core.Path.{_≡_}
 use mathlib.Core.List.{List}
@@ -9,7 +10,19 @@ use Rattle.rules.specs.declared.Sized.{Sized}
 use Rattle.rules.specs.declared.Rolled.{Rolled}
 use Rattle.rules.specs.Books.{Heap}
 use Rattle.rules.specs.Outcome.{outcome, passing}
-use Rattle.rules.specs.Numbers.{inOrder, shapeNumber, offsetNumber, format, ask, giveBack, resize, view, viewSize, write, rollCall}
+use Rattle.rules.specs.Numbers.{
+  inOrder,
+  shapeNumber,
+  offsetNumber,
+  format,
+  ask,
+  giveBack,
+  resize,
+  view,
+  viewSize,
+  write,
+  rollCall,
+}
 
 module _ (found left : Heap) where
   abbrev pub FormatPromise : ℕ → ℕ → Answer → Type 0
@@ -36,9 +49,11 @@ module _ (found left : Heap) where
 
   -- the lent words as it finds and as it leaves them
   abbrev pub RollCallPromise : List ℕ → List ℕ → Rolled → Type 0
-  RollCallPromise words rolled answer = (record { answer = answer; words = rolled } ≡ rollCall 8 found words) × (left ≡ found)
+  RollCallPromise words rolled answer =
+      (record { answer = answer; words = rolled } ≡ rollCall 8 found words) × (left ≡ found)
 
--- and by its place: the part lies where memory does, from the offset on, or at memory's start where it is empty. A place is a buffer and a position in it
+-- and by its place: the part lies where memory does, from the offset on, or at memory's start where it is empty. A place
+-- is a buffer and a position in it
 abbrev pub viewAt : Heap → ℕ → ℕ
 viewAt found offset = passing (inOrder (shapeNumber found) 0 (offsetNumber 8 found offset) 0) (λ k. 0) offset
 
