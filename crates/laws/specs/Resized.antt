@@ -1,5 +1,5 @@
--- Resize over a sound heap: it answers as the plain heap does, and what it leaves holds the plain heap's rows. It is an ask, a copy into the block handed out, which
--- keeps the rows, and a give-back of the old block, which is still the block that it was.
+-- Resize over a sound heap: it answers as the plain heap does, and what it leaves holds what the plain heap leaves. It is an ask, a copy into the block handed out, which
+-- keeps the plain heap, and a give-back of the old block, which is still the block that it was.
 -- Assumes nothing.
 use mathlib.Core.Path.{_≡_, refl, sym, ap, ap₂, _∙_, subst}
 use mathlib.Core.Logic.{_≢_, inl, inr}
@@ -198,7 +198,7 @@ module _ {al A P : ℕ} {h : Heap} {r : Plain} (L : Aligned al) (S : Sound al A 
             go y (no q) (yes d) = rw (ne-eqb y new q, eq-eqb y o d)
             go y (no q) (no d) = rw (ne-eqb y new q, ne-eqb y o d)
 
-    -- ---- the whole call: number and offset are the plain heap's, and the heap after it holds the plain heap's rows
+    -- ---- the whole call: number and offset are the plain heap's, and the heap after it holds the plain heap after it
     pub resize-done : (e : live al A P (h .books) (h .map) o ≡ true)
         → (resize al h o n .answer ≡ resizeAnswer al P r o (t e .pool) n) × Sound al A P (resize al h o n .heap) (resizePlain al P r (t e .pool) (t e .block) n)
     unfolding askAnswer

@@ -62,7 +62,7 @@ module _ {al : ℕ} (L : Aligned al) (h : Heap) (A P : ℕ) (ok : format h A P .
   four-means n low high = rw (T .sound .rule1 .arenas-are, T .sound .rule1 .pools-are) (four-full L (T .sound) n low high, full-four L (T .sound) n low high)
 
   -- ---- the entries of the ledger
-  -- an entry is a live block of the rows, of its length
+  -- an entry is a live block of the plain heap, of its length
   entry-live : (o : ℕ) → end .ledger o ≢ [] → LiveAt al (T .A) (T .P) (T .rows) o
   entry-live o some = live-rows L (T .sound) o (holding-some al (T .A) (T .P) (end .heap) o (λ q. some (T .tie o ∙ q)))
 
