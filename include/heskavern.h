@@ -12,6 +12,8 @@ What the caller owes, and no call can test:
 - Each pointer is valid for its length and aligned for its type. It is not null, even where the length is 0.
 - A buffer that a call may write, one whose pointer is not const, overlaps no other buffer of that call. That goes for text and roll too.
 - During a call no other thread writes these buffers, or reads one that is not const.
+- There are 512 bytes of stack for the call, and for format what memset takes besides. (Where it is bound lazily, its
+  first call is the dynamic linker's and takes some thousands.)
 Between calls, books and map are not yours to write, and of memory only the blocks that you hold. Keep to that from format on, and no block is handed
 out twice and no call gives 6. After any other write every call is still safe and still answers by its rules, but it may meet damage and give 6, or
 hand out what is in use.

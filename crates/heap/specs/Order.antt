@@ -1,13 +1,13 @@
--- What is known once the tests for a size or an offset are passed, where view's part begins, and the later tests after the others.
+-- What is known once the tests for a size or an offset are passed, and the later tests after the others.
 -- Assumes nothing.
 use mathlib.Core.Path.{_≡_, refl}
 use mathlib.Core.List.{List}
 use Prim.Native.Nat.{ℕ, zero, suc, _≤_, _<_}
 use lib.ListN.{length}
 use borrow.Author.Tests.{lt-ltb, le-ltb}
-use Rattle.rules.specs.Books.{Heap, at}
+use Rattle.rules.specs.Books.{at}
 use Rattle.rules.specs.Outcome.{passing}
-use Rattle.rules.specs.Numbers.{inOrder, shapeNumber, roomNumber, offsetNumber}
+use Rattle.rules.specs.Numbers.{inOrder, roomNumber}
 use Rattle.books.specs.Known.{Shaped, LiveBlock}
 
 -- a heap of the right shape, and a size that can be asked for
@@ -20,10 +20,6 @@ pub record Askable (m b k : List ℕ) (n : ℕ) : Type 0 where
 pub record Passed (m b k : List ℕ) (o : ℕ) : Type 0 where
   pub shaped : Shaped (at b 0) (at b 1) (length m) (length b) (length k)
   pub live : LiveBlock 8 (at b 0) (at b 1) b k o
-
--- ---- where view's part begins: at the offset, or at memory's start where the part is empty
-abbrev pub viewAt : Heap → ℕ → ℕ
-viewAt h o = passing (inOrder (shapeNumber h) 0 (offsetNumber 8 h o) 0) (λ k. 0) o
 
 -- ---- 5 and 7 come after the tests before them
 pub offset-after : (shape size offset : ℕ) → inOrder shape size offset 0 ≡ passing (inOrder shape size 0 0) (λ n. n) offset

@@ -1,5 +1,6 @@
-// The calls of 01, over three lent buffers: memory, books and map. Each tests in 01's order and then takes its step. None requires anything
-// of its caller, and the promise of each is one equation: what it answers and what it leaves is what the rules say.
+// The calls of 01, over three lent buffers: memory, books and map. Each tests in 01's order and then takes its step.
+// None requires anything of its caller, and the promise of each (`Promises` in crate rules) is one equation: what it
+// answers and what it leaves is what the rules say.
 use asks::answers::answer;
 use asks::answers::refuse;
 use asks::ask::ask_step;
@@ -23,15 +24,25 @@ use rules::Sized;
 use steps::give_back::give_old;
 use steps::resize::resize_step;
 ghost use mathlib.Core.Path.{_≡_};
-ghost use Prim.Native.Nat.{_+_, _/_, _<_, _≤_};
+ghost use Prim.Native.Nat.{_/_, _<_, _≤_};
 ghost use denote.Ref.{ptr};
 ghost use lib.ListN.{length};
 ghost use Rattle.rules.specs.Books.{at, poolWord};
 ghost use Rattle.rules.specs.Blocks.{classAt, sizeAt};
-ghost use Rattle.rules.specs.Outcome.{heapOf, outcome};
-ghost use Rattle.rules.specs.Numbers as N;
+ghost use Rattle.rules.specs.Outcome.{heapOf};
 ghost use Rattle.rules.specs.Numbers.{inOrder, shapeNumber, sizeNumber, offsetNumber};
-ghost use Rattle.heap.specs.Order.{Askable, Passed, viewAt};
+ghost use Rattle.rules.specs.Promises.{
+  FormatPromise,
+  AskPromise,
+  GiveBackPromise,
+  ResizePromise,
+  ViewPromise,
+  ViewPlace,
+  ViewSizePromise,
+  WritePromise,
+  RollCallPromise,
+};
+ghost use Rattle.heap.specs.Order.{Askable, Passed};
 
 // Format: makes a fresh heap of so many arenas and pools. All books and map are written, and no memory.
 pub fn format(
@@ -41,8 +52,8 @@ pub fn format(
     arenas: usize,
     pools: usize,
 ) -> Answer
-    ensures { λ r. ⌜ outcome r (heapOf (now (memory .exit)) (now (books .exit)) (now (map .exit)))
-        ≡ N.format (heapOf (now (memory .entry)) (now (books .entry)) (now (map .entry))) arenas pools ⌝ }
+    ensures { λ r. ⌜ FormatPromise (heapOf (now (memory .entry)) (now (books .entry)) (now (map .entry)))
+        (heapOf (now (memory .exit)) (now (books .exit)) (now (map .exit))) arenas pools r ⌝ }
 {
     let number = fit_number(memory, books, map, arenas, pools);
     if number != 0 {
@@ -93,8 +104,8 @@ fn size_test(memory: &[u8], books: &[u32], map: &[u64], n: usize) -> u32
 
 // Ask: hands out a block of at least `size` bytes; the answer is its offset.
 pub fn ask(memory: &mut [u8], books: &mut [u32], map: &mut [u64], size: usize) -> Answer
-    ensures { λ r. ⌜ outcome r (heapOf (now (memory .exit)) (now (books .exit)) (now (map .exit)))
-        ≡ N.ask 8 (heapOf (now (memory .entry)) (now (books .entry)) (now (map .entry))) size ⌝ }
+    ensures { λ r. ⌜ AskPromise (heapOf (now (memory .entry)) (now (books .entry)) (now (map .entry)))
+        (heapOf (now (memory .exit)) (now (books .exit)) (now (map .exit))) size r ⌝ }
 {
     let number = size_test(memory, books, map, size);
     if number != 0 {
@@ -107,8 +118,8 @@ pub fn ask(memory: &mut [u8], books: &mut [u32], map: &mut [u64], size: usize) -
 
 // Give back: the block is live no more; the answer is the offset.
 pub fn give_back(memory: &mut [u8], books: &mut [u32], map: &mut [u64], offset: usize) -> Answer
-    ensures { λ r. ⌜ outcome r (heapOf (now (memory .exit)) (now (books .exit)) (now (map .exit)))
-        ≡ N.giveBack 8 (heapOf (now (memory .entry)) (now (books .entry)) (now (map .entry))) offset ⌝ }
+    ensures { λ r. ⌜ GiveBackPromise (heapOf (now (memory .entry)) (now (books .entry)) (now (map .entry)))
+        (heapOf (now (memory .exit)) (now (books .exit)) (now (map .exit))) offset r ⌝ }
 {
     let number = shape_number(memory, books, map);
     if number != 0 {
@@ -134,8 +145,8 @@ pub fn resize(
     offset: usize,
     size: usize,
 ) -> Answer
-    ensures { λ r. ⌜ outcome r (heapOf (now (memory .exit)) (now (books .exit)) (now (map .exit)))
-        ≡ N.resize 8 (heapOf (now (memory .entry)) (now (books .entry)) (now (map .entry))) offset size ⌝ }
+    ensures { λ r. ⌜ ResizePromise (heapOf (now (memory .entry)) (now (books .entry)) (now (map .entry)))
+        (heapOf (now (memory .exit)) (now (books .exit)) (now (map .exit))) offset size r ⌝ }
 {
     let number = size_test(memory, books, map, size);
     if number != 0 {
@@ -165,9 +176,10 @@ pub fn view<'a, 'b, 'c>(
     map: &'c [u64],
     offset: usize,
 ) -> &'a [u8]
-    ensures what { λ r. ⌜ now r ≡ N.view 8 (heapOf (now (memory .entry)) (now (books .entry)) (now (map .entry))) offset ⌝ }
-    ensures wherever { λ r. ⌜ (ptr r .0 ≡ ptr (memory .entry) .0) × (ptr r .1
-        ≡ viewAt (heapOf (now (memory .entry)) (now (books .entry)) (now (map .entry))) offset + ptr (memory .entry) .1) ⌝ }
+    ensures what { λ r. ⌜ ViewPromise (heapOf (now (memory .entry)) (now (books .entry)) (now (map .entry)))
+        (heapOf (now (memory .exit)) (now (books .exit)) (now (map .exit))) offset (now r) ⌝ }
+    ensures wherever { λ r. ⌜ ViewPlace (heapOf (now (memory .entry)) (now (books .entry)) (now (map .entry)))
+        offset (ptr (memory .entry)) (ptr r) ⌝ }
 {
     let number = offset_test(memory, books, map, offset);
     if number != 0 {
@@ -179,7 +191,8 @@ pub fn view<'a, 'b, 'c>(
 
 // View's companion: the number and, when done, the block size.
 pub fn view_size(memory: &[u8], books: &[u32], map: &[u64], offset: usize) -> Sized
-    ensures { λ r. ⌜ r ≡ N.viewSize 8 (heapOf (now (memory .entry)) (now (books .entry)) (now (map .entry))) offset ⌝ }
+    ensures { λ r. ⌜ ViewSizePromise (heapOf (now (memory .entry)) (now (books .entry)) (now (map .entry)))
+        (heapOf (now (memory .exit)) (now (books .exit)) (now (map .exit))) offset r ⌝ }
 {
     let number = offset_test(memory, books, map, offset);
     if number != 0 {
@@ -193,8 +206,8 @@ pub fn view_size(memory: &[u8], books: &[u32], map: &[u64], offset: usize) -> Si
 
 // Write: the text is copied to the start of the block.
 pub fn write(memory: &mut [u8], books: &[u32], map: &[u64], offset: usize, text: &[u8]) -> Answer
-    ensures { λ r. ⌜ outcome r (heapOf (now (memory .exit)) (now (books .exit)) (now (map .exit)))
-        ≡ N.write 8 (heapOf (now (memory .entry)) (now (books .entry)) (now (map .entry))) offset (now (text .entry)) ⌝ }
+    ensures { λ r. ⌜ WritePromise (heapOf (now (memory .entry)) (now (books .entry)) (now (map .entry)))
+        (heapOf (now (memory .exit)) (now (books .exit)) (now (map .exit))) offset (now (text .entry)) r ⌝ }
 {
     let number = offset_test(memory, books, map, offset);
     if number != 0 {
@@ -214,8 +227,8 @@ pub fn write(memory: &mut [u8], books: &[u32], map: &[u64], offset: usize, text:
 // Roll call: offset and size of each live block go to the front of the roll; the answer counts them. Nothing is written before the room is
 // known to be enough.
 pub fn roll_call(memory: &[u8], books: &[u32], map: &[u64], roll: &mut [u32]) -> Rolled
-    ensures { λ r. ⌜ record { answer = r; words = now (roll .exit) }
-        ≡ N.rollCall 8 (heapOf (now (memory .entry)) (now (books .entry)) (now (map .entry))) (now (roll .entry)) ⌝ }
+    ensures { λ r. ⌜ RollCallPromise (heapOf (now (memory .entry)) (now (books .entry)) (now (map .entry)))
+        (heapOf (now (memory .exit)) (now (books .exit)) (now (map .exit))) (now (roll .entry)) (now (roll .exit)) r ⌝ }
 {
     let number = shape_number(memory, books, map);
     if number != 0 {

@@ -1,36 +1,74 @@
 -- Each promise determines its call: any two answers that it allows are equal, and so is every byte and word beside them.
--- A promise is an equation with what a rule gives, x; each statement here holds of every x, and so of every rule.
 -- Assumes nothing.
-use mathlib.Core.Path.{_≡_, sym, ap, ap₂, _∙_}
+use mathlib.Core.Path.{_≡_, ap}
 use mathlib.Core.List.{List}
 use Prim.Native.Nat.{ℕ}
+use Rattle.rules.specs.declared.Answer.{Answer}
 use Rattle.rules.specs.declared.Sized.{Sized}
+use Rattle.rules.specs.declared.Rolled.{Rolled}
 use Rattle.rules.specs.Books.{Heap}
-use Rattle.rules.specs.Outcome.{Outcome, answerOf, outcome}
-use Rattle.rules.specs.Numbers.{RollOutcome, rollOutcome, sizedOf}
+use Rattle.rules.specs.Outcome.{answerOf}
+use Rattle.rules.specs.Numbers.{rolledOf, sizedOf}
+use Rattle.rules.specs.Promises.{
+  FormatPromise,
+  AskPromise,
+  GiveBackPromise,
+  ResizePromise,
+  ViewSizePromise,
+  WritePromise,
+  RollCallPromise,
+}
+use Rattle.heap.specs.Unique as H
 use Rattle.heskavern.specs.declared.HeskavernAnswer.{HeskavernAnswer}
 
-module _ (r s : HeskavernAnswer) where
+-- the answer in the layout of C, read as crate heap's
+abbrev pub answerIn : HeskavernAnswer → Answer
+answerIn r = answerOf (r .number) (r .value)
+
+abbrev pub sizedIn : HeskavernAnswer → Sized
+sizedIn r = sizedOf (r .number) (r .value)
+
+abbrev pub rolledIn : HeskavernAnswer → Rolled
+rolledIn r = rolledOf (r .number) (r .value)
+
+-- h is the heap that the call finds; g and k are what two runs of it leave, r and s what they answer
+module _ (h g k : Heap) (r s : HeskavernAnswer) where
   -- an answer is its number and its value
-  same : r .number ≡ s .number → r .value ≡ s .value → r ≡ s
-  same = ap₂ (λ (n v : ℕ). record { number = n; value = v })
+  same : answerIn r ≡ answerIn s → r ≡ s
+  same = ap (λ (x : Answer). record { number = x .number; value = x .offset })
 
-  -- format, ask, give back, resize and write
-  pub outcome-one : (x : Outcome) (g k : Heap)
-      → outcome (answerOf (r .number) (r .value)) g ≡ x → outcome (answerOf (s .number) (s .value)) k ≡ x → (r ≡ s) × (g ≡ k)
-  outcome-one x g k e f =
-      let t = e ∙ sym f in
-      (same (ap (λ (o : Outcome). o .answer .number) t) (ap (λ (o : Outcome). o .answer .offset) t), ap (λ (o : Outcome). o .heap) t)
+  both : (answerIn r ≡ answerIn s) × (g ≡ k) → (r ≡ s) × (g ≡ k)
+  both t = (same (t .0), t .1)
 
-  -- view's companion
-  pub sized-one : (x : Sized) → sizedOf (r .number) (r .value) ≡ x → sizedOf (s .number) (s .value) ≡ x → r ≡ s
-  sized-one x e f =
-      let t = e ∙ sym f in
-      same (ap (λ (z : Sized). z .number) t) (ap (λ (z : Sized). z .size) t)
+  pub format-one : (A P : ℕ)
+      → FormatPromise h g A P (answerIn r) → FormatPromise h k A P (answerIn s) → (r ≡ s) × (g ≡ k)
+  format-one A P e f = both (H.format-one h g k (answerIn r) (answerIn s) A P e f)
 
-  -- roll call
-  pub rolled-one : (x : RollOutcome) (u v : List ℕ)
-      → rollOutcome (r .number) (r .value) u ≡ x → rollOutcome (s .number) (s .value) v ≡ x → (r ≡ s) × (u ≡ v)
-  rolled-one x u v e f =
-      let t = e ∙ sym f in
-      (same (ap (λ (o : RollOutcome). o .answer .number) t) (ap (λ (o : RollOutcome). o .answer .count) t), ap (λ (o : RollOutcome). o .words) t)
+  pub ask-one : (n : ℕ)
+      → AskPromise h g n (answerIn r) → AskPromise h k n (answerIn s) → (r ≡ s) × (g ≡ k)
+  ask-one n e f = both (H.ask-one h g k (answerIn r) (answerIn s) n e f)
+
+  pub give-back-one : (o : ℕ)
+      → GiveBackPromise h g o (answerIn r) → GiveBackPromise h k o (answerIn s) → (r ≡ s) × (g ≡ k)
+  give-back-one o e f = both (H.give-back-one h g k (answerIn r) (answerIn s) o e f)
+
+  pub resize-one : (o n : ℕ)
+      → ResizePromise h g o n (answerIn r) → ResizePromise h k o n (answerIn s) → (r ≡ s) × (g ≡ k)
+  resize-one o n e f = both (H.resize-one h g k (answerIn r) (answerIn s) o n e f)
+
+  pub view-size-one : (o : ℕ)
+      → ViewSizePromise h g o (sizedIn r) → ViewSizePromise h k o (sizedIn s) → (r ≡ s) × (g ≡ k)
+  view-size-one o e f =
+      let t = H.view-size-one h g k o (sizedIn r) (sizedIn s) e f in
+      (ap (λ (x : Sized). record { number = x .number; value = x .size }) (t .0), t .1)
+
+  pub write-one : (o : ℕ) (text : List ℕ)
+      → WritePromise h g o text (answerIn r) → WritePromise h k o text (answerIn s) → (r ≡ s) × (g ≡ k)
+  write-one o text e f = both (H.write-one h g k (answerIn r) (answerIn s) o text e f)
+
+  -- and the roll words that it leaves
+  pub roll-call-one : (w u v : List ℕ)
+      → RollCallPromise h g w u (rolledIn r) → RollCallPromise h k w v (rolledIn s) → (r ≡ s) × (u ≡ v) × (g ≡ k)
+  roll-call-one w u v e f =
+      let t = H.roll-call-one h g k w u v (rolledIn r) (rolledIn s) e f in
+      (ap (λ (x : Rolled). record { number = x .number; value = x .count }) (t .0), t .1, t .2)

@@ -1,10 +1,17 @@
 // The calls of 01 for C and Rust: crate heap's calls under names that the archive exports, each with the promise of the call that it passes on.
 // include/heskavern.h declares them. A slice is a pointer and its length in elements there. View is made there from `heskavern_view_size`,
 // since an exported function cannot return a slice.
-ghost use mathlib.Core.Path.{_≡_};
-ghost use Rattle.rules.specs.Outcome.{answerOf, heapOf, outcome};
-ghost use Rattle.rules.specs.Numbers as N;
-ghost use Rattle.rules.specs.Numbers.{rollOutcome, sizedOf};
+ghost use Rattle.rules.specs.Outcome.{answerOf, heapOf};
+ghost use Rattle.rules.specs.Numbers.{rolledOf, sizedOf};
+ghost use Rattle.rules.specs.Promises.{
+  FormatPromise,
+  AskPromise,
+  GiveBackPromise,
+  ResizePromise,
+  ViewSizePromise,
+  WritePromise,
+  RollCallPromise,
+};
 
 // What each call answers: 01's number, and the offset, block size or count that stands beside it. The answers of crate heap, in the layout of C.
 #[repr(C)]
@@ -22,8 +29,9 @@ pub extern "C" fn heskavern_format(
     arenas: usize,
     pools: usize,
 ) -> HeskavernAnswer
-    ensures { λ r. ⌜ outcome (answerOf (r .number) (r .value)) (heapOf (now (memory .exit)) (now (books .exit)) (now (map .exit)))
-        ≡ N.format (heapOf (now (memory .entry)) (now (books .entry)) (now (map .entry))) arenas pools ⌝ }
+    ensures { λ r. ⌜ FormatPromise (heapOf (now (memory .entry)) (now (books .entry)) (now (map .entry)))
+        (heapOf (now (memory .exit)) (now (books .exit)) (now (map .exit)))
+        arenas pools (answerOf (r .number) (r .value)) ⌝ }
 {
     let answer = heap::format(memory, books, map, arenas, pools);
     HeskavernAnswer {
@@ -40,8 +48,8 @@ pub extern "C" fn heskavern_ask(
     map: &mut [u64],
     size: usize,
 ) -> HeskavernAnswer
-    ensures { λ r. ⌜ outcome (answerOf (r .number) (r .value)) (heapOf (now (memory .exit)) (now (books .exit)) (now (map .exit)))
-        ≡ N.ask 8 (heapOf (now (memory .entry)) (now (books .entry)) (now (map .entry))) size ⌝ }
+    ensures { λ r. ⌜ AskPromise (heapOf (now (memory .entry)) (now (books .entry)) (now (map .entry)))
+        (heapOf (now (memory .exit)) (now (books .exit)) (now (map .exit))) size (answerOf (r .number) (r .value)) ⌝ }
 {
     let answer = heap::ask(memory, books, map, size);
     HeskavernAnswer {
@@ -58,8 +66,8 @@ pub extern "C" fn heskavern_give_back(
     map: &mut [u64],
     offset: usize,
 ) -> HeskavernAnswer
-    ensures { λ r. ⌜ outcome (answerOf (r .number) (r .value)) (heapOf (now (memory .exit)) (now (books .exit)) (now (map .exit)))
-        ≡ N.giveBack 8 (heapOf (now (memory .entry)) (now (books .entry)) (now (map .entry))) offset ⌝ }
+    ensures { λ r. ⌜ GiveBackPromise (heapOf (now (memory .entry)) (now (books .entry)) (now (map .entry)))
+        (heapOf (now (memory .exit)) (now (books .exit)) (now (map .exit))) offset (answerOf (r .number) (r .value)) ⌝ }
 {
     let answer = heap::give_back(memory, books, map, offset);
     HeskavernAnswer {
@@ -77,8 +85,9 @@ pub extern "C" fn heskavern_resize(
     offset: usize,
     size: usize,
 ) -> HeskavernAnswer
-    ensures { λ r. ⌜ outcome (answerOf (r .number) (r .value)) (heapOf (now (memory .exit)) (now (books .exit)) (now (map .exit)))
-        ≡ N.resize 8 (heapOf (now (memory .entry)) (now (books .entry)) (now (map .entry))) offset size ⌝ }
+    ensures { λ r. ⌜ ResizePromise (heapOf (now (memory .entry)) (now (books .entry)) (now (map .entry)))
+        (heapOf (now (memory .exit)) (now (books .exit)) (now (map .exit)))
+        offset size (answerOf (r .number) (r .value)) ⌝ }
 {
     let answer = heap::resize(memory, books, map, offset, size);
     HeskavernAnswer {
@@ -95,8 +104,8 @@ pub extern "C" fn heskavern_view_size(
     map: &[u64],
     offset: usize,
 ) -> HeskavernAnswer
-    ensures { λ r. ⌜ sizedOf (r .number) (r .value)
-        ≡ N.viewSize 8 (heapOf (now (memory .entry)) (now (books .entry)) (now (map .entry))) offset ⌝ }
+    ensures { λ r. ⌜ ViewSizePromise (heapOf (now (memory .entry)) (now (books .entry)) (now (map .entry)))
+        (heapOf (now (memory .exit)) (now (books .exit)) (now (map .exit))) offset (sizedOf (r .number) (r .value)) ⌝ }
 {
     let sized = heap::view_size(memory, books, map, offset);
     HeskavernAnswer {
@@ -114,8 +123,9 @@ pub extern "C" fn heskavern_write(
     offset: usize,
     text: &[u8],
 ) -> HeskavernAnswer
-    ensures { λ r. ⌜ outcome (answerOf (r .number) (r .value)) (heapOf (now (memory .exit)) (now (books .exit)) (now (map .exit)))
-        ≡ N.write 8 (heapOf (now (memory .entry)) (now (books .entry)) (now (map .entry))) offset (now (text .entry)) ⌝ }
+    ensures { λ r. ⌜ WritePromise (heapOf (now (memory .entry)) (now (books .entry)) (now (map .entry)))
+        (heapOf (now (memory .exit)) (now (books .exit)) (now (map .exit)))
+        offset (now (text .entry)) (answerOf (r .number) (r .value)) ⌝ }
 {
     let answer = heap::write(memory, books, map, offset, text);
     HeskavernAnswer {
@@ -132,8 +142,9 @@ pub extern "C" fn heskavern_roll_call(
     map: &[u64],
     roll: &mut [u32],
 ) -> HeskavernAnswer
-    ensures { λ r. ⌜ rollOutcome (r .number) (r .value) (now (roll .exit))
-        ≡ N.rollCall 8 (heapOf (now (memory .entry)) (now (books .entry)) (now (map .entry))) (now (roll .entry)) ⌝ }
+    ensures { λ r. ⌜ RollCallPromise (heapOf (now (memory .entry)) (now (books .entry)) (now (map .entry)))
+        (heapOf (now (memory .exit)) (now (books .exit)) (now (map .exit)))
+        (now (roll .entry)) (now (roll .exit)) (rolledOf (r .number) (r .value)) ⌝ }
 {
     let rolled = heap::roll_call(memory, books, map, roll);
     HeskavernAnswer {

@@ -137,7 +137,7 @@ module _ {al A P p : ℕ} {h : Heap} {r : Plain} {ps : List ℕ} (L : Aligned al
           f,
         ) e
 
-    -- what is said after each of the three paths: ks′ is the chain then, virgins and listed are the rows', and pools, homes and lists the view's
+    -- what is said after each of the three paths: ks′ is the chain then, virgins and listed are the plain heap's, and pools, homes and lists the view's
     served : (ks′ : List ℕ) (virgins : ℕ → ℕ) (listed : ℕ → List ℕ) (pools : ℕ → ℕ → ℕ) (homes : ℕ → ℕ) (lists : ℕ → List ℕ) {m′ : List ℕ}
         → ((y : ℕ) → y ≢ p → virgins y ≡ r .virgin y) → ((w y : ℕ) → y ≢ p → pools w y ≡ U .pool w y) → ((y : ℕ) → y ≢ p → homes y ≡ U .home y)
         → pools 0 p ≡ pool A b 0 p + 1 → (pools 4 p ≡ U .pool 4 p) × (pools 6 p ≡ U .pool 6 p) × (pools 7 p ≡ U .pool 7 p)

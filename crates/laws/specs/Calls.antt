@@ -1,6 +1,7 @@
--- The calls of 01 over a sound heap: the tests of 1 and 2 pass, and ask and give back do the plain heap's step, which is never damage; and what they leave to be held.
+-- The calls of 01 over a sound heap: the tests of 1 and 2 pass, ask and give back do the plain heap's step, which is
+-- never damage, and view shows what is held; and what they leave to be held.
 -- Assumes nothing.
-use mathlib.Core.Path.{_≡_, refl}
+use mathlib.Core.Path.{_≡_, refl, _∙_}
 use mathlib.Core.Logic.{_⊎_, inl, inr}
 use mathlib.Core.Bool.{Bool, true, false, _&&_}
 use mathlib.Core.List.{List, [], _∷_}
@@ -16,12 +17,24 @@ use Rattle.rules.specs.declared.BackPlan.{BackPlan}
 use Rattle.rules.specs.declared.BackPlan.the-variants.{Joins, Stays, Empties, Returns, Releases}
 use Rattle.rules.specs.Say.{if_then_else_}
 use Rattle.rules.specs.Books.{Heap}
-use Rattle.rules.specs.Blocks.{classOf, sizeOf, startOf, capacity, live, liveNumber}
-use Rattle.rules.specs.Outcome.{outcome, refused, answerOf}
+use Rattle.rules.specs.Blocks.{classOf, sizeOf, startOf, capacity, sizeAt, live, liveNumber}
+use Rattle.rules.specs.Outcome.{outcome, refused, answerOf, passing}
 use Rattle.rules.specs.Ask.{askStep, askAnswer, afterAsk}
 use Rattle.rules.specs.GiveBack.{backStep, backAnswer, afterBack}
 use Rattle.rules.specs.View.{part}
-use Rattle.rules.specs.Numbers.{fitNumber, shapeNumber, sizeNumber, ask, giveBack}
+use Rattle.rules.specs.Numbers.{
+  fitNumber,
+  shapeNumber,
+  sizeNumber,
+  inOrder,
+  offsetNumber,
+  blockSize,
+  sizedOf,
+  ask,
+  giveBack,
+  view,
+  viewSize,
+}
 use Rattle.books.specs.Known.{shaped}
 use Rattle.books.specs.Tests.{either}
 use Rattle.laws.specs.Update.{to}
@@ -39,6 +52,28 @@ unfolding shapeNumber fitNumber
 shape-zero {al} {A} {P} {h} S =
     let K = shaped h A P (S .rule1 .range) (S .rule1 .lengths) in
     rw (le-ltb (length (h .books)) 2 (omega (arith, K .books)), S .rule1 .arenas-are, S .rule1 .pools-are, S .rule1 .range, S .rule1 .lengths)
+
+-- ---- view hands back what is held
+module _ {al A P : ℕ} {h : Heap} {r : Plain} (S : Sound al A P h r) (o : ℕ) where
+  -- the tests of a call on an offset come to the live test
+  by-live : {X : Type 0} (refusal : ℕ → X) (rest : X)
+      → passing (inOrder (shapeNumber h) 0 (offsetNumber al h o) 0) refusal rest
+      ≡ (if live al A P (h .books) (h .map) o then rest else refusal 5)
+  unfolding liveNumber
+  by-live refusal rest = rw (shape-zero S, S .rule1 .arenas-are, S .rule1 .pools-are) (go (live al A P (h .books) (h .map) o))
+    where
+      go : (b : Bool) → passing (inOrder 0 0 (if b then 0 else 5) 0) refusal rest ≡ (if b then rest else refusal 5)
+      go true = refl
+      go false = refl
+
+  pub view-is : view al h o ≡ holding al A P h o
+  unfolding view holding
+  view-is = by-live (λ k. []) (part o (blockSize al h o) (h .memory)) ∙ rw (S .rule1 .arenas-are)
+
+  pub view-size-is : viewSize al h o
+      ≡ (if live al A P (h .books) (h .map) o then sizedOf 0 (sizeAt al A (h .books) o) else sizedOf 5 0)
+  unfolding viewSize
+  view-size-is = by-live (λ k. sizedOf k 0) (sizedOf 0 (blockSize al h o)) ∙ rw (S .rule1 .arenas-are)
 
 -- ---- the plain heap's ask is done, or finds no room
 -- it finds none only with its three lists empty

@@ -12,25 +12,53 @@ use Rattle.rules.specs.declared.Sized.{Sized}
 use Rattle.rules.specs.declared.Rolled.{Rolled}
 use Rattle.rules.specs.Books.{Heap}
 use Rattle.rules.specs.Outcome.{Outcome, outcome}
-use Rattle.rules.specs.Numbers.{RollOutcome, format, ask, giveBack, resize, viewSize, write, rollCall}
+use Rattle.rules.specs.Numbers.{RollOutcome, rolledOf, format, ask, giveBack, resize, view, write, rollCall}
+use Rattle.rules.specs.Promises.{
+  FormatPromise,
+  AskPromise,
+  GiveBackPromise,
+  ResizePromise,
+  ViewPromise,
+  ViewSizePromise,
+  WritePromise,
+  RollCallPromise,
+}
 use Rattle.laws.specs.Sizes.{Aligned}
-use Rattle.laws.specs.History.{Event, formats, asks, gives, resizes, views, writes, rolls, pokes, Ledger, State, numberOf, after, run, NoSix}
-use Rattle.laws.specs.Theorems.{begun, no-six, entries, entryCount, roll-with-room}
+use Rattle.laws.specs.History.{
+  Event,
+  formats,
+  asks,
+  gives,
+  resizes,
+  views,
+  sizes,
+  writes,
+  rolls,
+  pokes,
+  Ledger,
+  State,
+  numberOf,
+  after,
+  run,
+  NoSix,
+}
+use Rattle.laws.specs.Theorems.{begun, end, no-six, view-shows, entries, entryCount, roll-with-room}
 
 abbrev pub state : Ledger → Heap → State
 state l h = record { heap = h; ledger = l }
 
--- the call of event e, over the buffers of h, answered number k and left the buffers of g: what the call's promise says of that. View, its companion and roll call
--- are lent memory, books and map that they cannot change; a holder writes its byte itself
+-- the call of event e, over the buffers of h, answered number k and left the buffers of g: that it kept its promise, which
+-- has here the name that its contract in crate heap uses. View answers no number, and a holder writes its byte itself
 abbrev pub Kept : Ledger → Heap → Event → ℕ → Heap → Type 0
-Kept l h (formats A P) k g = (r : Answer) × (r .number ≡ k) × (outcome r g ≡ format h A P)
-Kept l h (asks n) k g = (r : Answer) × (r .number ≡ k) × (outcome r g ≡ ask 8 h n)
-Kept l h (gives o) k g = (r : Answer) × (r .number ≡ k) × (outcome r g ≡ giveBack 8 h o)
-Kept l h (resizes o n) k g = (r : Answer) × (r .number ≡ k) × (outcome r g ≡ resize 8 h o n)
-Kept l h (views o) k g = (r : Sized) × (r .number ≡ k) × (r ≡ viewSize 8 h o) × (g ≡ h)
-Kept l h (writes o text) k g = (r : Answer) × (r .number ≡ k) × (outcome r g ≡ write 8 h o text)
-Kept l h (rolls words) k g = (r : Rolled) × (v : List ℕ) × (r .number ≡ k) × (record { answer = r; words = v } ≡ rollCall 8 h words) × (g ≡ h)
-Kept l h (pokes o d v) k g = (k ≡ 0) × (g ≡ after 8 (state l h) (pokes o d v) .heap)
+Kept l h (formats A P) k g = (r : Answer) × (r .number ≡ k) × FormatPromise h g A P r
+Kept l h (asks n) k g = (r : Answer) × (r .number ≡ k) × AskPromise h g n r
+Kept l h (gives o) k g = (r : Answer) × (r .number ≡ k) × GiveBackPromise h g o r
+Kept l h (resizes o n) k g = (r : Answer) × (r .number ≡ k) × ResizePromise h g o n r
+Kept l h (views o) k g = (part : List ℕ) × (0 ≡ k) × ViewPromise h g o part
+Kept l h (sizes o) k g = (r : Sized) × (r .number ≡ k) × ViewSizePromise h g o r
+Kept l h (writes o text) k g = (r : Answer) × (r .number ≡ k) × WritePromise h g o text r
+Kept l h (rolls words) k g = (r : Rolled) × (v : List ℕ) × (r .number ≡ k) × RollCallPromise h g words v r
+Kept l h (pokes o d v) k g = (0 ≡ k) × (g ≡ after 8 (state l h) (pokes o d v) .heap)
 
 -- a run: the events, the numbers answered, and the buffers at the end; each call finds the buffers that the one before it left
 pub data Ran : Ledger → Heap → List Event → List ℕ → Heap → Type 0 where
@@ -53,10 +81,11 @@ kept-is l h (formats A P) k g t = answered (format h A P) (t .0) g k (t .1) (t .
 kept-is l h (asks n) k g t = answered (ask 8 h n) (t .0) g k (t .1) (t .2)
 kept-is l h (gives o) k g t = answered (giveBack 8 h o) (t .0) g k (t .1) (t .2)
 kept-is l h (resizes o n) k g t = answered (resize 8 h o n) (t .0) g k (t .1) (t .2)
-kept-is l h (views o) k g t = (sym (t .1) ∙ ap (λ (s : Sized). s .number) (t .2), sym (t .3))
+kept-is l h (views o) k g t = (sym (t .1), sym (t .2 .1))
+kept-is l h (sizes o) k g t = (sym (t .1) ∙ ap (λ (s : Sized). s .number) (t .2 .0), sym (t .2 .1))
 kept-is l h (writes o text) k g t = answered (write 8 h o text) (t .0) g k (t .1) (t .2)
-kept-is l h (rolls words) k g t = (sym (t .2) ∙ ap (λ (s : RollOutcome). s .answer .number) (t .3), sym (t .4))
-kept-is l h (pokes o d v) k g t = (t .0, sym (t .1))
+kept-is l h (rolls words) k g t = (sym (t .2) ∙ ap (λ (s : RollOutcome). s .answer .number) (t .3 .0), sym (t .3 .1))
+kept-is l h (pokes o d v) k g t = (sym (t .0), sym (t .1))
 
 -- ---- the whole run
 pub ran-is : {l : Ledger} {h : Heap} {es : List Event} {ks : List ℕ} {end : Heap} → Ran l h es ks end → (end ≡ run 8 (state l h) es .heap) × (ks ≡ numbers (state l h) es)
@@ -92,10 +121,17 @@ module _ (h : Heap) (A P : ℕ) (ok : format h A P .answer .number ≡ 0) (es : 
   pub ran-no-six : Sixless ks
   ran-no-six = subst Sixless (sym (ran-is ran .1)) (sixless (begun h A P) es (no-six eight h A P ok es))
 
-  -- and a roll call with room for it lists the ledger of the calls: offset and size of each block that is held, and how many there are
-  pub ran-roll : (words v : List ℕ) (r : Rolled) → record { answer = r; words = v } ≡ rollCall 8 g words
-      → length (entries eight h A P ok es) ≤ length words
-      → (r ≡ record { number = 0; count = entryCount eight h A P ok es }) × (v ≡ entries eight h A P ok es ++ drop (length (entries eight h A P ok es)) words)
+  -- a roll call with room for it lists the ledger of the calls: offset and size of each block that is held, and how many
+  -- there are
+  pub ran-roll : {left : Heap} (words v : List ℕ) (r : Rolled)
+      → RollCallPromise g left words v r → length (entries eight h A P ok es) ≤ length words
+      → (r ≡ rolledOf 0 (entryCount eight h A P ok es))
+      × (v ≡ entries eight h A P ok es ++ drop (length (entries eight h A P ok es)) words)
   ran-roll words v r kept room =
-      let e = kept ∙ ap (λ (x : Heap). rollCall 8 x words) (ran-is ran .0) ∙ roll-with-room eight h A P ok es words room in
+      let e = kept .0 ∙ ap (λ (x : Heap). rollCall 8 x words) (ran-is ran .0) ∙ roll-with-room eight h A P ok es words room in
       (ap (λ (x : RollOutcome). x .answer) e, ap (λ (x : RollOutcome). x .words) e)
+
+  -- and a view shows the ledger of the calls: the bytes of the block that is held there, or none
+  pub ran-view : {left : Heap} (o : ℕ) (part : List ℕ)
+      → ViewPromise g left o part → part ≡ end eight h A P ok es .ledger o
+  ran-view o part kept = kept .0 ∙ ap (λ (x : Heap). view 8 x o) (ran-is ran .0) ∙ view-shows eight h A P ok es o

@@ -163,7 +163,7 @@ module _ {al A P p j i : ℕ} {h : Heap} {r : Plain} {is : List ℕ} (G : Given 
   freed₅ : (x : ℕ) → x < A → U₅ .freed x ≡ to a (p ∷ r .freed a) (r .freed) x
   freed₅ x l = to-cong a (U .freed) (r .freed) (ap (λ (xs : List ℕ). p ∷ xs) (F .lists .freed a la)) x (F .lists .freed x l)
 
-  -- ---- the arena stays open: the rows with the usable arenas us
+  -- ---- the arena stays open: the plain heap with the usable arenas us
   abbrev emptied : List ℕ → Plain
   emptied us = r ▷ setChain p (j ∷ r .chain p) ▷ setLive p j false ▷ setListed c (erase p (r .listed c)) ▷ setFreed a (p ∷ r .freed a) ▷ setUsable us
 

@@ -28,7 +28,7 @@ use Rattle.laws.specs.Held.{Says, Held, sound, home-listed, home-full, I
 use Rattle.laws.specs.Step.{BytesAfter, link-after}
 use Rattle.laws.specs.Paths.{quiet-link, Backed, backed, count-off, insideRows, insideView, inner}
 
--- block j of pool p is live, in a heap that holds the rows r
+-- block j of pool p is live, in a heap that holds the plain heap r
 pub record Given (al A P : ℕ) (h : Heap) (r : Plain) (p j : ℕ) : Type 0 where
   pub aligned : Aligned al
   pub held : Held al A P h r
@@ -111,7 +111,7 @@ module _ {al A P p j : ℕ} {h : Heap} {r : Plain} (G : Given al A P h r p j) wh
   pub bytes₂ : BytesAfter p (h .memory) m₂
   bytes₂ = link-after (h .memory) p f (pool A b freeblock p) (omega (arith, s-low, block-ends s j (r .virgin p) (live-below (I .blocks) j on) (I .blocks .fits)))
 
-  -- ---- the pool's rows after
+  -- ---- the pool in the plain heap after
   pub count-after : suc (count (r ▷ setLive p j false) p) ≡ count r p
   count-after = count-off r p j on j-small
 

@@ -1,4 +1,4 @@
--- `Sound`, taken apart for the paths and put together again after them: what the books say (`Books`), and that it says the rows (`Says`), arena by arena, pool by pool and list by list.
+-- `Sound`, taken apart for the paths and put together again after them: what the books say (`Books`), and that it says the plain heap (`Says`), arena by arena, pool by pool and list by list.
 -- Assumes nothing.
 use mathlib.Core.Path.{_≡_, refl, sym, ap, _∙_}
 use mathlib.Core.Logic.{_≢_, _⊎_, inl, inr}
@@ -101,7 +101,7 @@ module _ (P : ℕ) (r : Plain) (a : ℕ) where
       go false true p k = absurd (omega arith)
       go false false p k = absurd (omega arith)
 
--- ---- the view U, memory m and map k say the rows r
+-- ---- the view U, memory m and map k say the plain heap r
 -- an arena's first and third words, by its mark
 abbrev pub opened : ℕ → ℕ
 opened mark = if eqb mark 0 then 0 else 1
@@ -153,7 +153,7 @@ pub record Says (al A P : ℕ) (U : View) (m k : List ℕ) (r : Plain) : Type 0 
   pub bits : (n j : ℕ) → n < A * P → j < 512 → isSet k n j ≡ r .live n j
   pub lists : ListsSay A U r
 
--- the view of the books b, by the rows r
+-- the view of the books b, by the plain heap r
 abbrev pub viewOf : ℕ → ℕ → ℕ → List ℕ → Plain → View
 viewOf al A P b r =
     record {
@@ -263,7 +263,7 @@ pub rule-memory : {al n : ℕ} {m m′ : List ℕ} {count free class next max : 
 rule-memory f (inl t) = inl t
 rule-memory f (inr t) = inr (record { class-low = t .class-low; maxnextoffset-is = t .maxnextoffset-is; blocks = f (t .class-low) (t .blocks); two = t .two; one = t .one })
 
--- a pool of the rows that has a live block is in a class, with its blocks
+-- a pool of the plain heap that has a live block is in a class, with its blocks
 pub in-class : {al A P : ℕ} {U : View} {m k : List ℕ} {r : Plain} → Aligned al → Says al A P U m k r → (n j : ℕ) → n < A * P → r .live n j ≡ true → InClassOf al U m r n
 in-class {r = r} L F n j l e = let t = F .pools n l .used j e in classed (F .pools n l .rule (t .0)) (class-low L (r .class n) (t .1))
 

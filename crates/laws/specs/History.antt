@@ -23,6 +23,7 @@ pub data Event : Type 0 where
   gives : ℕ → Event  -- offset
   resizes : ℕ → ℕ → Event  -- offset, size
   views : ℕ → Event  -- offset
+  sizes : ℕ → Event  -- offset; view's companion
   writes : ℕ → List ℕ → Event  -- offset, text
   rolls : List ℕ → Event  -- the lent words
   pokes : ℕ → ℕ → ℕ → Event  -- the offset of a block, a place in it, the byte
@@ -40,18 +41,20 @@ abbrev pub noted : ℕ → Heap → Ledger → Ledger → State
 noted number h old new = record { heap = h; ledger = if eqb number 0 then new else old }
 
 module _ (al : ℕ) where
-  -- the number that an event's call answers
+  -- the number that an event's call answers; view answers a part and no number, and a holder's byte is no call: 0
   unfoldable pub numberOf : State → Event → ℕ
   numberOf x (formats A P) = format (x .heap) A P .answer .number
   numberOf x (asks n) = ask al (x .heap) n .answer .number
   numberOf x (gives o) = giveBack al (x .heap) o .answer .number
   numberOf x (resizes o n) = resize al (x .heap) o n .answer .number
-  numberOf x (views o) = viewSize al (x .heap) o .number
+  numberOf x (views o) = 0
+  numberOf x (sizes o) = viewSize al (x .heap) o .number
   numberOf x (writes o text) = write al (x .heap) o text .answer .number
   numberOf x (rolls words) = rollCall al (x .heap) words .answer .number
   numberOf x (pokes o d v) = 0
 
-  -- a resize that moves the block at o: the first bytes go along, the others are as they were when the new block was handed out
+  -- a resize to n that moves the block at o to new: its first bytes go along; the others are as they were when the new
+  -- block was handed out, m being memory as the ask left it
   abbrev pub carried : ℕ → ℕ → ℕ → List ℕ → Ledger → Ledger
   carried n o new m g =
       to new (take (min n (length (g o))) (g o) ++ drop (min n (length (g o))) (part new (sizeOf al (classOf al n)) m)) (to o [] g)
@@ -66,8 +69,9 @@ module _ (al : ℕ) where
   after x (gives o) = let y = giveBack al (x .heap) o in noted (y .answer .number) (y .heap) (x .ledger) (to o [] (x .ledger))
   after x (resizes o n) =
       let y = resize al (x .heap) o n in
-      noted (y .answer .number) (y .heap) (x .ledger) (if eqb (y .answer .offset) o then x .ledger else carried n o (y .answer .offset) (y .heap .memory) (x .ledger))
+      noted (y .answer .number) (y .heap) (x .ledger) (if eqb (y .answer .offset) o then x .ledger else carried n o (y .answer .offset) (ask al (x .heap) n .heap .memory) (x .ledger))
   after x (views o) = x
+  after x (sizes o) = x
   after x (writes o text) =
       let y = write al (x .heap) o text in
       noted (y .answer .number) (y .heap) (x .ledger) (to o (text ++ drop (length text) (x .ledger o)) (x .ledger))

@@ -28,7 +28,7 @@ use Rattle.laws.specs.Bytes.{part-long, part-same}
 unfoldable pub holding : ℕ → ℕ → ℕ → Heap → ℕ → List ℕ
 holding al A P h o = if live al A P (h .books) (h .map) o then part o (sizeAt al A (h .books) o) (h .memory) else []
 
--- ---- the rows have a live block at offset o: which block of which pool
+-- ---- the plain heap has a live block at offset o: which block of which pool
 pub record LiveAt (al A P : ℕ) (r : Plain) (o : ℕ) : Type 0 where
   pub pool : ℕ
   pub block : ℕ
@@ -45,7 +45,7 @@ liveSize {al} {r = r} t = sizeOf al (r .class (t .pool))
 pub live-ends : {al A P : ℕ} {r : Plain} {o : ℕ} (t : LiveAt al A P r o) → startOf (liveSize t) (t .block) + liveSize t ≤ 4096
 live-ends t = block-ends (liveSize t) (t .block) (suc (t .block)) (omega arith) (t .fits)
 
--- rows with the same class of its pool, and it live, have it too
+-- a plain heap with the same class of its pool, and it live, has it too
 live-still : {al A P o : ℕ} {r r′ : Plain} (t : LiveAt al A P r o) → r′ .class (t .pool) ≡ r .class (t .pool) → r′ .live (t .pool) (t .block) ≡ true → LiveAt al A P r′ o
 live-still t e f = record { pool = t .pool; block = t .block; place = rw e (t .place); inside = t .inside; class = rw e (t .class); fits = rw e (t .fits); on = f }
 
@@ -62,7 +62,7 @@ holding-some al A P h o some = go (live al A P (h .books) (h .map) o) refl
     go false e = absurd (some (dead-holding al A P h o e))
 
 module _ {al A P : ℕ} {h : Heap} {r : Plain} (L : Aligned al) (S : Sound al A P h r) where
-  -- what the live test says is what the rows have
+  -- what the live test says is what the plain heap has
   pub live-rows : (o : ℕ) → live al A P (h .books) (h .map) o ≡ true → LiveAt al A P r o
   live-rows o e =
       let t = live-is al A P (h .books) (h .map) o (L .low) (L .high) e in
@@ -78,7 +78,7 @@ module _ {al A P : ℕ} {h : Heap} {r : Plain} (L : Aligned al) (S : Sound al A 
         on = sym (S .bits (o / 4096) _ (t .pool) (omega (arith, z .few))) ∙ rw c at (t .set);
       }
 
-  -- a live block of the rows
+  -- a live block of the plain heap
   pub block-live : (p k : ℕ) → p < A * P → r .live p k ≡ true → LiveAt al A P r (offsetOf p (startOf (sizeOf al (r .class p)) k))
   block-live p k l on =
       let I = in-class L (held S .says) p k l on in
@@ -282,7 +282,7 @@ module _ {al A P : ℕ} {h h′ : Heap} {r r′ : Plain} (L : Aligned al) (S : S
               go (yes q) (no k) e = rw q (rw (eq-eqb (u .pool) (t .pool) q, ne-eqb (u .block) (t .block) k) at e)
               go (yes q) (yes k) e = absurd (true≢false (sym e ∙ rw (eq-eqb (u .pool) (t .pool) q, eq-eqb (u .block) (t .block) k)))
 
--- ---- what a step leaves, the heap being h before it: a heap that holds the rows r, at each offset the bytes that g says, and the first 48 bytes of each pool
+-- ---- what a step leaves, the heap being h before it: a heap that holds the plain heap r, at each offset the bytes that g says, and the first 48 bytes of each pool
 pub record Leaves (al A P : ℕ) (h h′ : Heap) (r : Plain) (g : ℕ → List ℕ) : Type 0 where
   pub sound : Sound al A P h′ r
   pub holds : (o : ℕ) → holding al A P h′ o ≡ g o

@@ -1,4 +1,4 @@
--- Rows in the words of the books: the writes of joining and leaving a doubly linked list, and what they leave of it and of every other word; and the freed pools' lists, which are
+-- Sequences in the words of the books: the writes of joining and leaving a doubly linked list, and what they leave of it and of every other word; and the freed pools' lists, which are
 -- linked by next alone.
 -- Assumes nothing.
 use mathlib.Core.Path.{_≡_, refl, sym, ap, _∙_}

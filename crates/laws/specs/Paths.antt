@@ -1,4 +1,4 @@
--- What is to be shown of each path: the rules decide what the plain heap decides, what they write holds the plain heap's rows after,
+-- What is to be shown of each path: the rules decide what the plain heap decides, what they write holds the plain heap after,
 -- and no byte of a live block nor of a pool's first 48 is touched. And a step inside a pool that is in use before and after.
 -- Assumes nothing.
 use mathlib.Core.Path.{_≡_, refl, sym, ap, ap₂, _∙_}
@@ -30,7 +30,7 @@ use Rattle.laws.specs.Sound.{Sound}
 use Rattle.laws.specs.Held.{Says, PoolSays, arena-low, in-class}
 use Rattle.laws.specs.Step.{Aside, BytesAfter, base-same, homes-same, stepped}
 
--- ---- memory: no byte of a live block of the rows r, and none of a pool's first 48, is touched
+-- ---- memory: no byte of a live block of the plain heap r, and none of a pool's first 48, is touched
 pub record Quiet (al A P : ℕ) (m m′ : List ℕ) (r : Plain) : Type 0 where
   pub same-length : length m′ ≡ length m
   pub first-bytes : (i : ℕ) → i % 4096 < 48 → at m′ i ≡ at m i
@@ -127,7 +127,7 @@ count-off r p j d l =
     (sym (many-more (to j false (r .live p)) (r .live p) j 512 l (to-same j false (r .live p) j refl) d (λ i n. sym (to-other j false (r .live p) i n))))
 
 -- ---- a step inside pool p, which is in use before and after
--- the rows after it: block j's bit is d, ks is the pool's chain; and the view
+-- the plain heap after it: block j's bit is d, ks is the pool's chain; and the view
 abbrev pub insideRows : ℕ → ℕ → ℕ → List ℕ → (ℕ → ℕ) → (ℕ → List ℕ) → Plain → Plain
 insideRows p j d ks virgins listed r =
     record {
@@ -158,7 +158,7 @@ module _ {al A P p : ℕ} {U : View} {m k : List ℕ} {r : Plain} (L : Aligned a
   free-still : (x : ℕ) → free P (r ▷ setLive p j (eqb d 1)) x ≡ free P r x
   free-still x = many-same (λ i. not (inUse r (x * P + i))) (λ i. not (inUse (r ▷ setLive p j (eqb d 1)) (x * P + i))) P (λ i l. ap not (in-use (x * P + i)))
 
-  -- ks is the pool's chain then, virgins and listed are the rows', and pools, homes and lists the view's
+  -- ks is the pool's chain then, virgins and listed are the plain heap's, and pools, homes and lists the view's
   pub inner : (ks : List ℕ) (virgins : ℕ → ℕ) (listed : ℕ → List ℕ) (pools : ℕ → ℕ → ℕ) (homes : ℕ → ℕ) (lists : ℕ → List ℕ) {m′ : List ℕ}
       → ((y : ℕ) → y ≢ p → virgins y ≡ r .virgin y) → ((w y : ℕ) → y ≢ p → pools w y ≡ U .pool w y) → pools 7 p ≡ U .pool 7 p → ((y : ℕ) → y ≢ p → homes y ≡ U .home y)
       → ((c : ℕ) → c < 64 → lists c ≡ listed c) → BytesAfter p m m′

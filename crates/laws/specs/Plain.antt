@@ -1,4 +1,4 @@
--- The plain heap: rows instead of links, and no bytes. Blocks go by their number in the pool. Its steps decide the same paths as 01's, and none of them is damage.
+-- The plain heap: sequences instead of links, and no bytes. Blocks go by their number in the pool. Its steps decide the same paths as 01's, and none of them is damage.
 -- Assumes nothing.
 use mathlib.Core.Bool.{Bool, true, false, not}
 use mathlib.Core.List.{List, [], _∷_}
@@ -51,7 +51,7 @@ carved P r p = ltb (p % P) (r .mark (p / P))
 abbrev pub free : ℕ → Plain → ℕ → ℕ
 free P r a = howMany (λ i. not (inUse r (a * P + i))) P
 
--- ---- a row: whether it is empty, its front, and the rest
+-- ---- a sequence: whether it is empty, its front, and the rest
 abbrev pub none : List ℕ → Bool
 none [] = true
 none (x ∷ xs) = false
@@ -202,7 +202,7 @@ askPlain al P r n = afterAsk al P r (classOf al n) (planAsk al P r (classOf al n
 abbrev pub backPlain : ℕ → Plain → ℕ → ℕ → Plain
 backPlain P r p k = afterBack P r p k (planBack P r p k)
 
--- an ask that finds no room leaves the rows, and the old block stays
+-- an ask that finds no room leaves the plain heap as it is, and the old block stays
 abbrev pub movePlain : ℕ → Plain → ℕ → ℕ → ℕ → Plain
 movePlain P x p k number = if eqb number 0 then backPlain P x p k else x
 

@@ -1,4 +1,5 @@
--- Small histories, computed by the definitions, that reach each path of ask and give back, a refusal with 4 and a moved resize: the theorems are not empty.
+-- Small histories, computed by `run` itself, that reach each path of ask and give back, a refusal with 4, a moved resize
+-- and a second arena: the theorems are not empty.
 -- Assumes nothing.
 use mathlib.Core.Path.{_≡_}
 use mathlib.Core.Bool.{Bool, true, _&&_}
@@ -19,9 +20,38 @@ use Rattle.rules.specs.Format.{freshBooks}
 use Rattle.rules.specs.Ask.{noLink, fromFreeblock, fromListed, setAnew, sameClass, takeAgain, fromMark, fromFreed, fromUsable, fromUnused, planAsk, takeFrom, afterAsk, askAnswer, askStep}
 use Rattle.rules.specs.GiveBack.{emptying, planBack, afterBack, backAnswer, backStep}
 use Rattle.rules.specs.Resize.{giveOld, moved, resizeStep}
-use Rattle.rules.specs.Numbers.{fitNumber, shapeNumber, sizeNumber, format, ask, giveBack, resize}
-use Rattle.rules.specs.Lines.{fresh}
+use Rattle.rules.specs.Outcome.{heapOf}
+use Rattle.rules.specs.View.{part, rollBlocks, rollPool, rollPools}
+use Rattle.rules.specs.Numbers.{
+  fitNumber,
+  shapeNumber,
+  sizeNumber,
+  roomNumber,
+  rollOf,
+  format,
+  ask,
+  giveBack,
+  resize,
+  write,
+}
+use Rattle.rules.specs.Lines.{same}
 use Rattle.rules.specs.Whole.{tab, each-three}
+use Rattle.laws.specs.History.{
+  Event,
+  formats,
+  asks,
+  gives,
+  resizes,
+  views,
+  sizes,
+  writes,
+  rolls,
+  pokes,
+  State,
+  after,
+  run,
+}
+use Rattle.laws.specs.Theorems.{begun}
 
 -- the paths by number: of an ask 0 no room, 1 by link, 2 by a block set ready, 3 as the last spare block, 4 freed of the same class, 5 freed of another,
 -- 6 carved, 7 opened; of a give-back 1 joins, 2 stays, 3 empties, 4 the arena newly usable, 5 released
@@ -47,52 +77,126 @@ backNo Empties = 3
 backNo Returns = 4
 backNo Releases = 5
 
--- a call and the path that it takes
-pub data Turn : Type 0 where
-  asks : ℕ → ℕ → Turn  -- size, path
-  gives : ℕ → ℕ → Turn  -- offset, path
-  moves : ℕ → ℕ → ℕ → Turn  -- offset, size, the offset that it moves to
+-- the path that an event's call takes on a heap of A arenas with P pools; of a resize the offset that it answers, of the
+-- others nothing
+abbrev pathOf : ℕ → ℕ → Heap → Event → ℕ
+pathOf A P h (formats A′ P′) = 0
+pathOf A P h (asks n) = askNo (planAsk 8 A P h (classOf 8 n))
+pathOf A P h (gives o) = backNo (planBack 8 A P (h .books) (classAt A (h .books) o) (o / 4096))
+pathOf A P h (resizes o n) = resize 8 h o n .answer .offset
+pathOf A P h (views o) = 0
+pathOf A P h (sizes o) = 0
+pathOf A P h (writes o text) = 0
+pathOf A P h (rolls words) = 0
+pathOf A P h (pokes o d v) = 0
 
--- every turn takes its path, on a heap of one arena with P pools, each over what those before it leave
-unfoldable pub reaches : ℕ → List Turn → Heap → Bool
-unfolding inRange exact bit putBit isStart linkAt putLink live liveNumber leaveBy joinBy freshBooks noLink fromFreeblock fromListed setAnew sameClass takeAgain fromMark fromFreed fromUsable fromUnused planAsk takeFrom afterAsk askAnswer askStep emptying planBack afterBack backAnswer backStep giveOld moved resizeStep fitNumber shapeNumber sizeNumber format ask giveBack resize
-reaches P [] h = true
-reaches P (asks n q ∷ ts) h = eqb (askNo (planAsk 8 1 P h (classOf 8 n))) q && reaches P ts (ask 8 h n .heap)
-reaches P (gives o q ∷ ts) h = eqb (backNo (planBack 8 1 P (h .books) (classAt 1 (h .books) o) (o / 4096))) q && reaches P ts (giveBack 8 h o .heap)
-reaches P (moves o n new ∷ ts) h = eqb (resize 8 h o n .answer .offset) new && reaches P ts (resize 8 h o n .heap)
+-- an event and the path that it takes
+abbrev pub Turn : Type 0
+Turn = Event × ℕ
 
--- two pools, and blocks of 512, seven to a pool
-abbrev pub turns : List Turn
-turns =
-    asks 512 7 ∷ asks 512 2 ∷ asks 512 2 ∷ asks 512 2 ∷ asks 512 2 ∷ asks 512 2 ∷ asks 512 3
-    ∷ asks 512 6 ∷ asks 512 2 ∷ asks 512 2 ∷ asks 512 2 ∷ asks 512 2 ∷ asks 512 2 ∷ asks 512 3
-    ∷ asks 512 0
-    ∷ gives 48 1 ∷ gives 560 2 ∷ asks 512 1 ∷ gives 560 2
-    ∷ gives 1072 2 ∷ gives 1584 2 ∷ gives 2096 2 ∷ gives 2608 2 ∷ gives 3120 4
-    ∷ asks 512 4 ∷ gives 3120 4
-    ∷ asks 8 5 ∷ moves 48 6 56 ∷ gives 56 4
-    ∷ gives 4144 1 ∷ gives 4656 2 ∷ gives 5168 2 ∷ gives 5680 2 ∷ gives 6192 2 ∷ gives 6704 2 ∷ gives 7216 5
-    ∷ []
+unfoldable pub events : List Turn → List Event
+events [] = []
+events (t ∷ ts) = t .0 ∷ events ts
+
+-- every turn takes its path, each in the state that those before it leave
+unfoldable pub reaches : ℕ → ℕ → List Turn → State → Bool
+unfolding inRange exact bit putBit isStart linkAt putLink live liveNumber leaveBy joinBy freshBooks noLink fromFreeblock fromListed setAnew sameClass takeAgain fromMark fromFreed fromUsable fromUnused planAsk takeFrom afterAsk askAnswer askStep emptying planBack afterBack backAnswer backStep giveOld moved resizeStep fitNumber shapeNumber sizeNumber roomNumber format ask giveBack resize write after
+reaches A P [] x = true
+reaches A P (t ∷ ts) x = eqb (pathOf A P (x .heap) (t .0)) (t .1) && reaches A P ts (after 8 x (t .0))
+
+-- and the history's run ends with this roll, and with these bytes at this offset in memory and in the ledger
+unfoldable pub ends : List Event → State → List ℕ → ℕ → List ℕ → Bool
+unfolding reaches rollBlocks rollPool rollPools run
+ends es x listed o bytes =
+    let y = run 8 x es in
+    same (rollOf 8 (y .heap)) listed && same (y .ledger o) bytes && same (part o (length bytes) (y .heap .memory)) bytes
+
+-- a history of A arenas with P pools, by its turns and by its end, whatever memory, books and map of the right lengths
+-- held before format
+pub record Story : Type 0 where
+  pub A : ℕ
+  pub P : ℕ
+  pub turns : List Turn
+  pub listed : List ℕ
+  pub offset : ℕ
+  pub bytes : List ℕ
+
+abbrev pub Holds : Story → List ℕ → List ℕ → List ℕ → Type 0
+Holds s m b k =
+    let x = begun (heapOf m b k) (s .A) (s .P) in
+    T (reaches (s .A) (s .P) (s .turns) x && ends (events (s .turns)) x (s .listed) (s .offset) (s .bytes))
+
+abbrev pub Reached : Story → Type 0
+Reached s =
+    (m b k : List ℕ)
+    → length m ≡ memoryLength (s .A) (s .P) → length b ≡ booksLength (s .A) (s .P) → length k ≡ mapLength (s .A) (s .P)
+    → Holds s m b k
+
+-- two pools, and blocks of 512, seven to a pool: all paths but one, and a refusal with 4
+abbrev pub two-pools : Story
+two-pools = record {
+  A = 1;
+  P = 2;
+  turns =
+      (asks 512, 7) ∷ (asks 512, 2) ∷ (asks 512, 2) ∷ (asks 512, 2) ∷ (asks 512, 2) ∷ (asks 512, 2) ∷ (asks 512, 3)
+      ∷ (asks 512, 6) ∷ (asks 512, 2) ∷ (asks 512, 2) ∷ (asks 512, 2) ∷ (asks 512, 2) ∷ (asks 512, 2) ∷ (asks 512, 3)
+      ∷ (asks 512, 0)
+      ∷ (gives 48, 1) ∷ (gives 560, 2) ∷ (asks 512, 1) ∷ (gives 560, 2)
+      ∷ (gives 1072, 2) ∷ (gives 1584, 2) ∷ (gives 2096, 2) ∷ (gives 2608, 2) ∷ (gives 3120, 4)
+      ∷ (asks 512, 4) ∷ (gives 3120, 4)
+      ∷ (asks 8, 5) ∷ (resizes 48 6, 56) ∷ (gives 56, 4)
+      ∷ (gives 4144, 1) ∷ (gives 4656, 2) ∷ (gives 5168, 2) ∷ (gives 5680, 2) ∷ (gives 6192, 2) ∷ (gives 6704, 2)
+      ∷ (gives 7216, 5)
+      ∷ [];
+  listed = [];
+  offset = 48;
+  bytes = [];
+}
 
 -- with three pools an arena keeps its place when a pool comes free
-abbrev pub three : List Turn
-three = asks 512 7 ∷ asks 8 6 ∷ gives 4144 3 ∷ []
+abbrev pub three-pools : Story
+three-pools = record {
+  A = 1;
+  P = 3;
+  turns = (asks 512, 7) ∷ (asks 8, 6) ∷ (gives 4144, 3) ∷ [];
+  listed = 48 ∷ 512 ∷ [];
+  offset = 4144;
+  bytes = [];
+}
 
--- the turns hold of a fresh heap of one arena with P pools
-abbrev pub Holds : ℕ → List Turn → List ℕ → List ℕ → List ℕ → Type 0
-Holds P ts m b k = T (reaches P ts (fresh 1 P m b k))
+-- two arenas of two pools: the second is opened when the first is spent, the first is released and opened again, and
+-- 'owed', in the second, moves to the first
+abbrev pub two-arenas : Story
+two-arenas = record {
+  A = 2;
+  P = 2;
+  turns =
+      (asks 8, 7) ∷ (asks 16, 6) ∷ (asks 24, 7) ∷ (asks 32, 6)
+      ∷ (writes 8240 (111 ∷ 119 ∷ 101 ∷ 100 ∷ 0 ∷ 0 ∷ 0 ∷ 0 ∷ []), 0)
+      ∷ (gives 48, 4) ∷ (gives 4144, 5) ∷ (asks 40, 7) ∷ (resizes 8240 8, 4144) ∷ (pokes 4144 7 33, 0) ∷ (asks 48, 5)
+      ∷ [];
+  listed = 48 ∷ 40 ∷ 4144 ∷ 8 ∷ 8240 ∷ 48 ∷ 12336 ∷ 32 ∷ [];
+  offset = 4144;
+  bytes = 111 ∷ 119 ∷ 101 ∷ 100 ∷ 0 ∷ 0 ∷ 0 ∷ 33 ∷ [];
+}
 
-computed-two : (f g k : ℕ → ℕ) → Holds 2 turns (tab (memoryLength 1 2) 0 f) (tab (booksLength 1 2) 0 g) (tab (mapLength 1 2) 0 k)
-unfolding reaches
+computed-two : (f g k : ℕ → ℕ) → Holds two-pools (tab (memoryLength 1 2) 0 f) (tab (booksLength 1 2) 0 g) (tab (mapLength 1 2) 0 k)
+unfolding ends events
 computed-two f g k = tt
 
-computed-three : (f g k : ℕ → ℕ) → Holds 3 three (tab (memoryLength 1 3) 0 f) (tab (booksLength 1 3) 0 g) (tab (mapLength 1 3) 0 k)
-unfolding reaches
+computed-three : (f g k : ℕ → ℕ) → Holds three-pools (tab (memoryLength 1 3) 0 f) (tab (booksLength 1 3) 0 g) (tab (mapLength 1 3) 0 k)
+unfolding ends events
 computed-three f g k = tt
 
--- whatever memory, books and map of the right lengths held before format
-pub reached-two : (m b k : List ℕ) → length m ≡ memoryLength 1 2 → length b ≡ booksLength 1 2 → length k ≡ mapLength 1 2 → Holds 2 turns m b k
-reached-two = each-three (Holds 2 turns) (memoryLength 1 2) (booksLength 1 2) (mapLength 1 2) computed-two
+computed-arenas : (f g k : ℕ → ℕ) → Holds two-arenas (tab (memoryLength 2 2) 0 f) (tab (booksLength 2 2) 0 g) (tab (mapLength 2 2) 0 k)
+unfolding ends events
+computed-arenas f g k = tt
 
-pub reached-three : (m b k : List ℕ) → length m ≡ memoryLength 1 3 → length b ≡ booksLength 1 3 → length k ≡ mapLength 1 3 → Holds 3 three m b k
-reached-three = each-three (Holds 3 three) (memoryLength 1 3) (booksLength 1 3) (mapLength 1 3) computed-three
+pub reached-two : Reached two-pools
+reached-two = each-three (Holds two-pools) (memoryLength 1 2) (booksLength 1 2) (mapLength 1 2) computed-two
+
+pub reached-three : Reached three-pools
+reached-three = each-three (Holds three-pools) (memoryLength 1 3) (booksLength 1 3) (mapLength 1 3) computed-three
+
+pub reached-arenas : Reached two-arenas
+reached-arenas = each-three (Holds two-arenas) (memoryLength 2 2) (booksLength 2 2) (mapLength 2 2) computed-arenas

@@ -67,6 +67,29 @@ back-step : (al A P : ℕ) (h : Heap) (o : ℕ) → Unchanged h (backStep al A P
 unfolding backStep
 back-step al A P h o = back-path al A P _ h o _
 
+-- a give-back that is not done met 5 at its live test, or 6 on its path
+abbrev pub FiveOrSix : ℕ → Type 0
+FiveOrSix k = (k ≡ 5) ⊎ (k ≡ 6)
+
+path-six : (o : ℕ) (q : BackPlan) → backAnswer o q .number ≢ 0 → backAnswer o q .number ≡ 6
+unfolding backAnswer
+path-six o Broken d = refl
+path-six o Joins d = absurd (d refl)
+path-six o Stays d = absurd (d refl)
+path-six o Empties d = absurd (d refl)
+path-six o Returns d = absurd (d refl)
+path-six o Releases d = absurd (d refl)
+
+old-meets : (al A P : ℕ) (h : Heap) (o : ℕ)
+    → giveOld al A P h o .answer .number ≢ 0 → FiveOrSix (giveOld al A P h o .answer .number)
+unfolding giveOld backStep liveNumber
+old-meets al A P h o = go (live al A P (h .books) (h .map) o)
+  where
+    go : (b : Bool) → passing (if b then 0 else 5) (λ k. refused k h) (backStep al A P h o) .answer .number ≢ 0
+        → FiveOrSix (passing (if b then 0 else 5) (λ k. refused k h) (backStep al A P h o) .answer .number)
+    go false d = inl refl
+    go true d = inr (path-six o _ d)
+
 pub format-refused : (h : Heap) (A P : ℕ) → Unchanged h (format h A P)
 unfolding format
 format-refused h A P = after-tests h (fitNumber h A P) _ (was-done refl)
@@ -96,7 +119,8 @@ module _ (al : ℕ) (h : Heap) where
       go zero v n = absurd (n refl)
       go (suc k) v n = refl
 
-  -- ---- the half-done resize x of o to n: 6 with the new offset, and the ask and the copy stand
+  -- ---- the half-done resize x of o to n: 6 with the new offset, and the ask and the copy stand, because the give-back
+  -- over them meets 5 or 6
   abbrev A : ℕ
   A = arenas h
 
@@ -106,7 +130,9 @@ module _ (al : ℕ) (h : Heap) where
   pub record HalfDone (o n : ℕ) (x : Outcome) : Type 0 where
     pub handed-out : askStep al A P h n .answer .number ≡ 0
     pub answers : x .answer ≡ answerOf 6 (askStep al A P h n .answer .offset)
-    pub stands : x .heap ≡ copy o (askStep al A P h n .answer .offset) (min n (sizeAt al A (h .books) o)) (askStep al A P h n .heap)
+    pub stands : x .heap
+        ≡ copy o (askStep al A P h n .answer .offset) (min n (sizeAt al A (h .books) o)) (askStep al A P h n .heap)
+    pub meets : FiveOrSix (giveOld al A P (x .heap) o .answer .number)
 
   module _ (o n : ℕ) where
     -- what the ask leaves, and the copy; and the give-back that comes after them
@@ -129,11 +155,10 @@ module _ (al : ℕ) (h : Heap) where
     by-back : asked-new .answer .number ≡ 0 → (i : ℕ) → back .answer .number ≡ i
         → Fair (passing i (λ k. outcome (answerOf 6 (asked-new .answer .offset)) (back .heap)) (done (asked-new .answer .offset) (back .heap)))
     by-back e zero f d = absurd (d refl)
-    by-back e (suc i) f d = inr (record {
-      handed-out = e;
-      answers = refl;
-      stands = ap (λ (x : Outcome). x .heap) (back-unchanged (λ z. absurd (omega (arith, f, z))));
-    })
+    by-back e (suc i) f d =
+        let not-done : back .answer .number ≢ 0 = λ z. absurd (omega (arith, f, z)) in
+        let stands = ap (λ (x : Outcome). x .heap) (back-unchanged not-done) in
+        inr (record { handed-out = e; answers = refl; stands = stands; meets = rw stands (old-meets al A P copied o not-done) })
 
     by-ask : (j : ℕ) → asked-new .answer .number ≡ j → Fair (passing j (λ number. asked-new) (halfDone al A P (asked-new .answer .offset) back))
     by-ask zero e d = by-back e (back .answer .number) refl d

@@ -1,5 +1,5 @@
--- Resize over a sound heap: it answers as the plain heap does, and what it leaves holds the plain heap's rows. It is an ask, a copy into the block handed out, which
--- keeps the rows, and a give-back of the old block, which is still the block that it was.
+-- Resize over a sound heap: it answers as the plain heap does, and what it leaves holds what the plain heap leaves. It is an ask, a copy into the block handed out, which
+-- keeps the plain heap, and a give-back of the old block, which is still the block that it was.
 -- Assumes nothing.
 use mathlib.Core.Path.{_≡_, refl, sym, ap, ap₂, _∙_, subst}
 use mathlib.Core.Logic.{_≢_, inl, inr}
@@ -10,7 +10,7 @@ use native.Mathlib.Nat.{min-le-left, min-le-right}
 use native.Mathlib.Decide.{ℕ-discrete}
 use native.Mathlib.Omega.{arith}
 use lib.ListN.{length, take, drop, length-drop}
-use lib.Seq.{sets, length-sets, length-take-le, take-take, drop-at}
+use lib.Seq.{sets, length-sets, length-take-le, take-take}
 use borrow.Author.Tests.{eq-eqb, ne-eqb, le-leb}
 use Rattle.rules.specs.declared.AskPlan.the-variants.{NoRoom}
 use Rattle.rules.specs.Books.{Heap}
@@ -20,12 +20,12 @@ use Rattle.rules.specs.Ask.{askAnswer, afterAsk, askStep}
 use Rattle.rules.specs.Resize.{keeps, giveOld, moved, resizeStep}
 use Rattle.rules.specs.View.{part}
 use Rattle.rules.specs.Numbers.{giveBack, resize, sizeNumber}
-use Rattle.laws.specs.Update.{to, to-same, to-other, to-cong}
+use Rattle.laws.specs.Update.{to, to-cong}
 use Rattle.laws.specs.Plain.{Plain, planAsk as plainAsk, askPlain, backPlain, resizePlain, resizeAnswer}
-use Rattle.laws.specs.Sizes.{Aligned, size-low, has-class, class-fits}
+use Rattle.laws.specs.Sizes.{Aligned, has-class, class-fits}
 use Rattle.laws.specs.Sound.{Sound}
 use Rattle.laws.specs.Paths.{Hand, Asked}
-use Rattle.laws.specs.Bytes.{outside-less, part-long, sets-off, text-part}
+use Rattle.laws.specs.Bytes.{outside-less, sets-off, text-part}
 use Rattle.laws.specs.Holding.{LiveAt, liveSize, holding, live-rows, class-is, rows-live, in-memory, one-pool, one-block, at-block, at-class, holding-live, holding-long, holding-more, holding-some, holding-none, holding-others, Leaves}
 use Rattle.laws.specs.Calls.{shape-zero, DoneOrNot, done-or-not, ask-done, block-of, back-is, back-leaves}
 use Rattle.laws.specs.Written.{written-leaves}
@@ -166,44 +166,19 @@ module _ {al A P : ℕ} {h : Heap} {r : Plain} (L : Aligned al) (S : Sound al A 
         new-fits : new + size ≤ length (asked .memory)
         new-fits = rw (← new-size) (in-memory L (D .sound) new new-at)
 
-        new-long : length (part new size (copied .memory)) ≡ size
-        new-long = part-long (copied .memory) new size (rw (length-sets (asked .memory) new text) new-fits)
-
-        -- the give-back leaves the new block's bytes
-        new-stays : part new size (giveBack al copied o .heap .memory) ≡ part new size (copied .memory)
-        new-stays = sym (holding-live L moved-sound new w ∙ ap (λ (s : ℕ). part new s (giveBack al copied o .heap .memory)) long) ∙ here
-          where
-            here : holding al A P (giveBack al copied o .heap) new ≡ part new size (copied .memory)
-            here =
-                moved-holds new
-                ∙ to-other o [] (to new (part new size (copied .memory)) (holding al A P h)) new (λ q. differ (sym q))
-                ∙ to-same new (part new size (copied .memory)) (holding al A P h) new refl
-
-            w : LiveAt al A P (backPlain P (askPlain al P r n) (t .pool) (t .block)) new
-            w = live-rows L moved-sound new (holding-some al A P (giveBack al copied o .heap) new some)
-              where
-                some : holding al A P (giveBack al copied o .heap) new ≢ []
-                some q = omega (arith, ap length (sym here ∙ q), new-long, size-low L (classOf al n) (has-class L n hi))
-
-            long : liveSize w ≡ size
-            long = sym (holding-long L moved-sound new w) ∙ ap length here ∙ new-long
-
         text-is : text ≡ take k (holding al A P h o)
         text-is =
             sym (take-take k (liveSize u) (drop o (asked .memory)) (omega (arith, same-size, size-is, min-le-right n (sizeAt al A (h .books) o))))
             ∙ ap (take k) (sym (holding-live L (D .sound) o u) ∙ old-stays)
 
-        new-bytes : take k (holding al A P h o) ++ drop k (part new size (copied .memory)) ≡ part new size (copied .memory)
+        new-bytes : part new size (copied .memory) ≡ take k (holding al A P h o) ++ drop k (part new size (asked .memory))
         new-bytes =
-            let e = text-part (asked .memory) text new size (omega (arith, text-fits, new-size)) new-fits in
-            ap (λ (b : List ℕ). take k (holding al A P h o) ++ drop k b) e
-            ∙ ap (λ (b : List ℕ). take k (holding al A P h o) ++ b) (drop-at text (drop (length text) (part new size (asked .memory))) k text-long)
-            ∙ ap (λ (b : List ℕ). b ++ drop (length text) (part new size (asked .memory))) (sym text-is)
-            ∙ sym e
+            text-part (asked .memory) text new size (omega (arith, text-fits, new-size)) new-fits
+            ∙ ap₂ (λ (b : List ℕ) (i : ℕ). b ++ drop i (part new size (asked .memory))) text-is text-long
 
         -- a moving resize carries the first bytes of the old block over to the new one
         pub moved-leaves : Leaves al A P h (giveBack al copied o .heap) (backPlain P (askPlain al P r n) (t .pool) (t .block))
-            (carried al n o new (giveBack al copied o .heap .memory) (holding al A P h))
+            (carried al n o new (asked .memory) (holding al A P h))
         moved-leaves =
             record {
               sound = moved-sound;
@@ -218,14 +193,12 @@ module _ {al A P : ℕ} {h : Heap} {r : Plain} (L : Aligned al) (S : Sound al A 
             length-is = ap (min n) (size-is ∙ sym (holding-long L S o t))
 
             go : (y : ℕ) → Dec (y ≡ new) → Dec (y ≡ o)
-                → to o [] (to new (part new size (copied .memory)) (holding al A P h)) y ≡ carried al n o new (giveBack al copied o .heap .memory) (holding al A P h) y
-            go y (yes q) d =
-                rw (ne-eqb y o (λ v. differ (sym v ∙ q)), eq-eqb y new q, ← length-is)
-                (sym (ap (λ (b : List ℕ). take k (holding al A P h o) ++ drop k b) new-stays ∙ new-bytes))
+                → to o [] (to new (part new size (copied .memory)) (holding al A P h)) y ≡ carried al n o new (asked .memory) (holding al A P h) y
+            go y (yes q) d = rw (ne-eqb y o (λ v. differ (sym v ∙ q)), eq-eqb y new q, ← length-is) new-bytes
             go y (no q) (yes d) = rw (ne-eqb y new q, eq-eqb y o d)
             go y (no q) (no d) = rw (ne-eqb y new q, ne-eqb y o d)
 
-    -- ---- the whole call: number and offset are the plain heap's, and the heap after it holds the plain heap's rows
+    -- ---- the whole call: number and offset are the plain heap's, and the heap after it holds the plain heap after it
     pub resize-done : (e : live al A P (h .books) (h .map) o ≡ true)
         → (resize al h o n .answer ≡ resizeAnswer al P r o (t e .pool) n) × Sound al A P (resize al h o n .heap) (resizePlain al P r (t e .pool) (t e .block) n)
     unfolding askAnswer

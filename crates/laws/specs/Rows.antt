@@ -1,4 +1,4 @@
--- Rows: plain lists of numbers without repetition, and doubly linked lists read from the front over abstract links. A link to n is suc n; 0 is none.
+-- Sequences: plain lists of numbers without repetition, and doubly linked lists read from the front over abstract links. A link to n is suc n; 0 is none.
 -- Assumes nothing.
 use mathlib.Core.Path.{_≡_, refl, sym, ap, _∙_}
 use mathlib.Core.Logic.{_≢_, Ne·symm as flip, _⊎_, inl, inr}
@@ -26,7 +26,7 @@ abbrev pub Once : List ℕ → Type 0
 Once [] = Unit {0}
 Once (x ∷ xs) = Not x xs × Once xs
 
--- the row without x
+-- the sequence without x
 abbrev pub unless : Bool → ℕ → List ℕ → List ℕ
 unless true y ys = ys
 unless false y ys = y ∷ ys
@@ -70,7 +70,7 @@ split x (y ∷ ys) (inr i) =
     let s : Split x ys = split x ys i in
     record { pre = y ∷ s .pre; post = s .post; is = ap (λ (l : List ℕ). y ∷ l) (s .is) }
 
--- erased, the row is what stands before it and behind it, each once
+-- erased, the sequence is what stands before it and behind it, each once
 erase-not : (x : ℕ) (xs : List ℕ) → Not x xs → erase x xs ≡ xs
 erase-not x [] n = refl
 erase-not x (y ∷ ys) n = rw (ne-eqb x y (n .0), erase-not x ys (n .1))
@@ -101,7 +101,7 @@ pub once-gone : (x : ℕ) (pre post : List ℕ) → Once (pre ++ x ∷ post) →
 once-gone x [] post o = o .0
 once-gone x (y ∷ pre) post o = (flip (all-at (λ z. y ≢ z) x pre post (o .0)), once-gone x pre post (o .1))
 
--- ---- doubly linked rows
+-- ---- doubly linked sequences
 -- from the link k, with the link p behind it, exactly xs is met
 abbrev pub Seg : (ℕ → ℕ) → (ℕ → ℕ) → ℕ → ℕ → List ℕ → Type 0
 Seg next prev k p [] = k ≡ 0
@@ -130,7 +130,7 @@ pub record Left (x p n : ℕ) (next prev : ℕ → ℕ) (h : ℕ) (next′ prev�
   pub prev-same : (y : ℕ) → y ≢ x → n ≢ suc y → prev′ y ≡ prev y
 
 module _ (next prev next′ prev′ : ℕ → ℕ) where
-  -- a row depends on its members' links alone: the one frame law
+  -- a sequence depends on its members' links alone: the one frame law
   seg-same : (k p : ℕ) (xs : List ℕ) → All (λ y. next′ y ≡ next y) xs → All (λ y. prev′ y ≡ prev y) xs
       → Seg next prev k p xs → Seg next′ prev′ k p xs
   seg-same k p [] a b s = s
@@ -175,7 +175,7 @@ row-joins {next} {prev} {next′} {prev′} {x} {h} {h′} {xs} j n r =
       once = (n, r .once);
     }
 
--- what holds of all members holds of what a link in the row leads to
+-- what holds of all members holds of what a link in the sequence leads to
 module _ (Q : ℕ → Type 0) (next prev : ℕ → ℕ) where
   pub head-in : (k p : ℕ) (xs : List ℕ) → All Q xs → Seg next prev k p xs → (y : ℕ) → k ≡ suc y → Q y
   head-in k p [] a s y e = absurd (omega arith)

@@ -1,4 +1,4 @@
--- The heap h holds the rows r, soundly: W-201's rules 1 to 8, each as a part of its own, in that order, at the alignment al.
+-- The heap h holds the plain heap r, soundly: W-201's rules 1 to 8, each as a part of its own, in that order, at the alignment al.
 -- Assumes nothing.
 use mathlib.Core.Path.{_≡_}
 use mathlib.Core.Logic.{_⊎_}
@@ -15,7 +15,7 @@ use Rattle.laws.specs.Linked.{Doubly, Singly}
 use Rattle.laws.specs.Families.{Family}
 use Rattle.laws.specs.Chains.{Blocks}
 
--- ---- where a pool and an arena belong, by the rows
+-- ---- where a pool and an arena belong, by the plain heap
 -- "each class list its pools with live and spare blocks", "freed-pool lists the own arena's carved pools not in use": the head of a pool's list. A full
 -- pool is at 0, on no list and with both links 0; a pool not carved is at 1, on no list
 unfoldable pub home : ℕ → ℕ → Plain → ℕ → ℕ
@@ -100,9 +100,9 @@ abbrev pub PoolRule : ℕ → ℕ → List ℕ → ℕ → ℕ → ℕ → ℕ �
 PoolRule al n m count freeblock class nextoffset maxnextoffset live chain virgin =
     Unset count freeblock class nextoffset maxnextoffset ⊎ InClass al n m count freeblock class nextoffset maxnextoffset live chain virgin
 
--- ---- the heap h of A arenas with P pools each holds the rows r
+-- ---- the heap h of A arenas with P pools each holds the plain heap r
 pub record Sound (al A P : ℕ) (h : Heap) (r : Plain) : Type 0 where
-  -- the rows' marks, classes and live blocks are those of the books and the map
+  -- the plain heap's marks, classes and live blocks are those of the books and the map
   pub marks : (a : ℕ) → a < A → arena (h .books) carveMark a ≡ r .mark a
   pub classes : (n : ℕ) → n < A * P → pool A (h .books) class n ≡ r .class n
   pub bits : (n k : ℕ) → n < A * P → k < 512 → isSet (h .map) n k ≡ r .live n k

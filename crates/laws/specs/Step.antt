@@ -1,5 +1,5 @@
--- A step that changes pool p of its arena a, and the bit of one block of p: what it has to show, and that the view after it says the rows after it. What the view says of the others it
--- said before, for their words, rows and bytes stand.
+-- A step that changes pool p of its arena a, and the bit of one block of p: what it has to show, and that the view after it says the plain heap after it. What the view says of the others it
+-- said before, for their words, sequences and bytes stand.
 -- Assumes nothing.
 use mathlib.Core.Path.{_≡_, refl, sym, ap, ap₂, _∙_}
 use mathlib.Core.Logic.{_≢_, inl, inr}
@@ -27,7 +27,7 @@ use Rattle.laws.specs.Chains.{Blocks, block-ends, link-bytes, put-link-o
 use Rattle.laws.specs.Sound.{home, base}
 use Rattle.laws.specs.Held.{Says, ArenaSays, PoolSays, ListsSay, PoolRuleOf, rule-memory, opened}
 
--- ---- the rows but for pool p's and arena a's
+-- ---- the plain heap but for pool p and arena a
 pub record Aside (p a : ℕ) (r r′ : Plain) : Type 0 where
   pub marks : (x : ℕ) → x ≢ a → r′ .mark x ≡ r .mark x
   pub classes : (y : ℕ) → y ≢ p → r′ .class y ≡ r .class y

@@ -51,7 +51,7 @@ spend-is al A P c a x = go (none? (at (put (arenaWord freePools a) (at (x .books
     go true = refl
     go false = refl
 
--- the same in the rows: the usable arenas us without a, if it gives its last free pool
+-- the same in the plain heap: the usable arenas us without a, if it gives its last free pool
 abbrev pub spentUsable : Bool → ℕ → List ℕ → List ℕ
 spentUsable t a us = if t then erase a us else us
 
@@ -60,12 +60,12 @@ spend-rows true a x = refl
 spend-rows false a x = refl
 
 -- ---- pool p of arena a is taken from its source
--- the rows with other arenas
+-- the plain heap with other arenas
 abbrev pub withArenas : List ℕ → List ℕ → (ℕ → ℕ) → (ℕ → List ℕ) → Plain → Plain
 withArenas usable unused mark freed r =
     record { usable = usable; unused = unused; mark = mark; freed = freed; listed = r .listed; class = r .class; chain = r .chain; virgin = r .virgin; live = r .live }
 
--- the books b say U₁ then, and the rows' arenas are us, un, mark and freed. Pool p, which has no live block, is on no list; all else is as the view U and the rows r have it
+-- the books b say U₁ then, and the plain heap's arenas are us, un, mark and freed. Pool p, which has no live block, is on no list; all else is as the view U and the plain heap r have it
 pub record From (al A P p a : ℕ) (b : List ℕ) (U U₁ : View) (r : Plain) (us un : List ℕ) (mark : ℕ → ℕ) (freed : ℕ → List ℕ) : Type 0 where
   pub books : Books A (A * P) b U₁
   pub inside : p < A * P
@@ -81,7 +81,7 @@ pub record From (al A P p a : ℕ) (b : List ℕ) (U U₁ : View) (r : Plain) (u
   pub carved-p : carved P (withArenas us un mark freed r) p ≡ true
   pub carved-others : (y : ℕ) → y < A * P → y ≢ p → carved P (withArenas us un mark freed r) y ≡ carved P r y
 
--- the rows with pool p set to class c
+-- the plain heap with pool p set to class c
 abbrev pub newRows : ℕ → ℕ → Plain → Plain
 newRows c p x = x ▷ setListed c (p ∷ []) ▷ setClass p c ▷ setVirgin p 2 ▷ setChain p (1 ∷ []) ▷ setLive p 0 true
 

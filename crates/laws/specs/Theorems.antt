@@ -14,12 +14,25 @@ use Rattle.rules.specs.Books.{Heap, at, arenas, pools, memoryLength}
 use Rattle.rules.specs.Blocks.{classOf, sizeOf, sizeAt, live}
 use Rattle.rules.specs.View.{part, roll}
 use Rattle.rules.specs.Outcome.{Outcome, answerOf, refused}
-use Rattle.rules.specs.Numbers.{format, ask, giveBack, resize, rollCall, rollOf, rollOutcome, roomNumber}
+use Rattle.rules.specs.Numbers.{
+  format,
+  ask,
+  giveBack,
+  resize,
+  view,
+  viewSize,
+  sizedOf,
+  rollCall,
+  rollOf,
+  rollOutcome,
+  roomNumber,
+}
+use Rattle.laws.specs.Update.{is-false}
 use Rattle.laws.specs.Sizes.{Aligned, size-low}
 use Rattle.laws.specs.Held.{held}
 use Rattle.laws.specs.Holding.{LiveAt, liveSize, live-ends, live-rows, class-is, in-memory, holding-live, holding-long, holding-some, dead-holding}
 use Rattle.laws.specs.Written.{apart}
-use Rattle.laws.specs.Calls.{shape-zero, back-dead, back-is}
+use Rattle.laws.specs.Calls.{shape-zero, view-is, view-size-is, back-dead, back-is}
 use Rattle.laws.specs.Free.{live-held, ask-free, resize-free}
 use Rattle.laws.specs.Roll.{listing-same, listing-count, listing-place, sizeHeld, roll-is}
 use Rattle.laws.specs.NoRoom.{four-full, full-four}
@@ -49,7 +62,7 @@ module _ {al : ℕ} (L : Aligned al) (h : Heap) (A P : ℕ) (ok : format h A P .
   four-means n low high = rw (T .sound .rule1 .arenas-are, T .sound .rule1 .pools-are) (four-full L (T .sound) n low high, full-four L (T .sound) n low high)
 
   -- ---- the entries of the ledger
-  -- an entry is a live block of the rows, of its length
+  -- an entry is a live block of the plain heap, of its length
   entry-live : (o : ℕ) → end .ledger o ≢ [] → LiveAt al (T .A) (T .P) (T .rows) o
   entry-live o some = live-rows L (T .sound) o (holding-some al (T .A) (T .P) (end .heap) o (λ q. some (T .tie o ∙ q)))
 
@@ -71,19 +84,33 @@ module _ {al : ℕ} (L : Aligned al) (h : Heap) (A P : ℕ) (ok : format h A P .
       → end .ledger (resize al (end .heap) o n .answer .offset) ≡ []
   moved-free o n z d = T .tie _ ∙ resize-free L (T .sound) o n z d
 
+  -- an offset where nothing is held is not live
+  none-dead : (o : ℕ) → end .ledger o ≡ [] → live al (T .A) (T .P) (end .heap .books) (end .heap .map) o ≡ false
+  none-dead o none = is-false (live al (T .A) (T .P) (end .heap .books) (end .heap .map) o) (λ e. live-held L (T .sound) o e (sym (T .tie o) ∙ none))
+
   -- a give-back is done exactly where a block is held; elsewhere it is refused with 5, and nothing changes
   pub back-means : (o : ℕ) → (end .ledger o ≢ [] → giveBack al (end .heap) o .answer ≡ answerOf 0 o) × (end .ledger o ≡ [] → giveBack al (end .heap) o ≡ refused 5 (end .heap))
-  back-means o = (held-back, dead-back)
-    where
-      held-back : end .ledger o ≢ [] → giveBack al (end .heap) o .answer ≡ answerOf 0 o
-      held-back some = ap (λ (x : Outcome). x .answer) (back-is L (T .sound) o (holding-some al (T .A) (T .P) (end .heap) o (λ q. some (T .tie o ∙ q))))
+  back-means o = (
+    λ some. ap (λ (x : Outcome). x .answer) (back-is L (T .sound) o (holding-some al (T .A) (T .P) (end .heap) o (λ q. some (T .tie o ∙ q)))),
+    λ none. back-dead L (T .sound) o (none-dead o none),
+  )
 
-      dead-back : end .ledger o ≡ [] → giveBack al (end .heap) o ≡ refused 5 (end .heap)
-      dead-back none = go (live al (T .A) (T .P) (end .heap .books) (end .heap .map) o) refl
-        where
-          go : (b : Bool) → live al (T .A) (T .P) (end .heap .books) (end .heap .map) o ≡ b → giveBack al (end .heap) o ≡ refused 5 (end .heap)
-          go true e = absurd (live-held L (T .sound) o e (sym (T .tie o) ∙ none))
-          go false e = back-dead L (T .sound) o e
+  -- ---- what is read out: view hands back the bytes that the ledger has, and the empty part exactly where nothing is
+  -- held
+  pub view-shows : (o : ℕ) → view al (end .heap) o ≡ end .ledger o
+  view-shows o = view-is (T .sound) o ∙ sym (T .tie o)
+
+  -- and its companion the size of what is held, or 5
+  pub size-shows : (o : ℕ)
+      → (end .ledger o ≢ [] → viewSize al (end .heap) o ≡ sizedOf 0 (length (end .ledger o)))
+      × (end .ledger o ≡ [] → viewSize al (end .heap) o ≡ sizedOf 5 0)
+  size-shows o = (held-size-shown, λ none. view-size-is (T .sound) o ∙ rw (none-dead o none) refl)
+    where
+      held-size-shown : end .ledger o ≢ [] → viewSize al (end .heap) o ≡ sizedOf 0 (length (end .ledger o))
+      held-size-shown some =
+          let e = holding-some al (T .A) (T .P) (end .heap) o (λ q. some (T .tie o ∙ q)) in
+          let t = live-rows L (T .sound) o e in
+          view-size-is (T .sound) o ∙ rw e (ap (sizedOf 0) (ap (sizeOf al) (class-is L (T .sound) o t) ∙ sym (entry-size o t)))
 
   -- no two entries overlap
   pub entries-apart : (o x : ℕ) → end .ledger o ≢ [] → end .ledger x ≢ [] → x ≢ o → (o + length (end .ledger o) ≤ x) ⊎ (x + length (end .ledger x) ≤ o)
@@ -92,12 +119,15 @@ module _ {al : ℕ} (L : Aligned al) (h : Heap) (A P : ℕ) (ok : format h A P .
       let u = entry-live x b in
       rw (entry-size o t, entry-size x u) (apart o x t u d)
 
-  -- each entry lies in its pool past the first 48 bytes
-  pub entry-inside : (o : ℕ) → end .ledger o ≢ [] → (48 ≤ o % 4096) × (o % 4096 + length (end .ledger o) ≤ 4096)
+  -- each entry lies in memory, in one pool, past the pool's first 48 bytes
+  pub entry-inside : (o : ℕ) → end .ledger o ≢ []
+      → (o + length (end .ledger o) ≤ length (end .heap .memory))
+      × (48 ≤ o % 4096)
+      × (o % 4096 + length (end .ledger o) ≤ 4096)
   entry-inside o a =
       let t = entry-live o a in
       let l = size-low L (T .rows .class (t .pool)) (t .class) in
-      rw (entry-size o t) (omega (arith, t .place, live-ends t, l), omega (arith, t .place, live-ends t, l))
+      rw (entry-size o t) (in-memory L (T .sound) o t, omega (arith, t .place, live-ends t, l), omega (arith, t .place, live-ends t, l))
 
   -- memory at each entry is exactly the ledger's bytes for it
   pub entry-bytes : (o : ℕ) → end .ledger o ≢ [] → end .ledger o ≡ part o (length (end .ledger o)) (end .heap .memory)

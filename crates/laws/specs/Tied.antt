@@ -31,7 +31,26 @@ use Rattle.laws.specs.Written.{written-leaves}
 use Rattle.laws.specs.Calls.{shape-zero, DoneOrNot, done-or-not, ask-size, ask-is, ask-leaves, size-number, back-dead, block-of, back-is, back-leaves}
 use Rattle.laws.specs.Resized.{resize-size, resize-dead, resize-keeps, resize-none, resize-moves, differ, moved-leaves}
 use Rattle.laws.specs.Refused.{view-six, roll-six}
-use Rattle.laws.specs.History.{Event, formats, asks, gives, resizes, views, writes, rolls, pokes, Ledger, State, noted, numberOf, carried, after, run, NoSix}
+use Rattle.laws.specs.History.{
+  Event,
+  formats,
+  asks,
+  gives,
+  resizes,
+  views,
+  sizes,
+  writes,
+  rolls,
+  pokes,
+  Ledger,
+  State,
+  noted,
+  numberOf,
+  carried,
+  after,
+  run,
+  NoSix,
+}
 
 -- ---- what holds after a history, m₀ being memory before it: the heap is sound, the ledger has what the heap holds, the first 48 bytes of each pool stand
 pub record Tied (al : ℕ) (m₀ : List ℕ) (x : State) : Type 0 where
@@ -213,7 +232,7 @@ module _ {al : ℕ} (L : Aligned al) (m₀ : List ℕ) where
       Q : Outcome → Type 0
       Q y =
           Good al m₀ (y .answer .number)
-          (noted (y .answer .number) (y .heap) (x .ledger) (if eqb (y .answer .offset) o then x .ledger else carried al n o (y .answer .offset) (y .heap .memory) (x .ledger)))
+          (noted (y .answer .number) (y .heap) (x .ledger) (if eqb (y .answer .offset) o then x .ledger else carried al n o (y .answer .offset) (ask al h n .heap .memory) (x .ledger)))
 
       -- the ledger carries what the heap does
       same-carried : (o₁ : ℕ) (m : List ℕ) (y : ℕ) → carried al n o o₁ m (x .ledger) y ≡ carried al n o o₁ m (holding al (T .A) (T .P) h) y
@@ -225,7 +244,11 @@ module _ {al : ℕ} (L : Aligned al) (m₀ : List ℕ) where
       by-room : (lo : 1 ≤ n) (hi : n ≤ 512) (e : live al (T .A) (T .P) (h .books) (h .map) o ≡ true) → keeps (liveSize (block-of L S o e)) n ≡ false
           → DoneOrNot al (T .P) (T .rows) (classOf al n) → Q (resize al h o n)
       by-room lo hi e q (inl z) =
-          rw (resize-moves L S o n lo hi e z q, ne-eqb (askAnswer (plainAsk al (T .P) (T .rows) (classOf al n)) .offset) o (λ u. differ L S o n lo hi e z (sym u))) (
+          rw (
+            resize-moves L S o n lo hi e z q,
+            ask-is L S n lo hi,
+            ne-eqb (askAnswer (plainAsk al (T .P) (T .rows) (classOf al n)) .offset) o (λ u. differ L S o n lo hi e z (sym u)),
+          ) (
             (omega arith),
             leaves T (moved-leaves L S o n lo hi e z) _ (same-carried (askAnswer (plainAsk al (T .P) (T .rows) (classOf al n)) .offset) _),
           )
@@ -264,7 +287,8 @@ module _ {al : ℕ} (L : Aligned al) (m₀ : List ℕ) where
   step T (asks n) = step-ask T n
   step T (gives o) = step-give T o
   step T (resizes o n) = step-resize T o n
-  step {x} T (views o) = (view-six al (x .heap) o, T)
+  step T (views o) = ((omega arith), T)
+  step {x} T (sizes o) = (view-six al (x .heap) o, T)
   step T (writes o text) = step-write T o text
   step {x} T (rolls words) = (roll-six al (x .heap) words, T)
   step T (pokes o d v) = step-poke T o d v

@@ -1,4 +1,4 @@
--- Bytes inside a live block: writing them keeps the heap sound, with the same rows, and what is held at every other offset.
+-- Bytes inside a live block: writing them keeps the heap sound, for the same plain heap, and what is held at every other offset.
 -- Assumes nothing.
 use mathlib.Core.Path.{_≡_, refl, sym, ap, ap₂, _∙_, subst}
 use mathlib.Core.Logic.{_≢_, ⊎-map}
@@ -57,7 +57,7 @@ module _ {al A P : ℕ} {h : Heap} {r : Plain} (L : Aligned al) (S : Sound al A 
       off (yes q) = all-map {R = λ k. t .pool ≡ n → t .block ≢ k} (λ k (d : t .block ≢ k) _. d) chain (live-off B (t .block) (ap (λ (y : ℕ). r .live y (t .block)) (sym q) ∙ t .on))
       off (no q) = all-every {Q = λ k. t .pool ≡ n → t .block ≢ k} (λ k e. absurd (q e)) chain
 
-  -- a holder's bytes keep the heap sound, and its rows
+  -- a holder's bytes keep the heap sound, for the same plain heap
   written-sound : Sound al A P (heapOf m′ (h .books) (h .map)) r
   written-sound = sound {h = heapOf m′ (h .books) (h .map)} L (H .books) F′
     where

@@ -1,4 +1,4 @@
--- 01 as definitions, in its order, and the three tables that the prover computes about them.
+-- 01 as definitions, in its order, what each call promises, and the three tables that the prover computes about them.
 pub mod Say
 pub mod Books
 pub mod Blocks
@@ -10,6 +10,7 @@ pub mod GiveBack
 pub mod Resize
 pub mod View
 pub mod Numbers
+pub mod Promises
 pub mod Replay
 pub mod Whole
 pub mod Lines

@@ -57,8 +57,11 @@ pub record RollOutcome : Type 0 where
   pub answer : Rolled
   pub words : List ℕ
 
+abbrev pub rolledOf : ℕ → ℕ → Rolled
+rolledOf k n = record { number = k; count = n }
+
 abbrev pub rollOutcome : ℕ → ℕ → List ℕ → RollOutcome
-rollOutcome k n words = record { answer = record { number = k; count = n }; words = words }
+rollOutcome k n words = record { answer = rolledOf k n; words = words }
 
 abbrev pub sizedOf : ℕ → ℕ → Sized
 sizedOf k s = record { number = k; size = s }

@@ -30,7 +30,7 @@ returns c =
     let at-if1 = c .before in
     let at-offset-test = at-if1 .before in
     let at-start = at-offset-test .before .before .before .before in (
-      sym (stopped (λ k. []) _ _ (λ z. at-if1 .if1 .taken (at-offset-test .offset-test .ensures .0 ∙ z))),
+      (sym (stopped (λ k. []) _ _ (λ z. at-if1 .if1 .taken (at-offset-test .offset-test .ensures .0 ∙ z))), refl),
       (
         refl,
         ap (λ (x : ℕ). x + at-start .args .memory .ptr .1)
@@ -69,9 +69,12 @@ returns-2 c =
     let at-offset-test = at-if1 .before in
     let at-start = at-offset-test .before .before .before .before in
     let a = at-start .args in (
-      ap (λ (n : ℕ). take n (drop (a .offset) (a .memory .now)))
-          (add-sub-cancel-left (a .offset) (at-block-size .block-size .result) ∙ at-block-size .block-size .ensures .0)
-          ∙ sym (passed (λ k. []) _ _ (sym (at-offset-test .offset-test .ensures .0) ∙ at-if1 .if1 .left)),
+      (
+        ap (λ (n : ℕ). take n (drop (a .offset) (a .memory .now)))
+            (add-sub-cancel-left (a .offset) (at-block-size .block-size .result) ∙ at-block-size .block-size .ensures .0)
+            ∙ sym (passed (λ k. []) _ _ (sym (at-offset-test .offset-test .ensures .0) ∙ at-if1 .if1 .left)),
+        refl,
+      ),
       (refl, ap (λ (x : ℕ). x + a .memory .ptr .1) (sym (passed (λ k. 0) _ _ (sym (at-offset-test .offset-test .ensures .0) ∙ at-if1 .if1 .left)))),
     )
 

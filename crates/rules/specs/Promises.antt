@@ -1,0 +1,61 @@
+-- What each call promises, once for all who say it: the contracts of crates heap and heskavern, that each determines its
+-- call, and the runs of crate laws. `found` is the heap as the call finds it, `left` as it leaves it, in every byte and
+-- word; then its arguments and its answer. The alignment is 01's, 8.
+-- Assumes nothing.
+use mathlib.Core.Path.{_≡_}
+use mathlib.Core.List.{List}
+use Prim.Native.Nat.{ℕ, _+_}
+use Rattle.rules.specs.declared.Answer.{Answer}
+use Rattle.rules.specs.declared.Sized.{Sized}
+use Rattle.rules.specs.declared.Rolled.{Rolled}
+use Rattle.rules.specs.Books.{Heap}
+use Rattle.rules.specs.Outcome.{outcome, passing}
+use Rattle.rules.specs.Numbers.{
+  inOrder,
+  shapeNumber,
+  offsetNumber,
+  format,
+  ask,
+  giveBack,
+  resize,
+  view,
+  viewSize,
+  write,
+  rollCall,
+}
+
+module _ (found left : Heap) where
+  abbrev pub FormatPromise : ℕ → ℕ → Answer → Type 0
+  FormatPromise A P answer = outcome answer left ≡ format found A P
+
+  abbrev pub AskPromise : ℕ → Answer → Type 0
+  AskPromise size answer = outcome answer left ≡ ask 8 found size
+
+  abbrev pub GiveBackPromise : ℕ → Answer → Type 0
+  GiveBackPromise offset answer = outcome answer left ≡ giveBack 8 found offset
+
+  abbrev pub ResizePromise : ℕ → ℕ → Answer → Type 0
+  ResizePromise offset size answer = outcome answer left ≡ resize 8 found offset size
+
+  -- view's part, by its bytes
+  abbrev pub ViewPromise : ℕ → List ℕ → Type 0
+  ViewPromise offset part = (part ≡ view 8 found offset) × (left ≡ found)
+
+  abbrev pub ViewSizePromise : ℕ → Sized → Type 0
+  ViewSizePromise offset answer = (answer ≡ viewSize 8 found offset) × (left ≡ found)
+
+  abbrev pub WritePromise : ℕ → List ℕ → Answer → Type 0
+  WritePromise offset text answer = outcome answer left ≡ write 8 found offset text
+
+  -- the lent words as it finds and as it leaves them
+  abbrev pub RollCallPromise : List ℕ → List ℕ → Rolled → Type 0
+  RollCallPromise words rolled answer =
+      (record { answer = answer; words = rolled } ≡ rollCall 8 found words) × (left ≡ found)
+
+-- and by its place: the part lies where memory does, from the offset on, or at memory's start where it is empty. A place
+-- is a buffer and a position in it
+abbrev pub viewAt : Heap → ℕ → ℕ
+viewAt found offset = passing (inOrder (shapeNumber found) 0 (offsetNumber 8 found offset) 0) (λ k. 0) offset
+
+abbrev pub ViewPlace : Heap → ℕ → ℕ × ℕ → ℕ × ℕ → Type 0
+ViewPlace found offset memory part = (part .0 ≡ memory .0) × (part .1 ≡ viewAt found offset + memory .1)
