@@ -43,24 +43,24 @@ pub handed : (s p f : ℕ) (h h′ : Heap) (r : ℕ) (k : List ℕ) → 48 ≤ f
 handed s p f h h′ r k low left answer set =
     rw (answer, set, le-ltb (offsetOf p f) 48 (omega arith)) (ap (λ (x : Heap). outcome (answerOf 0 (offsetOf p f)) (onMap (putMapBit p (blockNo s f) 1) x)) left)
 
--- ---- what is known of a block and of a listed pool
--- a start passes the test
+-- ---- a block's start passes the test
 pub starts : (s o : ℕ) → Start s o → isStart s o ≡ true
 starts s o t = rw (t .place) at (start-is s (blockNo s o) (t .number))
 
 -- ---- the record q of pool n was loaded from b, and b′ are the books with what a method made of it stored there
 module _ (A n : ℕ) (q t : Pool) (b b′ : List ℕ) (loaded : q ≡ poolAt A b n) (stored : b′ ≡ putPool A n t b) where
+  -- a block was taken
   pub take-writes : (link : ℕ) → t ≡ taken q link
       → Writes (λ h. h ▷ rise (poolWord A count n) ▷ putWord (poolWord A freeblock n) link) b b′
   take-writes link e = record { same = λ m k. rw (stored, e, loaded) (ap (λ (x : List ℕ). heapOf m x k) (take-stored A n b link)) }
 
-  -- its nextoffset being i
+  -- a block was taken, and the one at nextoffset, i, exposed
   pub expose-writes : (i size : ℕ) → i ≡ q .nextoffset → t ≡ exposed q size
       → Writes (λ h. h ▷ rise (poolWord A count n) ▷ putWord (poolWord A freeblock n) i ▷ putWord (poolWord A nextoffset n) (i + size)) b b′
   expose-writes i size next e =
       record { same = λ m k. rw (stored, e, next, loaded) (ap (λ (x : List ℕ). heapOf m x k) (expose-stored A n b size)) }
 
-  -- and then the pool left the list of class c, by the links that its record had
+  -- the last block was taken, and then the pool left the list of class c, by the links of its record
   pub last-writes : (c : ℕ) (b″ : List ℕ) → t ≡ taken q 0 → b″ ≡ leaveBy (poolLinks A) (classHead c) (q .next) (q .previous) n b′
       → Writes (λ h. h ▷ rise (poolWord A count n) ▷ putWord (poolWord A freeblock n) 0 ▷ poolLeaves A c n) b b″
   last-writes c b″ e left =

@@ -1,5 +1,5 @@
-// An ask from the front pool of its class list: the pool's record is loaded once, its path is decided from it and the heap before, and the record
-// is stored as the path leaves it. The path is no value in between, which would go through memory.
+// An ask from the front pool of its class list: the pool's record is loaded once, the path is decided from it and from the heap before, and the
+// record is stored as the path leaves it. The path is no value in between, which would go through memory.
 use bits::set_bit;
 use books::blocks::block_no;
 use books::links::link_at;

@@ -38,7 +38,7 @@ before-broken false = refl
 
 -- ---- the path of a block of class c, of pool p, whose record is q
 module _ (al A P : ℕ) (b : List ℕ) (c p : ℕ) (q : Pool) (loaded : q ≡ poolAt A b p) where
-  -- blocks of the class have size s, and its freeblock is free
+  -- blocks of the class have size s, and `free` is the pool's freeblock
   module _ (s free : ℕ) (size : s ≡ sizeOf al c) (block : free ≡ q .freeblock) where
     plan-is : planBack al A P b c p ≡ ((none? (q .freeblock) || isStart s free)
         ⇛ mayGive q

@@ -65,7 +65,7 @@ counted A P k o q b m loaded live number t =
 abbrev pub mayEmpty : ℕ → ℕ → ℕ → Pool → ℕ → List ℕ → Bool
 mayEmpty A P a q free b = linksLead q (A * P) && leb (arena b freedHead a) (A * P) && leb free (P - 1)
 
--- pool p, which has the links of the record q, does so
+-- pool p has the links of the record q, and may do so
 pub record FitsEmpty (A P p : ℕ) (q : Pool) (b : List ℕ) : Type 0 where
   pub next : pool A b poolNext p ≡ q .next
   pub previous : pool A b poolPrevious p ≡ q .previous

@@ -1,5 +1,5 @@
-// A give-back: the record of the block's pool is loaded once, the path is decided from it and the books before, and then written, the block, then its
-// pool's list, then its arena's. The path is no value in between, and the answer is a number, which comes back in a register.
+// A give-back: the record of the block's pool is loaded once, the path is decided from it and from the books before, and then written: the block, then
+// its pool's list, then its arena's. The path is no value in between, and the answer is a number, which comes back in a register.
 use bits::clear_bit;
 use books::blocks::is_start;
 use books::blocks::size_of;
