@@ -1,5 +1,9 @@
-"""Changes of single lines, as tests/clauses and tests/laws keep them: how their files are read, and how a change is made."""
+"""Changes of single lines, as tests/clauses and tests/laws keep them: how their files are read, how a change is made, and which lines are clauses."""
 import re
+
+# what is no clause: comments, imports, declarations, constructors and fields, a left-hand side alone, and the value that a chain of writes starts from
+NO_CLAUSE = re.compile(r'\s*(--|use |infix|module |unfolding |pub record |pub data |(pub )?[\w-]+ : |abbrev |unfoldable |\w$|$)|.* =$')
+FIELD = re.compile(r'  pub [\w-]+ : ')
 
 
 def read(path):
@@ -10,6 +14,16 @@ def read(path):
 def write(path, text):
     with open(path, 'w', encoding='utf-8') as f:
         f.write(text)
+
+
+def clauses(text):
+    """The clauses of a file of definitions: (number of the line, the line). A field is one where its record has parameters, for then it says something of them."""
+    says = False
+    for i, line in enumerate(text.split('\n')):
+        if re.match(r'\S', line):
+            says = line.startswith('pub record ') and '(' in line
+        if says and FIELD.match(line) or not NO_CLAUSE.match(line):
+            yield i, line
 
 
 def blocks(path):

@@ -12,7 +12,7 @@ use Rattle.rules.specs.declared.Sized.{Sized}
 use Rattle.rules.specs.declared.Rolled.{Rolled}
 use Rattle.rules.specs.Books.{Heap}
 use Rattle.rules.specs.Outcome.{Outcome, outcome}
-use Rattle.rules.specs.Numbers.{RollOutcome, rolledOf, format, ask, giveBack, resize, view, write, rollCall}
+use Rattle.rules.specs.Numbers.{RollOutcome, rolledOf, format, ask, giveBack, resize, view, viewSize, write, rollCall}
 use Rattle.rules.specs.Promises.{
   FormatPromise,
   AskPromise,
@@ -98,6 +98,31 @@ ran-is {l} {h} (next {g = g} {e = e} {es = es} {k = k} t rest) =
       more .0 ∙ ap (λ (x : State). run 8 x es .heap) same,
       ap₂ (λ (a : ℕ) (b : List ℕ). a ∷ b) (s .0) (more .1 ∙ ap (λ (x : State). numbers x es) same),
     )
+
+-- ---- and there is such a run of every history
+-- what the call of an event answers and leaves, and that it keeps its promise
+abbrev pub kept : (x : State) (e : Event) → (k : ℕ) × (g : Heap) × Kept (x .ledger) (x .heap) e k g
+kept x (formats A P) = let y = format (x .heap) A P in (y .answer .number, y .heap, (y .answer, refl, refl))
+kept x (asks n) = let y = ask 8 (x .heap) n in (y .answer .number, y .heap, (y .answer, refl, refl))
+kept x (gives o) = let y = giveBack 8 (x .heap) o in (y .answer .number, y .heap, (y .answer, refl, refl))
+kept x (resizes o n) = let y = resize 8 (x .heap) o n in (y .answer .number, y .heap, (y .answer, refl, refl))
+kept x (views o) = (0, x .heap, (view 8 (x .heap) o, refl, (refl, refl)))
+kept x (sizes o) = let y = viewSize 8 (x .heap) o in (y .number, x .heap, (y, refl, (refl, refl)))
+kept x (writes o text) = let y = write 8 (x .heap) o text in (y .answer .number, y .heap, (y .answer, refl, refl))
+kept x (rolls words) =
+    let y = rollCall 8 (x .heap) words in
+    (y .answer .number, x .heap, (y .answer, y .words, refl, (refl, refl)))
+kept x (pokes o d v) = (0, after 8 x (pokes o d v) .heap, (refl, refl))
+
+abbrev pub Run : State → List Event → Type 0
+Run x es = (ks : List ℕ) × (g : Heap) × Ran (x .ledger) (x .heap) es ks g
+
+unfoldable pub made : (x : State) (es : List Event) → Run x es
+made x [] = ([], x .heap, none)
+made x (e ∷ es) =
+    let y = kept x e in
+    let z = made (state (after 8 x e .ledger) (y .1)) es in
+    (y .0 ∷ z .0, z .1, next (y .2) (z .2))
 
 -- ---- so the theorems hold of it
 -- 01's alignment is one at which the laws hold

@@ -36,7 +36,8 @@ pub record State : Type 0 where
   pub heap : Heap
   pub ledger : Ledger
 
--- the heap after a call, and the ledger: the new one if the call's number is 0
+-- the heap after a call, and the ledger: the new one if the call's number is 0. (So a half-done resize, which answers 6 and
+-- changes the heap, would leave the old one; but no history meets one: `no-six`)
 abbrev pub noted : ℕ → Heap → Ledger → Ledger → State
 noted number h old new = record { heap = h; ledger = if eqb number 0 then new else old }
 
