@@ -1,4 +1,5 @@
--- Who holds what on a sound heap: a live offset is held, and nothing is held where an ask or a moving resize hands a block out.
+-- Who holds what on a sound heap: a live offset is held, and nothing is held where an ask or a moving resize hands a block
+-- out; nor does the ask write there.
 -- Assumes nothing.
 use mathlib.Core.Path.{_≡_, refl, ap}
 use mathlib.Core.Logic.{_≢_, _⊎_, inl, inr}
@@ -10,13 +11,14 @@ use lib.ListN.{length}
 use Rattle.rules.specs.Books.{Heap}
 use Rattle.rules.specs.Blocks.{classOf, sizeOf, live}
 use Rattle.rules.specs.Outcome.{Outcome}
+use Rattle.rules.specs.View.{part}
 use Rattle.rules.specs.Ask.{askAnswer}
 use Rattle.rules.specs.Resize.{keeps}
 use Rattle.rules.specs.Numbers.{sizeNumber, ask, resize}
 use Rattle.laws.specs.Plain.{Plain, planAsk as plainAsk}
 use Rattle.laws.specs.Sizes.{Aligned, has-class}
 use Rattle.laws.specs.Sound.{Sound}
-use Rattle.laws.specs.Holding.{holding, live-rows, holding-more, holding-none}
+use Rattle.laws.specs.Holding.{holding, live-rows, holding-more, holding-none, bytes-new}
 use Rattle.laws.specs.Calls.{DoneOrNot, done-or-not, ask-size, ask-done, ask-is, size-number, block-of}
 use Rattle.laws.specs.Resized.{resize-size, resize-dead, resize-keeps, resize-none, resize-moves}
 
@@ -33,6 +35,23 @@ module _ {al A P : ℕ} {h : Heap} {r : Plain} (L : Aligned al) (S : Sound al A 
     where
       by-size : ((1 ≤ n) × (n ≤ 512)) ⊎ (sizeNumber n ≡ 3) → ask al h n .answer .number ≡ 0 → holding al A P h (ask al h n .answer .offset) ≡ []
       by-size (inl t) = rw (ask-is L S n (t .0) (t .1)) (handed-free n (t .0) (t .1))
+      by-size (inr e) = rw (ask-size L S n e) (λ z. absurd (omega arith))
+
+  -- it writes no byte of the block that it hands out
+  pub ask-bytes : (n : ℕ) → ask al h n .answer .number ≡ 0
+      → part (ask al h n .answer .offset) (sizeOf al (classOf al n)) (ask al h n .heap .memory)
+      ≡ part (ask al h n .answer .offset) (sizeOf al (classOf al n)) (h .memory)
+  ask-bytes n = by-size (size-number n)
+    where
+      Q : Outcome → Type 0
+      Q y =
+          y .answer .number ≡ 0
+          → part (y .answer .offset) (sizeOf al (classOf al n)) (y .heap .memory) ≡ part (y .answer .offset) (sizeOf al (classOf al n)) (h .memory)
+
+      by-size : ((1 ≤ n) × (n ≤ 512)) ⊎ (sizeNumber n ≡ 3) → Q (ask al h n)
+      by-size (inl t) =
+          let D = ask-done L S n (t .0) (t .1) in
+          rw (ask-is L S n (t .0) (t .1)) (λ z. bytes-new L S (D .sound) (D .quiet) (has-class L n (t .1)) (D .hand z))
       by-size (inr e) = rw (ask-size L S n e) (λ z. absurd (omega arith))
 
   pub resize-free : (o n : ℕ) → resize al h o n .answer .number ≡ 0 → resize al h o n .answer .offset ≢ o → holding al A P h (resize al h o n .answer .offset) ≡ []

@@ -144,6 +144,12 @@ module _ {al A P : ℕ} {h h′ : Heap} {r r′ : Plain} (L : Aligned al) (S : S
 
   -- ---- a step that touches no byte of a block that is live after it
   module _ (Q : Quiet al A P (h .memory) (h′ .memory) r′) where
+    -- a block that is live after it has the bytes that stood there before
+    untouched : (o : ℕ) (t : LiveAt al A P r′ o) → part o (liveSize t) (h′ .memory) ≡ part o (liveSize t) (h .memory)
+    untouched o t =
+        part-same (h .memory) (h′ .memory) o (liveSize t) (Q .same-length) (omega (arith, in-memory L S′ o t, Q .same-length))
+        (λ d v. subst (λ (x : ℕ). at (h′ .memory) (x + d) ≡ at (h .memory) (x + d)) (sym (t .place)) (Q .live-bytes (t .pool) (t .block) d (t .inside) (t .on) v))
+
     -- an offset that is live before and after, in a pool of the same class, holds the same
     holding-same : (o : ℕ) → (LiveAt al A P r o → LiveAt al A P r′ o) → ((t : LiveAt al A P r′ o) → LiveAt al A P r o × (r .class (t .pool) ≡ r′ .class (t .pool)))
         → holding al A P h′ o ≡ holding al A P h o
@@ -158,8 +164,7 @@ module _ {al A P : ℕ} {h h′ : Heap} {r r′ : Plain} (L : Aligned al) (S : S
             let u = g t .0 in
             let c : r .class (u .pool) ≡ r′ .class (t .pool) = ap (r .class) (sym (one-pool o u t)) ∙ g t .1 in
             holding-live L S′ o t
-            ∙ part-same (h .memory) (h′ .memory) o (liveSize t) (Q .same-length) (omega (arith, in-memory L S′ o t, Q .same-length))
-            (λ d v. subst (λ (x : ℕ). at (h′ .memory) (x + d) ≡ at (h .memory) (x + d)) (sym (t .place)) (Q .live-bytes (t .pool) (t .block) d (t .inside) (t .on) v))
+            ∙ untouched o t
             ∙ sym (holding-live L S o u ∙ ap (λ (x : ℕ). part o (sizeOf al x) (h .memory)) c)
 
     -- ---- an ask that hands out the block at o
@@ -185,6 +190,10 @@ module _ {al A P : ℕ} {h h′ : Heap} {r r′ : Plain} (L : Aligned al) (S : S
 
       pub holding-new : holding al A P h′ o ≡ part o (sizeOf al c) (h′ .memory)
       holding-new = holding-live L S′ o at-block ∙ ap (λ (x : ℕ). part o (sizeOf al x) (h′ .memory)) at-class
+
+      -- and those are the bytes that stood there before
+      pub bytes-new : part o (sizeOf al c) (h′ .memory) ≡ part o (sizeOf al c) (h .memory)
+      bytes-new = rw at-class at (untouched o at-block)
 
       -- the block was not live: a live block there would have been of the pool, and so of its class and the same block
       was-free : LiveAt al A P r o → ⊥

@@ -33,7 +33,7 @@ use Rattle.laws.specs.Held.{held}
 use Rattle.laws.specs.Holding.{LiveAt, liveSize, live-ends, live-rows, class-is, in-memory, holding-live, holding-long, holding-some, dead-holding}
 use Rattle.laws.specs.Written.{apart}
 use Rattle.laws.specs.Calls.{shape-zero, view-is, view-size-is, back-dead, back-is}
-use Rattle.laws.specs.Free.{live-held, ask-free, resize-free}
+use Rattle.laws.specs.Free.{live-held, ask-free, ask-bytes, resize-free}
 use Rattle.laws.specs.Roll.{listing-same, listing-count, listing-place, sizeHeld, roll-is}
 use Rattle.laws.specs.NoRoom.{four-full, full-four}
 use Rattle.laws.specs.History.{Event, State, NoSix, run, listing, heldBelow, Full}
@@ -83,6 +83,12 @@ module _ {al : ℕ} (L : Aligned al) (h : Heap) (A P : ℕ) (ok : format h A P .
   pub moved-free : (o n : ℕ) → resize al (end .heap) o n .answer .number ≡ 0 → resize al (end .heap) o n .answer .offset ≢ o
       → end .ledger (resize al (end .heap) o n .answer .offset) ≡ []
   moved-free o n z d = T .tie _ ∙ resize-free L (T .sound) o n z d
+
+  -- an ask writes no byte of the block that it hands out
+  pub asked-bytes : (n : ℕ) → ask al (end .heap) n .answer .number ≡ 0
+      → part (ask al (end .heap) n .answer .offset) (sizeOf al (classOf al n)) (ask al (end .heap) n .heap .memory)
+      ≡ part (ask al (end .heap) n .answer .offset) (sizeOf al (classOf al n)) (end .heap .memory)
+  asked-bytes = ask-bytes L (T .sound)
 
   -- an offset where nothing is held is not live
   none-dead : (o : ℕ) → end .ledger o ≡ [] → live al (T .A) (T .P) (end .heap .books) (end .heap .map) o ≡ false
