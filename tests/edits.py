@@ -1,5 +1,5 @@
 """Changes of single lines, as tests/clauses and tests/laws keep them: how their files are read, how a change is made, and which lines are clauses."""
-import re
+import os, re
 
 # what is no clause: comments, imports, declarations, constructors and fields, a left-hand side alone, and the value that a chain of writes starts from
 NO_CLAUSE = re.compile(r'\s*(--|use |infix|module |unfolding |pub record |pub data |(pub )?[\w-]+ : |abbrev |unfoldable |\w$|$)|.* =$')
@@ -24,6 +24,12 @@ def clauses(text):
             says = line.startswith('pub record ') and '(' in line
         if says and FIELD.match(line) or not NO_CLAUSE.match(line):
             yield i, line
+
+
+def unquoted(line):
+    """A fault, where docs/ASSESSOR.md does not quote the last line of a test."""
+    page = os.path.join(os.path.dirname(os.path.abspath(__file__)), '..', 'docs', 'ASSESSOR.md')
+    return [] if f'`{line}`' in read(page) else [f'docs/ASSESSOR.md does not quote the last line: {line}']
 
 
 def blocks(path):

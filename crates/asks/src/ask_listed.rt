@@ -1,5 +1,6 @@
-// An ask from the front pool of its class list: the pool's record is loaded once, the path is decided from it and from the heap before, and the
-// record is stored as the path leaves it. The path is no value in between, which would go through memory.
+// An ask from the front pool of its class list: the pool's record is loaded once, the path is decided from it and from
+// the heap before, and the record is stored as the path leaves it. The path is no value in between, which would go
+// through memory.
 use bits::set_bit;
 use books::blocks::block_no;
 use books::links::link_at;
@@ -35,7 +36,8 @@ pub fn hand_out(map: &mut [u64], size: usize, p: usize, f: usize) -> u32
     (4096 * p + f) as u32
 }
 
-// The freeblock of the front pool p, whose record is given, has no link: the block at nextoffset follows it, or the pool is full and leaves its list.
+// The freeblock of the front pool p, whose record is given, has no link: the block at nextoffset follows it, or the pool
+// is full and leaves its list.
 fn ask_unlinked(
     memory: &mut [u8],
     books: &mut [u32],

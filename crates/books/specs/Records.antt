@@ -1,5 +1,5 @@
--- A pool record as a struct: the one that the books hold of pool n, the books with one stored there, what the methods ask of one and what
--- they make of it.
+-- A pool record as a struct: the one that the books hold of pool n, the books with one stored there, what the methods
+-- ask of one and what they make of it.
 -- Assumes nothing.
 use mathlib.Core.Path.{_≡_, refl, sym, ap, _∙_}
 use mathlib.Core.Bool.{Bool, true, false, _&&_}

@@ -49,18 +49,24 @@ module _ (h g k : Heap) where
       → ViewPromise h g o part × ViewPlace h o memory at
       → ViewPromise h k o other × ViewPlace h o memory to
       → (part ≡ other) × (at ≡ to) × (g ≡ k)
-  view-one o memory part other at to e f = (
-    e .0 .0 ∙ sym (f .0 .0),
-    ap₂ (λ (x y : ℕ). (x, y)) (e .1 .0 ∙ sym (f .1 .0)) (e .1 .1 ∙ sym (f .1 .1)),
-    e .0 .1 ∙ sym (f .0 .1),
-  )
+  view-one o memory part other at to e f =
+      let t = e .0 ∙ sym (f .0) in (
+        ap (λ (x : List ℕ × Heap). x .0) t,
+        ap₂ (λ (x y : ℕ). (x, y)) (e .1 .0 ∙ sym (f .1 .0)) (e .1 .1 ∙ sym (f .1 .1)),
+        ap (λ (x : List ℕ × Heap). x .1) t,
+      )
 
   pub view-size-one : (o : ℕ) (r s : Sized) → ViewSizePromise h g o r → ViewSizePromise h k o s → (r ≡ s) × (g ≡ k)
-  view-size-one o r s e f = (e .0 ∙ sym (f .0), e .1 ∙ sym (f .1))
+  view-size-one o r s e f =
+      let t = e ∙ sym f in
+      (ap (λ (x : Sized × Heap). x .0) t, ap (λ (x : Sized × Heap). x .1) t)
 
   -- and the roll words that it leaves
   pub roll-call-one : (w u v : List ℕ) (r s : Rolled)
       → RollCallPromise h g w u r → RollCallPromise h k w v s → (r ≡ s) × (u ≡ v) × (g ≡ k)
   roll-call-one w u v r s e f =
-      let t = e .0 ∙ sym (f .0) in
-      (ap (λ (o : RollOutcome). o .answer) t, ap (λ (o : RollOutcome). o .words) t, e .1 ∙ sym (f .1))
+      let t = e ∙ sym f in (
+        ap (λ (x : RollOutcome × Heap). x .0 .answer) t,
+        ap (λ (x : RollOutcome × Heap). x .0 .words) t,
+        ap (λ (x : RollOutcome × Heap). x .1) t,
+      )

@@ -228,7 +228,8 @@ pub fn write(memory: &mut [u8], books: &[u32], map: &[u64], offset: usize, text:
 // known to be enough.
 pub fn roll_call(memory: &[u8], books: &[u32], map: &[u64], roll: &mut [u32]) -> Rolled
     ensures { λ r. ⌜ RollCallPromise (heapOf (now (memory .entry)) (now (books .entry)) (now (map .entry)))
-        (heapOf (now (memory .exit)) (now (books .exit)) (now (map .exit))) (now (roll .entry)) (now (roll .exit)) r ⌝ }
+        (heapOf (now (memory .exit)) (now (books .exit)) (now (map .exit)))
+        (now (roll .entry)) (now (roll .exit)) r ⌝ }
 {
     let number = shape_number(memory, books, map);
     if number != 0 {

@@ -1,2 +1,3 @@
--- What the promises of the exported calls determine.
+-- What the exported calls answer, and that their promises determine it.
+pub mod Answers
 pub mod Unique

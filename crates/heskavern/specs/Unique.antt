@@ -7,8 +7,6 @@ use Rattle.rules.specs.declared.Answer.{Answer}
 use Rattle.rules.specs.declared.Sized.{Sized}
 use Rattle.rules.specs.declared.Rolled.{Rolled}
 use Rattle.rules.specs.Books.{Heap}
-use Rattle.rules.specs.Outcome.{answerOf}
-use Rattle.rules.specs.Numbers.{rolledOf, sizedOf}
 use Rattle.rules.specs.Promises.{
   FormatPromise,
   AskPromise,
@@ -20,16 +18,7 @@ use Rattle.rules.specs.Promises.{
 }
 use Rattle.heap.specs.Unique as H
 use Rattle.heskavern.specs.declared.HeskavernAnswer.{HeskavernAnswer}
-
--- the answer in the layout of C, read as crate heap's
-abbrev pub answerIn : HeskavernAnswer → Answer
-answerIn r = answerOf (r .number) (r .value)
-
-abbrev pub sizedIn : HeskavernAnswer → Sized
-sizedIn r = sizedOf (r .number) (r .value)
-
-abbrev pub rolledIn : HeskavernAnswer → Rolled
-rolledIn r = rolledOf (r .number) (r .value)
+use Rattle.heskavern.specs.Answers.{answerIn, sizedIn, rolledIn}
 
 -- h is the heap that the call finds; g and k are what two runs of it leave, r and s what they answer
 module _ (h g k : Heap) (r s : HeskavernAnswer) where

@@ -1,8 +1,7 @@
 // The calls of 01 for C and Rust: crate heap's calls under names that the archive exports, each with the promise of the call that it passes on.
 // include/heskavern.h declares them. A slice is a pointer and its length in elements there. View is made there from `heskavern_view_size`,
 // since an exported function cannot return a slice.
-ghost use Rattle.rules.specs.Outcome.{answerOf, heapOf};
-ghost use Rattle.rules.specs.Numbers.{rolledOf, sizedOf};
+ghost use Rattle.rules.specs.Outcome.{heapOf};
 ghost use Rattle.rules.specs.Promises.{
   FormatPromise,
   AskPromise,
@@ -12,6 +11,7 @@ ghost use Rattle.rules.specs.Promises.{
   WritePromise,
   RollCallPromise,
 };
+ghost use Rattle.heskavern.specs.Answers.{answerIn, sizedIn, rolledIn};
 
 // What each call answers: 01's number, and the offset, block size or count that stands beside it. The answers of crate heap, in the layout of C.
 #[repr(C)]
@@ -30,8 +30,7 @@ pub extern "C" fn heskavern_format(
     pools: usize,
 ) -> HeskavernAnswer
     ensures { λ r. ⌜ FormatPromise (heapOf (now (memory .entry)) (now (books .entry)) (now (map .entry)))
-        (heapOf (now (memory .exit)) (now (books .exit)) (now (map .exit)))
-        arenas pools (answerOf (r .number) (r .value)) ⌝ }
+        (heapOf (now (memory .exit)) (now (books .exit)) (now (map .exit))) arenas pools (answerIn r) ⌝ }
 {
     let answer = heap::format(memory, books, map, arenas, pools);
     HeskavernAnswer {
@@ -49,7 +48,7 @@ pub extern "C" fn heskavern_ask(
     size: usize,
 ) -> HeskavernAnswer
     ensures { λ r. ⌜ AskPromise (heapOf (now (memory .entry)) (now (books .entry)) (now (map .entry)))
-        (heapOf (now (memory .exit)) (now (books .exit)) (now (map .exit))) size (answerOf (r .number) (r .value)) ⌝ }
+        (heapOf (now (memory .exit)) (now (books .exit)) (now (map .exit))) size (answerIn r) ⌝ }
 {
     let answer = heap::ask(memory, books, map, size);
     HeskavernAnswer {
@@ -67,7 +66,7 @@ pub extern "C" fn heskavern_give_back(
     offset: usize,
 ) -> HeskavernAnswer
     ensures { λ r. ⌜ GiveBackPromise (heapOf (now (memory .entry)) (now (books .entry)) (now (map .entry)))
-        (heapOf (now (memory .exit)) (now (books .exit)) (now (map .exit))) offset (answerOf (r .number) (r .value)) ⌝ }
+        (heapOf (now (memory .exit)) (now (books .exit)) (now (map .exit))) offset (answerIn r) ⌝ }
 {
     let answer = heap::give_back(memory, books, map, offset);
     HeskavernAnswer {
@@ -86,8 +85,7 @@ pub extern "C" fn heskavern_resize(
     size: usize,
 ) -> HeskavernAnswer
     ensures { λ r. ⌜ ResizePromise (heapOf (now (memory .entry)) (now (books .entry)) (now (map .entry)))
-        (heapOf (now (memory .exit)) (now (books .exit)) (now (map .exit)))
-        offset size (answerOf (r .number) (r .value)) ⌝ }
+        (heapOf (now (memory .exit)) (now (books .exit)) (now (map .exit))) offset size (answerIn r) ⌝ }
 {
     let answer = heap::resize(memory, books, map, offset, size);
     HeskavernAnswer {
@@ -105,7 +103,7 @@ pub extern "C" fn heskavern_view_size(
     offset: usize,
 ) -> HeskavernAnswer
     ensures { λ r. ⌜ ViewSizePromise (heapOf (now (memory .entry)) (now (books .entry)) (now (map .entry)))
-        (heapOf (now (memory .exit)) (now (books .exit)) (now (map .exit))) offset (sizedOf (r .number) (r .value)) ⌝ }
+        (heapOf (now (memory .exit)) (now (books .exit)) (now (map .exit))) offset (sizedIn r) ⌝ }
 {
     let sized = heap::view_size(memory, books, map, offset);
     HeskavernAnswer {
@@ -124,8 +122,7 @@ pub extern "C" fn heskavern_write(
     text: &[u8],
 ) -> HeskavernAnswer
     ensures { λ r. ⌜ WritePromise (heapOf (now (memory .entry)) (now (books .entry)) (now (map .entry)))
-        (heapOf (now (memory .exit)) (now (books .exit)) (now (map .exit)))
-        offset (now (text .entry)) (answerOf (r .number) (r .value)) ⌝ }
+        (heapOf (now (memory .exit)) (now (books .exit)) (now (map .exit))) offset (now (text .entry)) (answerIn r) ⌝ }
 {
     let answer = heap::write(memory, books, map, offset, text);
     HeskavernAnswer {
@@ -144,7 +141,7 @@ pub extern "C" fn heskavern_roll_call(
 ) -> HeskavernAnswer
     ensures { λ r. ⌜ RollCallPromise (heapOf (now (memory .entry)) (now (books .entry)) (now (map .entry)))
         (heapOf (now (memory .exit)) (now (books .exit)) (now (map .exit)))
-        (now (roll .entry)) (now (roll .exit)) (rolledOf (r .number) (r .value)) ⌝ }
+        (now (roll .entry)) (now (roll .exit)) (rolledIn r) ⌝ }
 {
     let rolled = heap::roll_call(memory, books, map, roll);
     HeskavernAnswer {

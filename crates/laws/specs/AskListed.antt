@@ -19,7 +19,7 @@ use Rattle.rules.specs.Blocks.{sizeOf, lastClass, startOf, lastStart, blockNo, 
 use Rattle.rules.specs.Ask.{frontOf, planAsk, spare, fromListed, fromFreeblock, noLink, afterAsk, askAnswer}
 use Rattle.books.specs.Starts.{start-is, number-is}
 use Rattle.laws.specs.Update.{to, to-other, to-cong}
-use Rattle.laws.specs.Rows.{erase}
+use Rattle.laws.specs.Sequences.{erase}
 use Rattle.laws.specs.Families.{At}
 use Rattle.laws.specs.Books.{View, Books, put-pool, pool-may-leave, pool-leaves, poolTo, homeTo, listedTo}
 use Rattle.laws.specs.Plain.{Plain, count, carved, setChain, setLive, setVirgin, setListed}

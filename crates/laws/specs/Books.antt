@@ -15,7 +15,7 @@ use Rattle.rules.specs.Say.{if_then_else_, _▷_}
 use Rattle.rules.specs.Books.{at, put, classHead, freedHead, arenaNext, arenaPrevious, arenaWord, arena, poolNext, poolPrevious, poolWord, pool, linkTo}
 use Rattle.rules.specs.Lists.{nextAt, previousAt, leave, join, mayLeave, arenaLinks, poolLinks}
 use Rattle.laws.specs.Update.{to, to-same, to-other}
-use Rattle.laws.specs.Rows.{All, Not, In, erase, erase-front, all-map, all-every}
+use Rattle.laws.specs.Sequences.{All, Not, In, erase, erase-front, all-map, all-every}
 use Rattle.laws.specs.Linked.{Doubly, Singly, joined, left, leave-is, join-is, joined-other, left-other, joined-length, left-length, left-own, LinksSame, singly-same, singly-comes, singly-goes}
 use Rattle.laws.specs.Families.{At, Family, stranger, comes, goes, Alike, alike, aside, doubly-stay, singly-stay, Apart, head-link, member-links, leave-keeps, leaves, join-keeps, joins}
 

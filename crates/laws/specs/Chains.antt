@@ -15,7 +15,7 @@ use borrow.Author.Tests.{eq-eqb, ne-eqb, not-true}
 use Rattle.rules.specs.Books.{at, offsetOf}
 use Rattle.rules.specs.Blocks.{startOf, capacity, linkAt, putLink}
 use Rattle.laws.specs.Update.{to, to-same, to-other}
-use Rattle.laws.specs.Rows.{All, Not, Once, all-map}
+use Rattle.laws.specs.Sequences.{All, Not, Once, all-map}
 use Rattle.laws.specs.Plain.{howMany}
 use Rattle.laws.specs.Counting.{many-same, many-more, many-all, many-cut}
 use Rattle.laws.specs.Bytes.{Outside, outside-less, Clear, clear-outside}

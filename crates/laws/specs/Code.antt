@@ -81,10 +81,11 @@ kept-is l h (formats A P) k g t = answered (format h A P) (t .0) g k (t .1) (t .
 kept-is l h (asks n) k g t = answered (ask 8 h n) (t .0) g k (t .1) (t .2)
 kept-is l h (gives o) k g t = answered (giveBack 8 h o) (t .0) g k (t .1) (t .2)
 kept-is l h (resizes o n) k g t = answered (resize 8 h o n) (t .0) g k (t .1) (t .2)
-kept-is l h (views o) k g t = (sym (t .1), sym (t .2 .1))
-kept-is l h (sizes o) k g t = (sym (t .1) ∙ ap (λ (s : Sized). s .number) (t .2 .0), sym (t .2 .1))
+kept-is l h (views o) k g t = (sym (t .1), sym (ap (λ (x : List ℕ × Heap). x .1) (t .2)))
+kept-is l h (sizes o) k g t = (sym (t .1) ∙ ap (λ (x : Sized × Heap). x .0 .number) (t .2), sym (ap (λ (x : Sized × Heap). x .1) (t .2)))
 kept-is l h (writes o text) k g t = answered (write 8 h o text) (t .0) g k (t .1) (t .2)
-kept-is l h (rolls words) k g t = (sym (t .2) ∙ ap (λ (s : RollOutcome). s .answer .number) (t .3 .0), sym (t .3 .1))
+kept-is l h (rolls words) k g t =
+    (sym (t .2) ∙ ap (λ (x : RollOutcome × Heap). x .0 .answer .number) (t .3), sym (ap (λ (x : RollOutcome × Heap). x .1) (t .3)))
 kept-is l h (pokes o d v) k g t = (sym (t .0), sym (t .1))
 
 -- ---- the whole run
@@ -106,12 +107,12 @@ kept x (formats A P) = let y = format (x .heap) A P in (y .answer .number, y .he
 kept x (asks n) = let y = ask 8 (x .heap) n in (y .answer .number, y .heap, (y .answer, refl, refl))
 kept x (gives o) = let y = giveBack 8 (x .heap) o in (y .answer .number, y .heap, (y .answer, refl, refl))
 kept x (resizes o n) = let y = resize 8 (x .heap) o n in (y .answer .number, y .heap, (y .answer, refl, refl))
-kept x (views o) = (0, x .heap, (view 8 (x .heap) o, refl, (refl, refl)))
-kept x (sizes o) = let y = viewSize 8 (x .heap) o in (y .number, x .heap, (y, refl, (refl, refl)))
+kept x (views o) = (0, x .heap, (view 8 (x .heap) o, refl, refl))
+kept x (sizes o) = let y = viewSize 8 (x .heap) o in (y .number, x .heap, (y, refl, refl))
 kept x (writes o text) = let y = write 8 (x .heap) o text in (y .answer .number, y .heap, (y .answer, refl, refl))
 kept x (rolls words) =
     let y = rollCall 8 (x .heap) words in
-    (y .answer .number, x .heap, (y .answer, y .words, refl, (refl, refl)))
+    (y .answer .number, x .heap, (y .answer, y .words, refl, refl))
 kept x (pokes o d v) = (0, after 8 x (pokes o d v) .heap, (refl, refl))
 
 abbrev pub Run : State → List Event → Type 0
@@ -153,10 +154,10 @@ module _ (h : Heap) (A P : ℕ) (ok : format h A P .answer .number ≡ 0) (es : 
       → (r ≡ rolledOf 0 (entryCount eight h A P ok es))
       × (v ≡ entries eight h A P ok es ++ drop (length (entries eight h A P ok es)) words)
   ran-roll words v r kept room =
-      let e = kept .0 ∙ ap (λ (x : Heap). rollCall 8 x words) (ran-is ran .0) ∙ roll-with-room eight h A P ok es words room in
+      let e = ap (λ (x : RollOutcome × Heap). x .0) kept ∙ ap (λ (x : Heap). rollCall 8 x words) (ran-is ran .0) ∙ roll-with-room eight h A P ok es words room in
       (ap (λ (x : RollOutcome). x .answer) e, ap (λ (x : RollOutcome). x .words) e)
 
   -- and a view shows the ledger of the calls: the bytes of the block that is held there, or none
   pub ran-view : {left : Heap} (o : ℕ) (part : List ℕ)
       → ViewPromise g left o part → part ≡ end eight h A P ok es .ledger o
-  ran-view o part kept = kept .0 ∙ ap (λ (x : Heap). view 8 x o) (ran-is ran .0) ∙ view-shows eight h A P ok es o
+  ran-view o part kept = ap (λ (x : List ℕ × Heap). x .0) kept ∙ ap (λ (x : Heap). view 8 x o) (ran-is ran .0) ∙ view-shows eight h A P ok es o

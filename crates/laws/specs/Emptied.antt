@@ -22,7 +22,7 @@ use Rattle.rules.specs.GiveBack.{_⇛_, planBack, emptying, afterBack}
 use Rattle.books.specs.Starts.{start-is, number-is}
 use Rattle.books.specs.Known.{in-range}
 use Rattle.laws.specs.Update.{to, to-same, to-other, to-cong}
-use Rattle.laws.specs.Rows.{erase}
+use Rattle.laws.specs.Sequences.{erase}
 use Rattle.laws.specs.Families.{head-link, stack-link}
 use Rattle.laws.specs.Books.{View, Books, put-arena, pool-may-leave, pool-leaves, freed-comes, freed-cleared, arena-may-leave, arena-leaves, arena-joins, arenaTo, homeTo, baseTo, listedTo, freedTo, arenasTo, freedNone}
 use Rattle.laws.specs.Plain.{Plain, count, inUse, carved, free, setChain, setLive, setListed, setFreed, setUsable, setUnused, setMark}

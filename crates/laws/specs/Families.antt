@@ -10,7 +10,7 @@ use native.Mathlib.Omega.{arith}
 use lib.ListN.{length}
 use Rattle.rules.specs.Books.{at}
 use Rattle.laws.specs.Update.{to, to-same, to-other}
-use Rattle.laws.specs.Rows.{All, Not, Once, In, Seg, erase, Split, split, erase-is, in-drop, once-gone, all-drop, all-map, all-two, head-in, next-in, prev-in}
+use Rattle.laws.specs.Sequences.{All, Not, Once, In, Seg, erase, Split, split, erase-is, in-drop, once-gone, all-drop, all-map, all-two, head-in, next-in, prev-in}
 use Rattle.laws.specs.Linked.{Doubly, Singly, Stack, Lay, joined, left, join-in, leave-in, join-strange, leave-strange, joined-other, left-other, LinksSame, doubly-same, singly-same}
 
 -- record y is one of N, and its home is h

@@ -18,7 +18,7 @@ use Rattle.rules.specs.Format.{freshArenas, freshPools, freshBooks}
 use Rattle.rules.specs.Outcome.{heapOf}
 use Rattle.books.specs.Known.{in-range}
 use Rattle.books.specs.Records.{length-arenas, length-pools}
-use Rattle.laws.specs.Rows.{All, Once, In, Seg}
+use Rattle.laws.specs.Sequences.{All, Once, In, Seg}
 use Rattle.laws.specs.Linked.{Doubly}
 use Rattle.laws.specs.Families.{At}
 use Rattle.laws.specs.Books.{Books, ArenaHead}

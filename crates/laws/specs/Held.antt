@@ -16,7 +16,7 @@ use Rattle.rules.specs.Books.{Heap, at, inRange, exact, memoryLength, booksLeng
 use Rattle.rules.specs.Blocks.{sizeOf, lastClass, capacity}
 use Rattle.books.specs.Known.{Shaped, shaped, in-range}
 use Rattle.laws.specs.Update.{is-false}
-use Rattle.laws.specs.Rows.{All, all-map}
+use Rattle.laws.specs.Sequences.{All, all-map}
 use Rattle.laws.specs.Families.{At, Family}
 use Rattle.laws.specs.Books.{View, Books, ArenaHead}
 use Rattle.laws.specs.Plain.{Plain, count, inUse, carved, free}

@@ -13,7 +13,7 @@ use lib.Seq.{getD-set-same, getD-set-other, lt-length-set}
 use Rattle.rules.specs.Say.{if_then_else_, only}
 use Rattle.rules.specs.Books.{at, none?}
 use Rattle.rules.specs.Lists.{leave, join, leaveBy, joinBy}
-use Rattle.laws.specs.Rows.{All, Not, Once, Row, Joined, Left, row-same, row-joins, row-leaves, head-in, next-in, prev-in, all-map, all-two}
+use Rattle.laws.specs.Sequences.{All, Not, Once, Row, Joined, Left, row-same, row-joins, row-leaves, head-in, next-in, prev-in, all-map, all-two}
 
 -- ---- the two kinds of lists, by their head word
 -- from the head word h exactly xs is met, linked both ways

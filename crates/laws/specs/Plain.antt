@@ -18,7 +18,7 @@ use Rattle.rules.specs.Outcome.{answerOf}
 use Rattle.rules.specs.Ask.{askAnswer}
 use Rattle.rules.specs.Resize.{keeps}
 use Rattle.laws.specs.Update.{to}
-use Rattle.laws.specs.Rows.{erase}
+use Rattle.laws.specs.Sequences.{erase}
 
 pub record Plain : Type 0 where
   pub usable : List ℕ  -- the open arenas with free pools, front first

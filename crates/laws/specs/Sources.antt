@@ -25,7 +25,7 @@ use Rattle.rules.specs.Ask.{planAsk, spare, fromUsable, fromFreed, fromMark, fr
 use Rattle.books.specs.Starts.{start-is, number-is, first-block, second-block}
 use Rattle.books.specs.Known.{in-range}
 use Rattle.laws.specs.Update.{is-false, to, to-same, to-other, to-cong}
-use Rattle.laws.specs.Rows.{All, erase, erase-front}
+use Rattle.laws.specs.Sequences.{All, erase, erase-front}
 use Rattle.laws.specs.Linked.{Stack}
 use Rattle.laws.specs.Families.{At, inside}
 use Rattle.laws.specs.Books.{View, Books, put-pool, put-arena, freed-goes, arena-may-leave, arena-leaves, arena-joins, poolTo, arenaTo, homeTo, baseTo, freedTo, arenasTo}

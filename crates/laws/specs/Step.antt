@@ -17,7 +17,7 @@ use Rattle.rules.specs.Books.{at, isSet, offsetOf, putMapBit}
 use Rattle.rules.specs.Blocks.{sizeOf, startOf, linkAt, putLink}
 use Rattle.bits.specs.Map.{put-block, length-put}
 use Rattle.laws.specs.Update.{to}
-use Rattle.laws.specs.Rows.{all-map}
+use Rattle.laws.specs.Sequences.{all-map}
 use Rattle.laws.specs.Books.{View}
 use Rattle.laws.specs.Plain.{Plain, count, inUse, carved, free, howMany}
 use Rattle.laws.specs.Counting.{many-same}

@@ -19,7 +19,7 @@ use Rattle.rules.specs.Ask.{spend, alone, noLinkAt, handOut}
 use Rattle.books.specs.Starts.{number-is, first-block}
 use Rattle.books.specs.Known.{in-range}
 use Rattle.laws.specs.Update.{is-false, to, to-same, to-other, to-cong}
-use Rattle.laws.specs.Rows.{erase}
+use Rattle.laws.specs.Sequences.{erase}
 use Rattle.laws.specs.Books.{View, Books, put-pool, put-arena, pool-alone, arena-leaves, poolTo, arenaTo, homeTo, listedTo}
 use Rattle.laws.specs.Plain.{Plain, count, inUse, carved, free, setUsable, setChain, setLive, setListed, setClass, setVirgin}
 use Rattle.laws.specs.Counting.{many-more, none-many}

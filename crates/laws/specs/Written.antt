@@ -14,7 +14,7 @@ use Rattle.rules.specs.Blocks.{sizeOf, startOf, linkAt, live}
 use Rattle.rules.specs.Outcome.{heapOf}
 use Rattle.rules.specs.View.{part}
 use Rattle.laws.specs.Update.{to}
-use Rattle.laws.specs.Rows.{All, all-map, all-two, all-every}
+use Rattle.laws.specs.Sequences.{All, all-map, all-two, all-every}
 use Rattle.laws.specs.Plain.{Plain}
 use Rattle.laws.specs.Sizes.{Aligned, size-low}
 use Rattle.laws.specs.Bytes.{Outside, Clear, part-same}

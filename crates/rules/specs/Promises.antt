@@ -21,8 +21,14 @@ use Rattle.rules.specs.Numbers.{
   view,
   viewSize,
   write,
+  rollOutcome,
   rollCall,
 }
+
+-- what a call answers that is lent the three buffers to read alone, and the buffers
+infix 12 _beside_
+abbrev pub _beside_ : {Answered : Type 0} → Answered → Heap → Answered × Heap
+answer beside heap = (answer, heap)
 
 module _ (found left : Heap) where
   abbrev pub FormatPromise : ℕ → ℕ → Answer → Type 0
@@ -39,10 +45,10 @@ module _ (found left : Heap) where
 
   -- view's part, by its bytes
   abbrev pub ViewPromise : ℕ → List ℕ → Type 0
-  ViewPromise offset part = (part ≡ view 8 found offset) × (left ≡ found)
+  ViewPromise offset part = part beside left ≡ view 8 found offset beside found
 
   abbrev pub ViewSizePromise : ℕ → Sized → Type 0
-  ViewSizePromise offset answer = (answer ≡ viewSize 8 found offset) × (left ≡ found)
+  ViewSizePromise offset answer = answer beside left ≡ viewSize 8 found offset beside found
 
   abbrev pub WritePromise : ℕ → List ℕ → Answer → Type 0
   WritePromise offset text answer = outcome answer left ≡ write 8 found offset text
@@ -50,7 +56,7 @@ module _ (found left : Heap) where
   -- the lent words as it finds and as it leaves them
   abbrev pub RollCallPromise : List ℕ → List ℕ → Rolled → Type 0
   RollCallPromise words rolled answer =
-      (record { answer = answer; words = rolled } ≡ rollCall 8 found words) × (left ≡ found)
+      rollOutcome (answer .number) (answer .count) rolled beside left ≡ rollCall 8 found words beside found
 
 -- and by its place: the part lies where memory does, from the offset on, or at memory's start where it is empty. A place
 -- is a buffer and a position in it

@@ -1,5 +1,6 @@
-// A give-back: the record of the block's pool is loaded once, the path is decided from it and from the books before, and then written: the block, then
-// its pool's list, then its arena's. The path is no value in between, and the answer is a number, which comes back in a register.
+// A give-back: the record of the block's pool is loaded once, the path is decided from it and from the books before, and
+// then written: the block, then its pool's list, then its arena's. The path is no value in between, and the answer is a
+// number, which comes back in a register.
 use bits::clear_bit;
 use books::blocks::is_start;
 use books::blocks::size_of;
@@ -88,7 +89,8 @@ fn free_pool(books: &mut [u32], arenas: usize, a: usize, p: usize)
     books[RECORDS + 8 * a + FREE_POOLS] = free + 1;
 }
 
-// Pool p of arena a, at count 0, leaves its class list, by the links of its record, and goes to the front of the arena's freed pools.
+// Pool p of arena a, at count 0, leaves its class list, by the links of its record, and goes to the front of the arena's
+// freed pools.
 fn empty_pool(books: &mut [u32], arenas: usize, pools: usize, a: usize, p: usize, pool: Pool)
     requires { ⌜ Range arenas pools × (length (now books) ≡ booksLength arenas pools) × (a ≡ p / pools) × (a < arenas) × (p < arenas * pools)
         × (pool .class ≤ 63) × FitsEmpty arenas pools p pool (now books) ⌝ }

@@ -1,13 +1,14 @@
 -- `heap::roll_call` meets its contract: it counts before it writes, so that nothing is written where the room is too small.
 -- Assumes nothing.
 use mathlib.Core.List.{List}
-use mathlib.Core.Path.{_≡_, refl, sym, ap, ap₂, _∙_}
+use mathlib.Core.Path.{_≡_, sym, ap, ap₂, _∙_}
 use Prim.Native.Nat.{ℕ, _*_, _/_}
 use native.Mathlib.Omega.{arith}
 use lib.ListN.{length}
 use lib.Seq.{sets}
 use borrow.Author.Needs.{needs}
-use Rattle.rules.specs.Numbers.{inOrder, shapeNumber, roomNumber, rollOf, rollOutcome, rollCall}
+use Rattle.rules.specs.Numbers.{RollOutcome, inOrder, shapeNumber, roomNumber, rollOf, rollOutcome, rollCall}
+use Rattle.rules.specs.Promises.{_beside_}
 use Rattle.rules.specs.Outcome.{heapOf}
 use Rattle.rules.specs.View.{rollPools}
 use Rattle.loops.specs.Roll.{length-roll}
@@ -29,11 +30,10 @@ returns c =
     let h = heapOf (a .memory .now) (a .books .now) (a .map .now) in
     let room = roomNumber (length (rollOf 8 h)) (length (a .roll .now)) in
     let first : inOrder (shapeNumber h) 0 0 room ≡ shapeNumber h =
-    stopped (λ n. n) _ (shapeNumber h) (λ z. c .if1 .taken (at-shape-number .shape-number .ensures .0 ∙ z)) in (
-      ap (λ (k : ℕ). rollOutcome k 0 (a .roll .now)) (at-shape-number .shape-number .ensures .0 ∙ sym first)
-          ∙ sym (stopped (λ k. rollOutcome k 0 (a .roll .now)) _ _ (λ z. c .if1 .taken (at-shape-number .shape-number .ensures .0 ∙ sym first ∙ z))),
-      refl,
-    )
+    stopped (λ n. n) _ (shapeNumber h) (λ z. c .if1 .taken (at-shape-number .shape-number .ensures .0 ∙ z)) in
+    ap (λ (r : RollOutcome). r beside h)
+    (ap (λ (k : ℕ). rollOutcome k 0 (a .roll .now)) (at-shape-number .shape-number .ensures .0 ∙ sym first)
+    ∙ sym (stopped (λ k. rollOutcome k 0 (a .roll .now)) _ _ (λ z. c .if1 .taken (at-shape-number .shape-number .ensures .0 ∙ sym first ∙ z))))
 
 word-requires : tie.Need-word-requires
 word-requires c κs = let s = c .before .shape-number .ensures .1 (c .if1 .left) in omega (arith, s .books)
@@ -76,7 +76,8 @@ returns-2 c =
     let seven : inOrder (shapeNumber h) 0 0 (roomNumber wanted (length (a .roll .now))) ≡ 7 =
     passed (λ n. n) _ (shapeNumber h) (sym (at-shape-number .shape-number .ensures .0) ∙ at-if1 .if1 .left)
     ∙ too-little wanted (length (a .roll .now)) (omega (arith, f)) in
-    (ap (λ (k : ℕ). rollOutcome k 0 (a .roll .now)) (sym seven) ∙ sym (stopped (λ k. rollOutcome k 0 (a .roll .now)) _ _ (λ z. omega arith)), refl)
+    ap (λ (r : RollOutcome). r beside h)
+    (ap (λ (k : ℕ). rollOutcome k 0 (a .roll .now)) (sym seven) ∙ sym (stopped (λ k. rollOutcome k 0 (a .roll .now)) _ _ (λ z. omega arith)))
 
 put-roll-requires : tie.Need-put-roll-requires
 put-roll-requires c κs =
@@ -127,14 +128,13 @@ returns-3 c =
     ∙ ap₂ (λ (x y : ℕ). length (rollPools 8 x (a .books .now) (a .map .now) 0 (x * y))) (at-word .word .ensures .0) (at-word2 .word2 .ensures .0) in
     let go : inOrder (shapeNumber h) 0 0 (roomNumber wanted (length (a .roll .now))) ≡ 0 =
     passed (λ n. n) _ (shapeNumber h) (sym (at-shape-number .shape-number .ensures .0) ∙ at-if1 .if1 .left)
-    ∙ enough wanted (length (a .roll .now)) (omega (arith, f)) in (
-      ap₂ (λ (n : ℕ) (w : List ℕ). rollOutcome 0 (n / 2) w) f
-          (at-put-roll .put-roll .ensures
-          ∙ ap₂ (λ (x y : ℕ). sets (a .roll .now) 0 (rollPools 8 x (a .books .now) (a .map .now) 0 (x * y))) (at-word .word .ensures .0) (at-word2 .word2 .ensures .0)
-          ∙ sets-front (a .roll .now) (rollOf 8 h) (omega (arith, f)))
-          ∙ sym (passed (λ k. rollOutcome k 0 (a .roll .now)) _ _ go),
-      refl,
-    )
+    ∙ enough wanted (length (a .roll .now)) (omega (arith, f)) in
+    ap (λ (r : RollOutcome). r beside h)
+    (ap₂ (λ (n : ℕ) (w : List ℕ). rollOutcome 0 (n / 2) w) f
+    (at-put-roll .put-roll .ensures
+    ∙ ap₂ (λ (x y : ℕ). sets (a .roll .now) 0 (rollPools 8 x (a .books .now) (a .map .now) 0 (x * y))) (at-word .word .ensures .0) (at-word2 .word2 .ensures .0)
+    ∙ sets-front (a .roll .now) (rollOf 8 h) (omega (arith, f)))
+    ∙ sym (passed (λ k. rollOutcome k 0 (a .roll .now)) _ _ go))
 
 pub roll-call-spec : {M : Type 1} → statement M
 roll-call-spec =

@@ -1,13 +1,15 @@
 -- `heap::view` meets its contract: it hands back the part from the offset on, which a live offset has inside memory.
 -- Assumes nothing.
-use mathlib.Core.List.{[]}
+use mathlib.Core.List.{List, []}
 use mathlib.Core.Path.{refl, sym, ap, _∙_}
 use Prim.Native.Nat.{ℕ, _+_}
 use native.Mathlib.Nat.{add-sub-cancel-left}
 use native.Mathlib.Omega.{arith}
 use lib.ListN.{take, drop}
 use borrow.Author.Needs.{needs}
+use Rattle.rules.specs.Outcome.{heapOf}
 use Rattle.rules.specs.Numbers.{view}
+use Rattle.rules.specs.Promises.{_beside_}
 use Rattle.books.specs.Passing.{stopped, passed}
 use Rattle.heap.proofs.view.Statement.{statement}
 use Rattle.heap.proofs.view.Tie as tie
@@ -29,11 +31,13 @@ unfolding view
 returns c =
     let at-if1 = c .before in
     let at-offset-test = at-if1 .before in
-    let at-start = at-offset-test .before .before .before .before in (
-      (sym (stopped (λ k. []) _ _ (λ z. at-if1 .if1 .taken (at-offset-test .offset-test .ensures .0 ∙ z))), refl),
+    let at-start = at-offset-test .before .before .before .before in
+    let a = at-start .args in (
+      ap (λ (p : List ℕ). p beside heapOf (a .memory .now) (a .books .now) (a .map .now))
+          (sym (stopped (λ k. []) _ _ (λ z. at-if1 .if1 .taken (at-offset-test .offset-test .ensures .0 ∙ z)))),
       (
         refl,
-        ap (λ (x : ℕ). x + at-start .args .memory .ptr .1)
+        ap (λ (x : ℕ). x + a .memory .ptr .1)
             (sym (stopped (λ k. 0) _ _ (λ z. at-if1 .if1 .taken (at-offset-test .offset-test .ensures .0 ∙ z)))),
       ),
     )
@@ -69,12 +73,10 @@ returns-2 c =
     let at-offset-test = at-if1 .before in
     let at-start = at-offset-test .before .before .before .before in
     let a = at-start .args in (
-      (
-        ap (λ (n : ℕ). take n (drop (a .offset) (a .memory .now)))
-            (add-sub-cancel-left (a .offset) (at-block-size .block-size .result) ∙ at-block-size .block-size .ensures .0)
-            ∙ sym (passed (λ k. []) _ _ (sym (at-offset-test .offset-test .ensures .0) ∙ at-if1 .if1 .left)),
-        refl,
-      ),
+      ap (λ (p : List ℕ). p beside heapOf (a .memory .now) (a .books .now) (a .map .now))
+          (ap (λ (n : ℕ). take n (drop (a .offset) (a .memory .now)))
+          (add-sub-cancel-left (a .offset) (at-block-size .block-size .result) ∙ at-block-size .block-size .ensures .0)
+          ∙ sym (passed (λ k. []) _ _ (sym (at-offset-test .offset-test .ensures .0) ∙ at-if1 .if1 .left))),
       (refl, ap (λ (x : ℕ). x + a .memory .ptr .1) (sym (passed (λ k. 0) _ _ (sym (at-offset-test .offset-test .ensures .0) ∙ at-if1 .if1 .left)))),
     )
 

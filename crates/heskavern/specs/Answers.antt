@@ -1,0 +1,20 @@
+-- The answer in the layout of C, read as crate heap's.
+-- Assumes nothing.
+use Rattle.rules.specs.declared.Answer.{Answer}
+use Rattle.rules.specs.declared.Sized.{Sized}
+use Rattle.rules.specs.declared.Rolled.{Rolled}
+use Rattle.rules.specs.Outcome.{answerOf}
+use Rattle.rules.specs.Numbers.{rolledOf, sizedOf}
+use Rattle.heskavern.specs.declared.HeskavernAnswer.{HeskavernAnswer}
+
+-- of format, ask, give back, resize and write
+abbrev pub answerIn : HeskavernAnswer → Answer
+answerIn r = answerOf (r .number) (r .value)
+
+-- of view's companion
+abbrev pub sizedIn : HeskavernAnswer → Sized
+sizedIn r = sizedOf (r .number) (r .value)
+
+-- of roll call
+abbrev pub rolledIn : HeskavernAnswer → Rolled
+rolledIn r = rolledOf (r .number) (r .value)
