@@ -104,8 +104,10 @@ class Function:
             for to in self.table(at) if '*' in operands else [self.target(at)]:
                 if to[0] == self.section and to[1] in self.code:
                     onward.append((to[1], depth))
+                elif depth != RETURN:
+                    self.fault(at, f'leaves at depth {depth}')
                 else:
-                    self.calls.append((depth - RETURN, to))  # it has this one's return address
+                    self.calls.append((0, to))  # it has this one's return address
         elif word == 'call':
             self.calls.append((depth, self.target(at)))
         else:
