@@ -1,7 +1,7 @@
 -- Who holds what on a sound heap: a live offset is held, and nothing is held where an ask or a moving resize hands a block
 -- out; nor does the ask write there.
 -- Assumes nothing.
-use mathlib.Core.Path.{_≡_, refl, ap}
+use mathlib.Core.Path.{_≡_, refl, sym, ap, _∙_}
 use mathlib.Core.Logic.{_≢_, _⊎_, inl, inr}
 use mathlib.Core.Bool.{Bool, true, false}
 use mathlib.Core.List.{[]}
@@ -30,29 +30,25 @@ module _ {al A P : ℕ} {h : Heap} {r : Plain} (L : Aligned al) (S : Sound al A 
   handed-free : (n : ℕ) → 1 ≤ n → (hi : n ≤ 512) → askAnswer (plainAsk al P r (classOf al n)) .number ≡ 0 → holding al A P h (askAnswer (plainAsk al P r (classOf al n)) .offset) ≡ []
   handed-free n lo hi z = let D = ask-done L S n lo hi in holding-none L S (D .sound) (D .quiet) (has-class L n hi) (D .hand z)
 
-  pub ask-free : (n : ℕ) → ask al h n .answer .number ≡ 0 → holding al A P h (ask al h n .answer .offset) ≡ []
-  ask-free n = by-size (size-number n)
+  -- an ask that is done is for a size of a block, and the plain heap's is done
+  done-asked : (n : ℕ) → ask al h n .answer .number ≡ 0 → (1 ≤ n) × (n ≤ 512) × (askAnswer (plainAsk al P r (classOf al n)) .number ≡ 0)
+  done-asked n z = go (size-number n)
     where
-      by-size : ((1 ≤ n) × (n ≤ 512)) ⊎ (sizeNumber n ≡ 3) → ask al h n .answer .number ≡ 0 → holding al A P h (ask al h n .answer .offset) ≡ []
-      by-size (inl t) = rw (ask-is L S n (t .0) (t .1)) (handed-free n (t .0) (t .1))
-      by-size (inr e) = rw (ask-size L S n e) (λ z. absurd (omega arith))
+      go : ((1 ≤ n) × (n ≤ 512)) ⊎ (sizeNumber n ≡ 3) → (1 ≤ n) × (n ≤ 512) × (askAnswer (plainAsk al P r (classOf al n)) .number ≡ 0)
+      go (inl t) = (t .0, t .1, sym (ap (λ (y : Outcome). y .answer .number) (ask-is L S n (t .0) (t .1))) ∙ z)
+      go (inr e) = absurd (omega (arith, sym (ap (λ (y : Outcome). y .answer .number) (ask-size L S n e)) ∙ z))
+
+  pub ask-free : (n : ℕ) → ask al h n .answer .number ≡ 0 → holding al A P h (ask al h n .answer .offset) ≡ []
+  ask-free n z = let t = done-asked n z in rw (ask-is L S n (t .0) (t .1)) (handed-free n (t .0) (t .1) (t .2))
 
   -- it writes no byte of the block that it hands out
   pub ask-bytes : (n : ℕ) → ask al h n .answer .number ≡ 0
       → part (ask al h n .answer .offset) (sizeOf al (classOf al n)) (ask al h n .heap .memory)
       ≡ part (ask al h n .answer .offset) (sizeOf al (classOf al n)) (h .memory)
-  ask-bytes n = by-size (size-number n)
-    where
-      Q : Outcome → Type 0
-      Q y =
-          y .answer .number ≡ 0
-          → part (y .answer .offset) (sizeOf al (classOf al n)) (y .heap .memory) ≡ part (y .answer .offset) (sizeOf al (classOf al n)) (h .memory)
-
-      by-size : ((1 ≤ n) × (n ≤ 512)) ⊎ (sizeNumber n ≡ 3) → Q (ask al h n)
-      by-size (inl t) =
-          let D = ask-done L S n (t .0) (t .1) in
-          rw (ask-is L S n (t .0) (t .1)) (λ z. bytes-new L S (D .sound) (D .quiet) (has-class L n (t .1)) (D .hand z))
-      by-size (inr e) = rw (ask-size L S n e) (λ z. absurd (omega arith))
+  ask-bytes n z =
+      let t = done-asked n z in
+      let D = ask-done L S n (t .0) (t .1) in
+      rw (ask-is L S n (t .0) (t .1)) (bytes-new L S (D .sound) (D .quiet) (has-class L n (t .1)) (D .hand (t .2)))
 
   pub resize-free : (o n : ℕ) → resize al h o n .answer .number ≡ 0 → resize al h o n .answer .offset ≢ o → holding al A P h (resize al h o n .answer .offset) ≡ []
   resize-free o n = by-size (size-number n)

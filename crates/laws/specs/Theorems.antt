@@ -62,19 +62,30 @@ module _ {al : ℕ} (L : Aligned al) (h : Heap) (A P : ℕ) (ok : format h A P .
   four-means n low high = rw (T .sound .rule1 .arenas-are, T .sound .rule1 .pools-are) (four-full L (T .sound) n low high, full-four L (T .sound) n low high)
 
   -- ---- the entries of the ledger
+  -- an offset where something is held is live, and one where nothing is held is not
+  some-live : (o : ℕ) → end .ledger o ≢ [] → live al (T .A) (T .P) (end .heap .books) (end .heap .map) o ≡ true
+  some-live o some = holding-some al (T .A) (T .P) (end .heap) o (λ q. some (T .tie o ∙ q))
+
+  none-dead : (o : ℕ) → end .ledger o ≡ [] → live al (T .A) (T .P) (end .heap .books) (end .heap .map) o ≡ false
+  none-dead o none = is-false (live al (T .A) (T .P) (end .heap .books) (end .heap .map) o) (λ e. live-held L (T .sound) o e (sym (T .tie o) ∙ none))
+
   -- an entry is a live block of the plain heap, of its length
   entry-live : (o : ℕ) → end .ledger o ≢ [] → LiveAt al (T .A) (T .P) (T .rows) o
-  entry-live o some = live-rows L (T .sound) o (holding-some al (T .A) (T .P) (end .heap) o (λ q. some (T .tie o ∙ q)))
+  entry-live o some = live-rows L (T .sound) o (some-live o some)
 
   entry-size : (o : ℕ) (t : LiveAt al (T .A) (T .P) (T .rows) o) → length (end .ledger o) ≡ liveSize t
   entry-size o t = ap length (T .tie o) ∙ holding-long L (T .sound) o t
+
+  -- and of the size that the books have for it
+  size-is : (o : ℕ) → live al (T .A) (T .P) (end .heap .books) (end .heap .map) o ≡ true → sizeAt al (T .A) (end .heap .books) o ≡ length (end .ledger o)
+  size-is o e = let t = live-rows L (T .sound) o e in ap (sizeOf al) (class-is L (T .sound) o t) ∙ sym (entry-size o t)
 
   -- an offset is live exactly if a block is held there
   pub live-means : (o : ℕ) → (live al (arenas (end .heap)) (pools (end .heap)) (end .heap .books) (end .heap .map) o ≡ true → end .ledger o ≢ [])
       × (end .ledger o ≢ [] → live al (arenas (end .heap)) (pools (end .heap)) (end .heap .books) (end .heap .map) o ≡ true)
   live-means o =
       rw (T .sound .rule1 .arenas-are, T .sound .rule1 .pools-are)
-      (λ e q. live-held L (T .sound) o e (sym (T .tie o) ∙ q), λ some. holding-some al (T .A) (T .P) (end .heap) o (λ q. some (T .tie o ∙ q)))
+      (λ e q. live-held L (T .sound) o e (sym (T .tie o) ∙ q), some-live o)
 
   -- ---- a block that is held is never handed out: nobody holds what an ask hands out, nor what a resize moves to
   pub asked-free : (n : ℕ) → ask al (end .heap) n .answer .number ≡ 0 → end .ledger (ask al (end .heap) n .answer .offset) ≡ []
@@ -90,14 +101,10 @@ module _ {al : ℕ} (L : Aligned al) (h : Heap) (A P : ℕ) (ok : format h A P .
       ≡ part (ask al (end .heap) n .answer .offset) (sizeOf al (classOf al n)) (end .heap .memory)
   asked-bytes = ask-bytes L (T .sound)
 
-  -- an offset where nothing is held is not live
-  none-dead : (o : ℕ) → end .ledger o ≡ [] → live al (T .A) (T .P) (end .heap .books) (end .heap .map) o ≡ false
-  none-dead o none = is-false (live al (T .A) (T .P) (end .heap .books) (end .heap .map) o) (λ e. live-held L (T .sound) o e (sym (T .tie o) ∙ none))
-
   -- a give-back is done exactly where a block is held; elsewhere it is refused with 5, and nothing changes
   pub back-means : (o : ℕ) → (end .ledger o ≢ [] → giveBack al (end .heap) o .answer ≡ answerOf 0 o) × (end .ledger o ≡ [] → giveBack al (end .heap) o ≡ refused 5 (end .heap))
   back-means o = (
-    λ some. ap (λ (x : Outcome). x .answer) (back-is L (T .sound) o (holding-some al (T .A) (T .P) (end .heap) o (λ q. some (T .tie o ∙ q)))),
+    λ some. ap (λ (x : Outcome). x .answer) (back-is L (T .sound) o (some-live o some)),
     λ none. back-dead L (T .sound) o (none-dead o none),
   )
 
@@ -110,13 +117,10 @@ module _ {al : ℕ} (L : Aligned al) (h : Heap) (A P : ℕ) (ok : format h A P .
   pub size-shows : (o : ℕ)
       → (end .ledger o ≢ [] → viewSize al (end .heap) o ≡ sizedOf 0 (length (end .ledger o)))
       × (end .ledger o ≡ [] → viewSize al (end .heap) o ≡ sizedOf 5 0)
-  size-shows o = (held-size-shown, λ none. view-size-is (T .sound) o ∙ rw (none-dead o none) refl)
-    where
-      held-size-shown : end .ledger o ≢ [] → viewSize al (end .heap) o ≡ sizedOf 0 (length (end .ledger o))
-      held-size-shown some =
-          let e = holding-some al (T .A) (T .P) (end .heap) o (λ q. some (T .tie o ∙ q)) in
-          let t = live-rows L (T .sound) o e in
-          view-size-is (T .sound) o ∙ rw e (ap (sizedOf 0) (ap (sizeOf al) (class-is L (T .sound) o t) ∙ sym (entry-size o t)))
+  size-shows o = (
+    λ some. view-size-is (T .sound) o ∙ rw (some-live o some) (ap (sizedOf 0) (size-is o (some-live o some))),
+    λ none. view-size-is (T .sound) o ∙ rw (none-dead o none) refl,
+  )
 
   -- no two entries overlap
   pub entries-apart : (o x : ℕ) → end .ledger o ≢ [] → end .ledger x ≢ [] → x ≢ o → (o + length (end .ledger o) ≤ x) ⊎ (x + length (end .ledger x) ≤ o)
@@ -173,7 +177,7 @@ module _ {al : ℕ} (L : Aligned al) (h : Heap) (A P : ℕ) (ok : format h A P .
     where
       go : (b : Bool) → live al (T .A) (T .P) (end .heap .books) (end .heap .map) o ≡ b → (if b then sizeAt al (T .A) (end .heap .books) o else 0) ≡ length (end .ledger o)
       go false e = sym (ap length (T .tie o ∙ dead-holding al (T .A) (T .P) (end .heap) o e))
-      go true e = let t = live-rows L (T .sound) o e in ap (sizeOf al) (class-is L (T .sound) o t) ∙ sym (entry-size o t)
+      go true e = size-is o e
 
   roll-entries : rollOf al (end .heap) ≡ entries
   roll-entries =
