@@ -1,13 +1,19 @@
 """What the documents say and is not so: each check takes the text of a document and yields its faults, a line each.
-The crates and the tests are read as they stand; a document is handed over, so that tests/trace/broken can hand over a changed one."""
+The crates and the tests are read as they stand; a document is handed over, so that tests/trace/broken can hand over a
+changed one."""
 import functools, glob, os, re, subprocess, sys
 from collections import Counter
 
 TOP = os.path.join(os.path.dirname(os.path.abspath(__file__)), '..', '..')
 RULES = 'crates/rules/specs'
-# the heading of the part of the trace that is not about the sentences of 01
-CLAUSES = '## No clause is idle'
-# a line of the trace: one quotation of 01, what says it, what shows it
+# the papers, by the names that the trace has for them: the variable that can name a paper's file, and its usual place
+PAPERS = {
+    '01': ('HESKAVERN_PAPER', '../shared/01-scope.md'),
+    '02': ('HESKAVERN_REQUESTS', '../shared/02-change-requests.md'),
+}
+# what a page has before its first section
+HEAD = 'the head'
+# a line of the trace: one quotation of a paper, what says it, what shows it
 LINE = re.compile(r'\| "((?:[^|"]|\\\|)+)" \| ([^|]+) \| ([^|]*)\|')
 # what may stand between two quotations: what ends a sentence or a clause, and the marks of lists and tables
 STOPS = ' .,;:|-'
@@ -41,40 +47,53 @@ def squeezed(text):
 
 
 def plain(text):
-    """Words of 01 as they are compared: without marks of bold and code and the stroke before a bar, and with single quotes."""
+    """Words of a paper as they are compared: without marks of bold and code and the stroke before a bar, and with
+    single quotes."""
     return squeezed(re.sub(r'[*`\\]', '', text)).replace('"', "'")
 
 
-# ---- the trace and 01
+# ---- the trace and the papers
 
 
 def sections(page):
-    """The sections of a page as (heading, what stands under it). What stands before them is the head; the title is left off."""
+    """The sections of a page as (heading, what stands under it), the head first. The title is left off."""
     parts = re.split(r'^## (.*)\n', re.sub(r'\A# .*\n', '', page), flags=re.M)
-    return list(zip(['the head', *parts[1::2]], parts[::2]))
+    return list(zip([HEAD, *parts[1::2]], parts[::2]))
 
 
+def part(trace, paper):
+    """The part of the trace that is about a paper: it opens with `# ` and the paper's name."""
+    parts = re.split(r'^# (\w+).*\n', trace, flags=re.M)
+    return dict(zip(parts[1::2], parts[2::2])).get(paper, '')
+
+
+@functools.cache
 def lines(trace):
-    """The lines of the trace, as (section, words of 01, what says them, what shows it)."""
-    for heading, text in sections(trace.split(CLAUSES)[0]):
-        for line in text.split('\n'):
-            if LINE.fullmatch(line):
-                yield heading, *LINE.fullmatch(line).groups()
+    """The lines of the trace, as (paper, section, words of the paper, what says them, what shows it)."""
+    under = [(paper, heading, text) for paper in PAPERS for heading, text in sections(part(trace, paper))]
+    cells = [(paper, heading, LINE.fullmatch(line)) for paper, heading, text in under for line in text.split('\n')]
+    return [(paper, heading, *found.groups()) for paper, heading, found in cells if found]
+
+
+def quoted(trace, paper, heading):
+    """The words that the trace quotes of a section of a paper."""
+    return [words for of, section, words, _, _ in lines(trace) if (of, section) == (paper, heading)]
 
 
 def misshapen(trace):
-    """Lines of the tables of the trace, their heads aside, that are no line of the trace."""
-    for line in trace.split(CLAUSES)[0].split('\n'):
-        if line.startswith('|') and not re.match(r'\| 01 \||\|---', line) and not LINE.fullmatch(line):
-            yield f'docs/TRACE.md: not one quotation, what says it and what shows it: {line}'
+    """Lines of the tables of the trace that are about a paper, their heads aside, and are no line of the trace."""
+    for paper in PAPERS:
+        for line in part(trace, paper).split('\n'):
+            if line.startswith('|') and not re.match(rf'\| {paper} \||\|---', line) and not LINE.fullmatch(line):
+                yield f'docs/TRACE.md: not one quotation, what says it and what shows it: {line}'
 
 
-def uncovered(text, quotations):
-    """What keeps the quotations, one after the other, from being the whole text."""
+def uncovered(paper, text, quotations):
+    """What keeps the quotations, one after the other, from being the whole text, which is of the paper."""
     end = 0
     for words in quotations:
         if text.count(words) != 1:
-            yield f'01 says this {text.count(words)} times there, not once: "{words}"'
+            yield f'{paper} says this {text.count(words)} times there, not once: "{words}"'
             continue
         start = text.index(words)
         if start < end:
@@ -86,14 +105,51 @@ def uncovered(text, quotations):
         yield f'left out: "{text[end:].strip(STOPS)}"'
 
 
-def untraced(trace, paper):
-    """What keeps the lines of the trace, section by section, from being 01."""
-    if [heading for heading, _ in sections(trace.split(CLAUSES)[0])] != [heading for heading, _ in sections(paper)]:
-        yield 'the sections of docs/TRACE.md are not those of 01, in its order'
-    quoted = [(section, plain(words)) for section, words, _, _ in lines(trace)]
-    for heading, text in sections(paper):
-        quotations = [words for section, words in quoted if section == heading]
-        yield from (f'docs/TRACE.md, "{heading}": {fault}' for fault in uncovered(plain(text), quotations))
+def note(heading):
+    """The name of the note that a section wants: the one of its request, and none where it is of no request."""
+    request = re.match(r'W-\d+', heading)
+    return f'landings/{request.group()}' if request else None
+
+
+def asked(paper):
+    """The sections of a paper. A request is one: 02 has its number and title in bold, where 01 has a heading."""
+    return sections(re.sub(r'^\*\*(W-\d+\. .+?)\.\*\*', r'## \1\n', paper, flags=re.M))
+
+
+def untraced(told, paper):
+    """What keeps the lines of the trace, section by section, from being the paper, but for requests without a note."""
+    trace = told['TRACE']
+    due = [(heading, text) for heading, text in asked(told[paper]) if note(heading) in {None, *told}]
+    if [heading for heading, _ in sections(part(trace, paper))] != [heading for heading, _ in due]:
+        yield f'the sections of docs/TRACE.md are not those of {paper}, in its order'
+    for heading, text in due:
+        found = uncovered(paper, plain(text), map(plain, quoted(trace, paper, heading)))
+        yield from (f'docs/TRACE.md, "{heading}": {fault}' for fault in found)
+
+
+# ---- the landings
+
+
+def notes(told):
+    """The names of the notes on requests."""
+    return sorted(name for name in told if re.match('landings/W-', name))
+
+
+def unlanded(told):
+    """Requests that have lines and no note, or a note and no lines; notes of no request, where 02 is there; and those
+    that lack a part that docs/landings/README.md asks for."""
+    traced = {note(heading) for heading, _ in sections(part(told['TRACE'], '02'))} - {None}
+    requests = {note(heading) for heading, _ in asked(told['02'])} if '02' in told else set(notes(told))
+    wanted = re.findall(r'`## ([^`]+)`', told['landings/README'])
+    for name in sorted(traced - {*told}):
+        yield f'docs/TRACE.md has lines of a request without its note, docs/{name}.md'
+    for name in notes(told):
+        if name not in requests:
+            yield f'docs/{name}.md: 02 has no such request'
+        elif name not in traced:
+            yield f'docs/{name}.md: the request has no lines in docs/TRACE.md'
+        if [heading for heading, text in sections(told[name])[1:] if text.strip()] != wanted:
+            yield f'docs/{name}.md: its parts are not those that docs/landings/README.md asks for, in that order'
 
 
 # ---- what the trace names
@@ -103,8 +159,8 @@ def untraced(trace, paper):
 def declared(place):
     """The names that a file of the rules declares, or any file of a crate."""
     crate = place.removeprefix('crate ')
-    paths = files(f'{RULES}/{place}.antt') if crate == place else files(f'crates/{crate}/specs/*.antt', f'crates/{crate}/src/*.rt')
-    text = '\n'.join(map(read, paths))
+    whole = f'crates/{crate}/specs/*.antt', f'crates/{crate}/src/*.rt'
+    text = '\n'.join(map(read, files(f'{RULES}/{place}.antt') if crate == place else files(*whole)))
     specs = re.findall(r'^\s*(?:unfoldable |abbrev |pub |record |data )*(\S+) :', text, re.M)
     return {*specs, *re.findall(r'^\s*(?:pub )?(?:fn|struct|enum|const) (\w+)', text, re.M)}
 
@@ -112,12 +168,14 @@ def declared(place):
 @functools.cache
 def theorems():
     """The names that the files of crate laws state for other crates."""
-    return {name for path in files('crates/laws/specs/*.antt') for name in re.findall(r'^ *pub (\S+) :', read(path), re.M)}
+    text = '\n'.join(map(read, files('crates/laws/specs/*.antt')))
+    return set(re.findall(r'^ *pub (\S+) :', text, re.M))
 
 
 @functools.cache
 def rows():
-    """The rows of the three tables: of damaged books those in the list that the theorem speaks of, K1 to K10, and the replays."""
+    """The rows of the three tables: of damaged books those in the list that the theorem speaks of, K1 to K10, and the
+    replays."""
     damaged = read(f'{RULES}/Damaged.antt')
     listed = re.search(r'^Holds m b k = T \(every (\w+) ', damaged, re.M).group(1)
     body = re.search(rf'^{listed} =\n(.*?)∷ \[\]\n\n', damaged, re.M | re.S).group(1)
@@ -126,7 +184,8 @@ def rows():
 
 @functools.cache
 def edits():
-    """The wrong programs, rules and ledgers that are kept: must-fail edits as CRATE/NAME, those of tests/laws as NAME."""
+    """The wrong programs, rules and ledgers that are kept: must-fail edits as CRATE/NAME, those of tests/laws as
+    NAME."""
     kept = (re.search(r'(\w+)/must-fail/(\w+)\.edit$', path).groups() for path in files('crates/*/must-fail/*.edit'))
     return {*map('/'.join, kept), *re.findall(r'^name: (\w+)$', read('tests/laws/edits'), re.M)}
 
@@ -134,15 +193,17 @@ def edits():
 def unnamed(trace):
     """Names of the trace that are not where it says, or of which it does not say where they are."""
     known = rows() | {edit.split('/')[-1] for edit in edits()}
-    for _, _, said, shown in lines(trace):
+    for *_, said, shown in lines(trace):
         for listed in THEOREMS.findall(said):
             yield from (f'there is no theorem {name}' for name in names(listed) if name not in theorems())
         rest = THEOREMS.sub('', said)
         for listed, *places in PLACED.findall(rest):
             for place in filter(None, places):
                 yield from (f'{name} is not in {place}' for name in names(listed) if name not in declared(place))
-        yield from (f'{name} is no file, and no place is given' for name in names(PLACED.sub('', rest)) if not is_file(name))
-        yield from (f'there is no row, edit or file {name}' for name in names(shown) if name not in known and not is_file(name))
+        lost = [name for name in names(PLACED.sub('', rest)) if not is_file(name)]
+        unknown = [name for name in names(shown) if name not in known and not is_file(name)]
+        yield from (f'{name} is no file, and no place is given' for name in lost)
+        yield from (f'there is no row, edit or file {name}' for name in unknown)
 
 
 @functools.cache
@@ -172,10 +233,12 @@ def unquoted(told):
 
 
 def named_edits(cells):
-    """The edits that the cells of a table name, each as `edits` has it: crate/`name`, or `name` alone where no other crate has that name."""
+    """The edits that the cells of a table name, each as `edits` has it: crate/`name`, or `name` alone where no other
+    crate has that name."""
     crates = Counter(edit.split('/')[-1] for edit in edits())
     whole = {edit.split('/')[-1]: edit for edit in edits() if crates[edit.split('/')[-1]] == 1}
-    return {f'{crate}/{name}' if crate else whole.get(name, name) for crate, name in re.findall(r'(?:(\w+)/)?`(\w+)`', cells)}
+    named = re.findall(r'(?:(\w+)/)?`(\w+)`', cells)
+    return {f'{crate}/{name}' if crate else whole.get(name, name) for crate, name in named}
 
 
 def unkept(told):
@@ -200,18 +263,27 @@ def lengths(assessor):
 
 
 def documents():
-    """The documents by their names; and 01, the file that HESKAVERN_PAPER names, or else ../shared/01-scope.md where that is there."""
-    named = os.environ.get('HESKAVERN_PAPER')
-    paper = os.path.abspath(named) if named else '../shared/01-scope.md'
-    if named and not is_file(paper):
-        sys.exit(f'HESKAVERN_PAPER names {paper}, which is not there')
-    told = {name: read(f'docs/{name}.md') for name in ('TRACE', 'PROMISES', 'THEOREMS', 'ASSESSOR')}
-    return {**told, '01': read(paper)} if is_file(paper) else told
+    """The documents by their names, and the papers: each is the file that its variable names, or else the one in its
+    usual place, where that is there."""
+    pages = files('docs/*.md', 'docs/landings/*.md')
+    told = {page.removeprefix('docs/').removesuffix('.md'): read(page) for page in pages}
+    for paper, (variable, usual) in PAPERS.items():
+        named = os.environ.get(variable)
+        path = os.path.abspath(named) if named else usual
+        if named and not is_file(path):
+            sys.exit(f'{variable} names {path}, which is not there')
+        told.update({paper: read(path)} if is_file(path) else {})
+    return told
+
+
+def not_compared(told):
+    """What the last line of a test says of the papers that are missing."""
+    return ''.join(f', {paper} not compared' for paper in PAPERS if paper not in told)
 
 
 def faults(told):
-    """The faults of the documents, which come by their names; 01 is compared if it is among them."""
+    """The faults of the documents, which come by their names; the papers are compared that are among them."""
     trace, quoting = told['TRACE'], told['PROMISES'] + told['THEOREMS']
-    compared = untraced(trace, told['01']) if '01' in told else []
-    of_trace = *misshapen(trace), *compared, *unnamed(trace), *told_otherwise(trace)
+    compared = [fault for paper in PAPERS if paper in told for fault in untraced(told, paper)]
+    of_trace = *misshapen(trace), *compared, *unlanded(told), *unnamed(trace), *told_otherwise(trace)
     return [*of_trace, *unquoted(quoting), *unkept(quoting), *lengths(told['ASSESSOR'])]
