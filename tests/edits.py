@@ -1,8 +1,12 @@
 """Changes of single lines, as tests/clauses and tests/laws keep them: how their files are read, how a change is made, and which lines are clauses."""
 import os, re
 
-# what is no clause: comments, imports, declarations, constructors and fields, a left-hand side alone, and the value that a chain of writes starts from
-NO_CLAUSE = re.compile(r'\s*(--|use |infix|module |unfolding |pub record |pub data |(pub )?[\w-]+ : |abbrev |unfoldable |\w$|$)|.* =$')
+# what is no clause, on however many lines: an import, and the names that a definition unfolds
+NAMES = re.compile(r'^use .*\{[^}]*\}|^( *)unfolding .*(\n\1 .*)*', re.M)
+# the lines that are none: comments, declarations, constructors and fields, a left-hand side alone, a record's first and
+# last line where its fields have their own, and the value that a chain of writes starts from
+NO_CLAUSE = re.compile(r'\s*(--|infix|module |pub record |pub data |(pub )?[\w-]+ : |abbrev |unfoldable '
+                       r'|(then|else) record \{$|\}$|\w$|$)|.* =$')
 FIELD = re.compile(r'  pub [\w-]+ : ')
 
 
@@ -19,6 +23,7 @@ def write(path, text):
 def clauses(text):
     """The clauses of a file of definitions: (number of the line, the line). A field is one where its record has parameters, for then it says something of them."""
     says = False
+    text = NAMES.sub(lambda names: '\n' * names.group().count('\n'), text)
     for i, line in enumerate(text.split('\n')):
         if re.match(r'\S', line):
             says = line.startswith('pub record ') and '(' in line

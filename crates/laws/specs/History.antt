@@ -1,4 +1,5 @@
--- What the theorems speak of: histories of calls, run by the rules; their ledgers, made from the calls and their answers; and a heap with no room.
+-- What the theorems speak of: histories of calls, run by the rules;
+-- their ledgers, made from the calls and their answers; and a heap with no room.
 -- Assumes nothing.
 use mathlib.Core.Logic.{_≢_}
 use mathlib.Core.Path.{_≡_}
@@ -36,8 +37,8 @@ pub record State : Type 0 where
   pub heap : Heap
   pub ledger : Ledger
 
--- the heap after a call, and the ledger: the new one if the call's number is 0. (So a half-done resize, which answers 6 and
--- changes the heap, would leave the old one; but no history meets one: `no-six`)
+-- the heap after a call, and the ledger: the new one if the call's number is 0. (So a half-done resize, which answers
+-- 6 and changes the heap, would leave the old one; but no history meets one: `no-six`)
 abbrev pub noted : ℕ → Heap → Ledger → Ledger → State
 noted number h old new = record { heap = h; ledger = if eqb number 0 then new else old }
 
@@ -58,19 +59,27 @@ module _ (al : ℕ) where
   -- block was handed out, m being memory as the ask left it
   abbrev pub carried : ℕ → ℕ → ℕ → List ℕ → Ledger → Ledger
   carried n o new m g =
-      to new (take (min n (length (g o))) (g o) ++ drop (min n (length (g o))) (part new (sizeOf al (classOf al n)) m)) (to o [] g)
+      to new
+      (take (min n (length (g o))) (g o) ++ drop (min n (length (g o))) (part new (sizeOf al (classOf al n)) m))
+      (to o [] g)
 
-  -- the state after an event. A done ask adds an entry, a done give-back removes it, a done resize moves it and a done format empties the ledger; an entry has the bytes
-  -- as they were when the block was handed out, and as its holder wrote since
+  -- the state after an event. A done ask adds an entry, a done give-back removes it, a done resize moves it and a
+  -- done format empties the ledger; an entry has the bytes as they were when the block was handed out, and as its
+  -- holder wrote since
   unfoldable pub after : State → Event → State
   after x (formats A P) = let y = format (x .heap) A P in noted (y .answer .number) (y .heap) (x .ledger) (λ o. [])
   after x (asks n) =
       let y = ask al (x .heap) n in
-      noted (y .answer .number) (y .heap) (x .ledger) (to (y .answer .offset) (part (y .answer .offset) (sizeOf al (classOf al n)) (y .heap .memory)) (x .ledger))
-  after x (gives o) = let y = giveBack al (x .heap) o in noted (y .answer .number) (y .heap) (x .ledger) (to o [] (x .ledger))
+      noted (y .answer .number) (y .heap) (x .ledger)
+      (to (y .answer .offset) (part (y .answer .offset) (sizeOf al (classOf al n)) (y .heap .memory)) (x .ledger))
+  after x (gives o) =
+      let y = giveBack al (x .heap) o in
+      noted (y .answer .number) (y .heap) (x .ledger) (to o [] (x .ledger))
   after x (resizes o n) =
       let y = resize al (x .heap) o n in
-      noted (y .answer .number) (y .heap) (x .ledger) (if eqb (y .answer .offset) o then x .ledger else carried n o (y .answer .offset) (ask al (x .heap) n .heap .memory) (x .ledger))
+      noted (y .answer .number) (y .heap) (x .ledger)
+      (if eqb (y .answer .offset) o then x .ledger
+      else carried n o (y .answer .offset) (ask al (x .heap) n .heap .memory) (x .ledger))
   after x (views o) = x
   after x (sizes o) = x
   after x (writes o text) =
@@ -79,7 +88,10 @@ module _ (al : ℕ) where
   after x (rolls words) = x
   after x (pokes o d v) =
       if ltb d (length (x .ledger o))
-      then record { heap = heapOf (set (x .heap .memory) (o + d) v) (x .heap .books) (x .heap .map); ledger = to o (set (x .ledger o) d v) (x .ledger) }
+      then record {
+        heap = heapOf (set (x .heap .memory) (o + d) v) (x .heap .books) (x .heap .map);
+        ledger = to o (set (x .ledger o) d v) (x .ledger);
+      }
       else x
 
   -- every event of a history, one after the other
@@ -92,7 +104,8 @@ module _ (al : ℕ) where
   NoSix x [] = Unit {0}
   NoSix x (e ∷ es) = (numberOf x e ≢ 6) × NoSix (after x e) es
 
--- ---- a ledger as a list: offset and size of what is held at the n offsets from o on, rising, where g says the size held at each offset, 0 for none
+-- ---- a ledger as a list: offset and size of what is held at the n offsets from o on, rising,
+-- where g says the size held at each offset, 0 for none
 unfoldable pub listing : (ℕ → ℕ) → ℕ → ℕ → List ℕ
 listing g o zero = []
 listing g o (suc n) = (if eqb (g o) 0 then [] else (o ∷ g o ∷ [])) ++ listing g (suc o) n
@@ -101,7 +114,8 @@ listing g o (suc n) = (if eqb (g o) 0 then [] else (o ∷ g o ∷ [])) ++ listin
 abbrev pub heldBelow : (ℕ → ℕ) → ℕ → ℕ
 heldBelow g o = howMany (λ x. not (eqb (g x) 0)) o
 
--- ---- the heap h of A arenas with P pools has no room for class c: every pool holds a live block, and every pool of the class is full of live ones
+-- ---- the heap h of A arenas with P pools has no room for class c:
+-- every pool holds a live block, and every pool of the class is full of live ones
 pub record LiveIn (al A P : ℕ) (h : Heap) (p : ℕ) : Type 0 where
   pub offset : ℕ
   pub inside : offset / 4096 ≡ p
@@ -109,4 +123,6 @@ pub record LiveIn (al A P : ℕ) (h : Heap) (p : ℕ) : Type 0 where
 
 pub record Full (al A P : ℕ) (h : Heap) (c : ℕ) : Type 0 where
   pub held-all : (p : ℕ) → p < A * P → LiveIn al A P h p
-  pub full-class : (p : ℕ) → p < A * P → pool A (h .books) class p ≡ c → (k : ℕ) → k < capacity (sizeOf al c) → live al A P (h .books) (h .map) (offsetOf p (startOf (sizeOf al c) k)) ≡ true
+  pub full-class : (p : ℕ) → p < A * P → pool A (h .books) class p ≡ c
+      → (k : ℕ) → k < capacity (sizeOf al c)
+      → live al A P (h .books) (h .map) (offsetOf p (startOf (sizeOf al c) k)) ≡ true

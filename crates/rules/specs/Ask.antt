@@ -1,4 +1,5 @@
--- 01, "Ask": the path, decided from the heap before, each rule of 6 where the path meets it; then the writes, in 01's order.
+-- 01, "Ask": the path, decided from the heap before, each rule of 6 where the path meets it;
+-- then the writes, in 01's order.
 -- Assumes nothing.
 use mathlib.Core.Bool.{Bool, not, _&&_, _||_}
 use Prim.Native.Nat.{ℕ, _+_, _*_}
@@ -9,7 +10,42 @@ use Rattle.rules.specs.declared.Source.the-variants.{Freed, Carved, Open
 use Rattle.rules.specs.declared.AskPlan.{AskPlan}
 use Rattle.rules.specs.declared.AskPlan.the-variants.{NoRoom, Damaged, Follow, Ready, Last, Again, Anew}
 use Rattle.rules.specs.Say.{if_then_else_, _▷_, only}
-use Rattle.rules.specs.Books.{Heap, at, put, onMemory, onBooks, onMap, isSet, putMapBit, usableHead, unusedHead, classHead, openWord, carveMark, freePools, freedHead, arenaWord, arena, count, freeblock, poolNext, poolPrevious, class, nextoffset, maxnextoffset, noClass, poolWord, pool, putWord, rise, fall, none?, linkTo, linked, offsetOf}
+use Rattle.rules.specs.Books.{
+  Heap,
+  at,
+  put,
+  onMemory,
+  onBooks,
+  onMap,
+  isSet,
+  putMapBit,
+  usableHead,
+  unusedHead,
+  classHead,
+  openWord,
+  carveMark,
+  freePools,
+  freedHead,
+  arenaWord,
+  arena,
+  count,
+  freeblock,
+  poolNext,
+  poolPrevious,
+  class,
+  nextoffset,
+  maxnextoffset,
+  noClass,
+  poolWord,
+  pool,
+  putWord,
+  rise,
+  fall,
+  none?,
+  linkTo,
+  linked,
+  offsetOf,
+}
 use Rattle.rules.specs.Blocks.{classOf, sizeOf, lastStart, isStart, blockNo, linkAt, putLink}
 use Rattle.rules.specs.Lists.{mayLeave, arenaLinks, poolLinks, arenaLeaves, arenaJoins, poolLeaves}
 use Rattle.rules.specs.Outcome.{Outcome, outcome, answerOf}
@@ -19,11 +55,13 @@ infixr 12 _⇛_
 abbrev pub _⇛_ : Bool → AskPlan → AskPlan
 rule ⇛ rest = if rule then rest else Damaged
 
--- the path from the front member of the list whose head word is l, 6 where l is above `most`; `otherwise` where the list is empty
+-- the path from the front member of the list whose head word is l, 6 where l is above `most`;
+-- `otherwise` where the list is empty
 abbrev pub frontOf : ℕ → ℕ → (ℕ → AskPlan) → AskPlan → AskPlan
 frontOf l most front otherwise = if none? l then otherwise else (leb l most ⇛ front (linked l))
 
--- ---- the path of an ask for class c, over the heap h. A name stands before it is used: 01's order is from `planAsk`, the last, upwards
+-- ---- the path of an ask for class c, over the heap h.
+-- A name stands before it is used: 01's order is from `planAsk`, the last, upwards
 module _ (al A P : ℕ) (h : Heap) (c : ℕ) where
   -- the wanted block size
   abbrev pub size : ℕ
@@ -44,8 +82,8 @@ module _ (al A P : ℕ) (h : Heap) (c : ℕ) where
   abbrev pub linkIn : ℕ → ℕ
   linkIn p = linkAt (h .memory) (offsetOf p (poolHas p freeblock))
 
-  -- "If that is 0 and nextoffset ≤ maxnextoffset, freeblock becomes nextoffset, .. If it is 0 and there is no such room, the pool is full: it
-  -- leaves the list": pool p is listed, and its freeblock has no link
+  -- "If that is 0 and nextoffset ≤ maxnextoffset, freeblock becomes nextoffset, .. If it is 0 and there is no such
+  -- room, the pool is full: it leaves the list": pool p is listed, and its freeblock has no link
   unfoldable pub noLink : ℕ → AskPlan
   noLink p =
       if leb (poolHas p nextoffset) (poolHas p maxnextoffset)
@@ -67,11 +105,13 @@ module _ (al A P : ℕ) (h : Heap) (c : ℕ) where
       ⇛ leb (poolHas p count) 505
       ⇛ fromFreeblock p
 
-  -- "Otherwise class is set, .. freeblock 48 + size with link written 0, and the answer is 48": blocks 0 and 1 of pool p
+  -- "Otherwise class is set, .. freeblock 48 + size with link written 0, and the answer is 48":
+  -- blocks 0 and 1 of pool p
   unfoldable pub setAnew : Source → ℕ → AskPlan
   setAnew s p = spare p 48 ⇛ spare p (48 + size) ⇛ Anew s p
 
-  -- "If its class is already the wanted one, the answer is its freeblock, which becomes that block's link": pool p, freed in arena a
+  -- "If its class is already the wanted one, the answer is its freeblock, which becomes that block's link":
+  -- pool p, freed in arena a
   unfoldable pub sameClass : ℕ → ℕ → AskPlan
   sameClass a p =
       spare p (poolHas p freeblock)
@@ -105,8 +145,8 @@ module _ (al A P : ℕ) (h : Heap) (c : ℕ) where
   unfoldable pub fromUsable : ℕ → AskPlan
   fromUsable a = frontOf (arenaHas a freedHead) (A * P) (fromFreed a) (fromMark a)
 
-  -- "where the usable list is empty, the unused head leaves its list and joins the usable one (.. carve mark and freed-pool head 0, ..)":
-  -- its first pool is carved
+  -- "where the usable list is empty, the unused head leaves its list and joins the usable one (.. carve mark and
+  -- freed-pool head 0, ..)": its first pool is carved
   unfoldable pub fromUnused : ℕ → AskPlan
   fromUnused a = mayLeave A arenaLinks a (h .books) ⇛ setAnew (Opened a) (a * P)
 
@@ -167,8 +207,9 @@ module _ (al A P c : ℕ) where
   abbrev pub handOut : ℕ → ℕ → Heap → Heap
   handOut p f = onMap (putMapBit p (blockNo (sizeOf al c) f) 1)
 
-  -- the writes of each path, in the order of the sentences above: "count rises by 1, .. freeblock becomes its link", "nextoffset rises by the size, and the link in
-  -- the new freeblock is written 0", "the pool is full: it leaves the list"; a pool that is taken, of the wanted class, or set to it
+  -- the writes of each path, in the order of the sentences above: "count rises by 1, .. freeblock becomes its link",
+  -- "nextoffset rises by the size, and the link in the new freeblock is written 0", "the pool is full: it leaves the
+  -- list"; a pool that is taken, of the wanted class, or set to it
   unfoldable pub afterAsk : AskPlan → Heap → Heap
   unfolding takeFrom
   afterAsk NoRoom h = h

@@ -55,7 +55,8 @@ classAt A b o = pool A b class (o / 4096)
 abbrev pub sizeAt : ℕ → ℕ → List ℕ → ℕ → ℕ
 sizeAt al A b o = sizeOf al (classAt A b o)
 
--- "An offset is live if it lies in memory, its pool's class is at most 63, it is a block start of that class and its map bit is set."
+-- "An offset is live if it lies in memory, its pool's class is at most 63, it is a block start of that class
+-- and its map bit is set."
 unfoldable pub live : ℕ → ℕ → ℕ → List ℕ → List ℕ → ℕ → Bool
 live al A P b m o =
     ltb o (memoryLength A P)

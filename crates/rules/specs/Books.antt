@@ -51,7 +51,8 @@ abbrev pub onMap : (List ℕ → List ℕ) → Heap → Heap
 onMap f h = record { memory = h .memory; books = h .books; map = f (h .map) }
 
 -- ---- the map
--- "Block k of a pool is bit k mod 64 (low bit first) of its word k div 64; set means live." Pool n has the eight words from 8n on
+-- "Block k of a pool is bit k mod 64 (low bit first) of its word k div 64; set means live."
+-- Pool n has the eight words from 8n on
 abbrev pub mapWord : ℕ → ℕ → ℕ
 mapWord n k = 8 * n + k / 64
 

@@ -5,7 +5,15 @@ use mathlib.Core.List.{List, [], _∷_}
 use Prim.Native.Nat.{ℕ}
 use lib.Dec.{T}
 use lib.ListN.{length}
-use Rattle.rules.specs.Books.{memoryLength, booksLength, mapLength, poolWord, freeblock, nextoffset, maxnextoffset}
+use Rattle.rules.specs.Books.{
+  memoryLength,
+  booksLength,
+  mapLength,
+  poolWord,
+  freeblock,
+  nextoffset,
+  maxnextoffset,
+}
 use Rattle.rules.specs.Lines.{Line, asks, gives, resizes, has, word, every, fresh}
 use Rattle.rules.specs.Whole.{tab, each-three}
 
@@ -17,7 +25,8 @@ pool0 w = poolWord 1 w 0
 abbrev pub cases : List (List Line)
 cases =
     -- K1: "ask 1 gives 48; pool 0 then has freeblock 56, nextoffset 64, maxnextoffset 4,088"
-    (asks 1 0 48 ∷ has (word (pool0 freeblock)) 56 ∷ has (word (pool0 nextoffset)) 64 ∷ has (word (pool0 maxnextoffset)) 4088 ∷ [])
+    (asks 1 0 48 ∷ has (word (pool0 freeblock)) 56 ∷ has (word (pool0 nextoffset)) 64
+    ∷ has (word (pool0 maxnextoffset)) 4088 ∷ [])
     -- K2: "ask 1, ask 8: 48, 56; freeblock 64, nextoffset 72"
     ∷ (asks 1 0 48 ∷ asks 8 0 56 ∷ has (word (pool0 freeblock)) 64 ∷ has (word (pool0 nextoffset)) 72 ∷ [])
     -- K3: "ask 1, ask 1, give back 48, ask 8: the last gives 48"
@@ -47,5 +56,7 @@ unfolding every
 computed f g k = tt
 
 -- K1 to K10, whatever memory, books and map of the right lengths held before format
-pub cases-hold : (m b k : List ℕ) → length m ≡ memoryLength 1 16 → length b ≡ booksLength 1 16 → length k ≡ mapLength 1 16 → Holds m b k
+pub cases-hold : (m b k : List ℕ)
+    → length m ≡ memoryLength 1 16 → length b ≡ booksLength 1 16 → length k ≡ mapLength 1 16
+    → Holds m b k
 cases-hold = each-three Holds (memoryLength 1 16) (booksLength 1 16) (mapLength 1 16) computed

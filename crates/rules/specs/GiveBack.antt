@@ -1,4 +1,5 @@
--- 01, "Give back": the path, decided from the books before, each rule of 6 where the path meets it; then the writes, in 01's order.
+-- 01, "Give back": the path, decided from the books before, each rule of 6 where the path meets it;
+-- then the writes, in 01's order.
 -- Assumes nothing.
 use mathlib.Core.Bool.{Bool, _&&_, _||_}
 use mathlib.Core.List.{List}
@@ -10,9 +11,44 @@ use Rattle.rules.specs.declared.Answer.{Answer}
 use Rattle.rules.specs.declared.BackPlan.{BackPlan}
 use Rattle.rules.specs.declared.BackPlan.the-variants.{Damaged, Joins, Stays, Empties, Returns, Releases}
 use Rattle.rules.specs.Say.{if_then_else_, _▷_}
-use Rattle.rules.specs.Books.{Heap, put, onMemory, onBooks, onMap, putMapBit, usableHead, unusedHead, classHead, freePools, freedHead, arenaWord, arena, count, freeblock, poolNext, poolPrevious, poolWord, pool, putWord, rise, fall, none?, linkTo, offsetOf}
+use Rattle.rules.specs.Books.{
+  Heap,
+  put,
+  onMemory,
+  onBooks,
+  onMap,
+  putMapBit,
+  usableHead,
+  unusedHead,
+  classHead,
+  freePools,
+  freedHead,
+  arenaWord,
+  arena,
+  count,
+  freeblock,
+  poolNext,
+  poolPrevious,
+  poolWord,
+  pool,
+  putWord,
+  rise,
+  fall,
+  none?,
+  linkTo,
+  offsetOf,
+}
 use Rattle.rules.specs.Blocks.{sizeOf, isStart, blockNo, putLink, classAt}
-use Rattle.rules.specs.Lists.{mayLeave, mayJoin, arenaLinks, poolLinks, arenaLeaves, arenaJoins, poolLeaves, poolJoins}
+use Rattle.rules.specs.Lists.{
+  mayLeave,
+  mayJoin,
+  arenaLinks,
+  poolLinks,
+  arenaLeaves,
+  arenaJoins,
+  poolLeaves,
+  poolJoins,
+}
 use Rattle.rules.specs.Outcome.{Outcome, outcome, answerOf}
 
 infixr 12 _⇛_
@@ -20,7 +56,8 @@ infixr 12 _⇛_
 abbrev pub _⇛_ : Bool → BackPlan → BackPlan
 rule ⇛ rest = if rule then rest else Damaged
 
--- ---- the path of a block of pool p, of class c. A name stands before it is used: 01's order is from `planBack`, the last, upwards
+-- ---- the path of a block of pool p, of class c.
+-- A name stands before it is used: 01's order is from `planBack`, the last, upwards
 module _ (al A P : ℕ) (b : List ℕ) (c p : ℕ) where
   -- word w of the pool's record, and of its arena's
   abbrev pub poolHas : ℕ → ℕ
@@ -29,8 +66,9 @@ module _ (al A P : ℕ) (b : List ℕ) (c p : ℕ) where
   abbrev pub arenaHas : ℕ → ℕ
   arenaHas w = arena b w (p / P)
 
-  -- "Otherwise, at count 0, it leaves its class list and goes to the front of its arena's freed pools, .. and free pools rises by 1. If free pools is
-  -- now P, the arena leaves the usable list, .. If free pools is now 1, .. Otherwise its place in the list stays as it was."
+  -- "Otherwise, at count 0, it leaves its class list and goes to the front of its arena's freed pools, .. and free
+  -- pools rises by 1. If free pools is now P, the arena leaves the usable list, .. If free pools is now 1, ..
+  -- Otherwise its place in the list stays as it was."
   unfoldable pub emptying : BackPlan
   emptying =
       mayLeave (A * P) (poolLinks A) p b
@@ -61,8 +99,8 @@ module _ (al A P c p f : ℕ) where
       ▷ putWord (poolWord A freeblock p) f
       ▷ fall (poolWord A count p)
 
-  -- ".. it leaves its class list and goes to the front of its arena's freed pools, linked by next alone (own previous 0, the old head's
-  -- record untouched), and free pools rises by 1."
+  -- ".. it leaves its class list and goes to the front of its arena's freed pools, linked by next alone
+  -- (own previous 0, the old head's record untouched), and free pools rises by 1."
   abbrev pub empty : Heap → Heap
   empty h =
       h

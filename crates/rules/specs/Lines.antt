@@ -12,11 +12,40 @@ use Rattle.rules.specs.Blocks.{isStart, linkAt, putLink, live, liveNumbe
 use Rattle.rules.specs.Lists.{leaveBy, joinBy}
 use Rattle.rules.specs.Outcome.{heapOf}
 use Rattle.rules.specs.Format.{freshBooks}
-use Rattle.rules.specs.Ask.{noLink, fromFreeblock, fromListed, setAnew, sameClass, takeAgain, fromMark, fromFreed, fromUsable, fromUnused, planAsk, takeFrom, afterAsk, askAnswer, askStep}
+use Rattle.rules.specs.Ask.{
+  noLink,
+  fromFreeblock,
+  fromListed,
+  setAnew,
+  sameClass,
+  takeAgain,
+  fromMark,
+  fromFreed,
+  fromUsable,
+  fromUnused,
+  planAsk,
+  takeFrom,
+  afterAsk,
+  askAnswer,
+  askStep,
+}
 use Rattle.rules.specs.GiveBack.{emptying, planBack, afterBack, backAnswer, backStep}
 use Rattle.rules.specs.Resize.{giveOld, moved, resizeStep}
 use Rattle.rules.specs.View.{rollBlocks, rollPool, rollPools}
-use Rattle.rules.specs.Numbers.{fitNumber, shapeNumber, sizeNumber, roomNumber, format, ask, giveBack, resize, view, viewSize, write, rollCall}
+use Rattle.rules.specs.Numbers.{
+  fitNumber,
+  shapeNumber,
+  sizeNumber,
+  roomNumber,
+  format,
+  ask,
+  giveBack,
+  resize,
+  view,
+  viewSize,
+  write,
+  rollCall,
+}
 
 -- a line of a case: a call with its answer, a look, or damage that is done
 pub data Line : Type 0 where
@@ -26,7 +55,7 @@ pub data Line : Type 0 where
   resizes : ℕ → ℕ → ℕ → ℕ → Line  -- o n k r: resize o to n gives number k and offset r
   writes : ℕ → List ℕ → ℕ → ℕ → Line  -- o t k r: write of the text t at o gives number k and offset r
   views : ℕ → ℕ → ℕ → List ℕ → Line  -- o k s bytes: view's companion gives number k and size s, view the bytes
-  rolls : List ℕ → ℕ → ℕ → List ℕ → Line  -- w k n v: roll call over the words w gives number k and count n, and leaves v
+  rolls : List ℕ → ℕ → ℕ → List ℕ → Line  -- w k n v: roll call over words w gives number k and count n, and leaves v
   has : (Heap → ℕ) → ℕ → Line  -- a number of the heap is as said
   spoil : (Heap → Heap) → Line  -- somebody changes the heap
 
@@ -60,7 +89,11 @@ same (x ∷ xs) (y ∷ ys) = eqb x y && same xs ys
 
 -- every line holds, each over the heap that those before it leave
 unfoldable pub runs : List Line → Heap → Bool
-unfolding inRange exact bit putBit isStart linkAt putLink live liveNumber leaveBy joinBy freshBooks noLink fromFreeblock fromListed setAnew sameClass takeAgain fromMark fromFreed fromUsable fromUnused planAsk takeFrom afterAsk askAnswer askStep emptying planBack afterBack backAnswer backStep giveOld moved resizeStep rollBlocks rollPool rollPools fitNumber shapeNumber sizeNumber roomNumber format ask giveBack resize view viewSize write rollCall link bitIn
+unfolding inRange exact bit putBit isStart linkAt putLink live liveNumber leaveBy joinBy freshBooks
+    noLink fromFreeblock fromListed setAnew sameClass takeAgain fromMark fromFreed fromUsable fromUnused
+    planAsk takeFrom afterAsk askAnswer askStep emptying planBack afterBack backAnswer backStep
+    giveOld moved resizeStep rollBlocks rollPool rollPools fitNumber shapeNumber sizeNumber roomNumber
+    format ask giveBack resize view viewSize write rollCall link bitIn
 runs [] h = true
 runs (formats A P k ∷ ls) h = answers k 0 (format h A P .answer) && runs ls (format h A P .heap)
 runs (asks n k o ∷ ls) h = answers k o (ask 8 h n .answer) && runs ls (ask 8 h n .heap)

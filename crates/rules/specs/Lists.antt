@@ -5,17 +5,31 @@ use mathlib.Core.List.{List}
 use Prim.Native.Nat.{ℕ, _+_, _*_}
 use lib.Dec.{leb}
 use Rattle.rules.specs.Say.{if_then_else_, _▷_, only}
-use Rattle.rules.specs.Books.{Heap, at, put, onBooks, classHead, arenaNext, arenaWord, poolNext, poolWord, none?, linkTo, linked}
+use Rattle.rules.specs.Books.{
+  Heap,
+  at,
+  put,
+  onBooks,
+  classHead,
+  arenaNext,
+  arenaWord,
+  poolNext,
+  poolWord,
+  none?,
+  linkTo,
+  linked,
+}
 
--- ---- member n's next and previous words, where member 0's next word is base: records are eight words long, and previous comes after next
+-- ---- member n's next and previous words, where member 0's next word is base:
+-- records are eight words long, and previous comes after next
 abbrev pub nextAt : ℕ → ℕ → ℕ
 nextAt base n = base + 8 * n
 
 abbrev pub previousAt : ℕ → ℕ → ℕ
 previousAt base n = base + 8 * n + 1
 
--- "To leave a list: the previous member's next (the head, where there is none) becomes next; the next member's previous, if any,
--- becomes previous; then own next and previous become 0." Its own two words being given
+-- "To leave a list: the previous member's next (the head, where there is none) becomes next; the next member's
+-- previous, if any, becomes previous; then own next and previous become 0." Its own two words being given
 unfoldable pub leaveBy : ℕ → ℕ → ℕ → ℕ → ℕ → List ℕ → List ℕ
 leaveBy base head next previous n b =
     b
@@ -24,7 +38,8 @@ leaveBy base head next previous n b =
     ▷ put (nextAt base n) 0
     ▷ put (previousAt base n) 0
 
--- "To join at the front: next is the old head, previous 0; the old head's previous and the head become this one." The old head being given
+-- "To join at the front: next is the old head, previous 0; the old head's previous and the head become this one."
+-- The old head being given
 unfoldable pub joinBy : ℕ → ℕ → ℕ → ℕ → List ℕ → List ℕ
 joinBy base head old n b =
     b
@@ -40,7 +55,8 @@ leave base head n b = leaveBy base head (at b (nextAt base n)) (at b (previousAt
 abbrev pub join : ℕ → ℕ → ℕ → List ℕ → List ℕ
 join base head n b = joinBy base head (at b head) n b
 
--- ---- what they ask of the words they use, links being at most `most`: leaving reads own next and previous, joining the old head
+-- ---- what they ask of the words they use, links being at most `most`:
+-- leaving reads own next and previous, joining the old head
 abbrev pub mayLeave : ℕ → ℕ → ℕ → List ℕ → Bool
 mayLeave most base n b = leb (at b (nextAt base n)) most && leb (at b (previousAt base n)) most
 

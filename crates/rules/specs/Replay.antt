@@ -11,8 +11,8 @@ use Rattle.rules.specs.Blocks.{linkAt}
 use Rattle.rules.specs.Outcome.{Outcome, passing}
 use Rattle.rules.specs.Numbers.{format, ask, giveBack, resize, blockSize, rollOf}
 
--- ---- a record: "op (1 ask, 2 give back, 3 resize), three zero bytes, size, offset, four zero bytes", low byte first: a
--- number in four bytes is read as a link is
+-- ---- a record: "op (1 ask, 2 give back, 3 resize), three zero bytes, size, offset, four zero bytes",
+-- low byte first: a number in four bytes is read as a link is
 abbrev pub opOf : List ℕ → ℕ
 opOf r = at r 0
 
@@ -43,7 +43,8 @@ pub record Replied : Type 0 where
 
 module _ (al : ℕ) where
   abbrev pub replied : ℕ → ℕ → ℕ → ℕ → Heap → Replied
-  replied op number offset size h = record { reply = replyBytes op number offset size (length (rollOf al h) / 2); heap = h }
+  replied op number offset size h =
+      record { reply = replyBytes op number offset size (length (rollOf al h) / 2); heap = h }
 
   -- "A refusal repeats the record's offset (0 for ask) and size 0": op is repeated as it came
   abbrev pub refusedRecord : List ℕ → ℕ → Heap → Replied
@@ -55,7 +56,8 @@ module _ (al : ℕ) where
       passing (x .answer .number) (λ k. refusedRecord r k (x .heap))
       (replied (opOf r) 0 (x .answer .offset) size (x .heap))
 
-  -- an ask or a resize answers a block, whose size the reply gives; a give-back's reply gives the size of the block given back
+  -- an ask or a resize answers a block, whose size the reply gives;
+  -- a give-back's reply gives the size of the block given back
   abbrev pub calledFor : List ℕ → Outcome → Replied
   calledFor r x = called r x (blockSize al (x .heap) (x .answer .offset))
 

@@ -98,7 +98,9 @@ replays =
     ∷ 0x02000000 ∷ 0x30100000 ∷ 0x10000000 ∷ 0x00000000 ∷ []))
     -- 8 of one byte and of fifteen; "Empty input writes nothing."
     ∷ turns (1 ∷ []) (bytes (0x00080000 ∷ 0x00000000 ∷ 0x00000000 ∷ 0x00000000 ∷ []))
-    ∷ turns (bytes (0x02000000 ∷ 0x00000000 ∷ 0x30000000 ∷ []) ++ (0 ∷ 0 ∷ 0 ∷ [])) (bytes (0x00080000 ∷ 0x00000000 ∷ 0x00000000 ∷ 0x00000000 ∷ []))
+    ∷ turns
+    (bytes (0x02000000 ∷ 0x00000000 ∷ 0x30000000 ∷ []) ++ (0 ∷ 0 ∷ 0 ∷ []))
+    (bytes (0x00080000 ∷ 0x00000000 ∷ 0x00000000 ∷ 0x00000000 ∷ []))
     ∷ turns [] []
     ∷ []
 
@@ -111,5 +113,7 @@ unfolding every
 computed f g k = tt
 
 -- every replay of the table, whatever memory, books and map of the right lengths held before the program's format
-pub replays-hold : (m b k : List ℕ) → length m ≡ memoryLength 1 16 → length b ≡ booksLength 1 16 → length k ≡ mapLength 1 16 → Holds m b k
+pub replays-hold : (m b k : List ℕ)
+    → length m ≡ memoryLength 1 16 → length b ≡ booksLength 1 16 → length k ≡ mapLength 1 16
+    → Holds m b k
 replays-hold = each-three Holds (memoryLength 1 16) (booksLength 1 16) (mapLength 1 16) computed

@@ -25,8 +25,8 @@ module _ (al A P : ℕ) where
   unfoldable pub giveOld : Heap → ℕ → Outcome
   giveOld h o = passing (liveNumber al A P (h .books) (h .map) o) (λ k. refused k h) (backStep al A P h o)
 
-  -- where the give-back leaves r: "if the ask is done and the give-back would then meet 5 or 6, the answer is 6 with the new offset, and the ask and copy stand";
-  -- otherwise the new offset
+  -- where the give-back leaves r: "if the ask is done and the give-back would then meet 5 or 6, the answer is 6 with
+  -- the new offset, and the ask and copy stand"; otherwise the new offset
   abbrev pub halfDone : ℕ → Outcome → Outcome
   halfDone new r = passing (r .answer .number) (λ k. outcome (answerOf 6 new) (r .heap)) (done new (r .heap))
 

@@ -21,11 +21,17 @@ tab-eq (x ∷ xs) i f e =
 pub each : (Q : List ℕ → Type 0) (n : ℕ) → ((f : ℕ → ℕ) → Q (tab n 0 f)) → (xs : List ℕ) → length xs ≡ n → Q xs
 each Q n q xs e =
     subst Q
-    (sym (ap (λ (m : ℕ). tab m 0 (λ k. getD xs k 0)) e) ∙ tab-eq xs 0 (λ k. getD xs k 0) (λ k. ap (λ (j : ℕ). getD xs j 0) (zero-add k)))
+    (sym (ap (λ (m : ℕ). tab m 0 (λ k. getD xs k 0)) e)
+    ∙ tab-eq xs 0 (λ k. getD xs k 0) (λ k. ap (λ (j : ℕ). getD xs j 0) (zero-add k)))
     (q (λ k. getD xs k 0))
 
 -- the same of three lists at once
-pub each-three : (Q : List ℕ → List ℕ → List ℕ → Type 0) (i j n : ℕ) → ((f g h : ℕ → ℕ) → Q (tab i 0 f) (tab j 0 g) (tab n 0 h))
+pub each-three : (Q : List ℕ → List ℕ → List ℕ → Type 0) (i j n : ℕ)
+    → ((f g h : ℕ → ℕ) → Q (tab i 0 f) (tab j 0 g) (tab n 0 h))
     → (xs ys zs : List ℕ) → length xs ≡ i → length ys ≡ j → length zs ≡ n → Q xs ys zs
 each-three Q i j n q xs ys zs ex ey ez =
-    each (λ x. Q x ys zs) i (λ f. each (λ y. Q (tab i 0 f) y zs) j (λ g. each (λ z. Q (tab i 0 f) (tab j 0 g) z) n (λ h. q f g h) zs ez) ys ey) xs ex
+    each (λ x. Q x ys zs) i
+    (λ f. each (λ y. Q (tab i 0 f) y zs) j
+    (λ g. each (λ z. Q (tab i 0 f) (tab j 0 g) z) n (λ h. q f g h) zs ez)
+    ys ey)
+    xs ex

@@ -1,5 +1,6 @@
-// The answers that the calls of 01 give and the paths that its steps take, for the definitions in specs/, which say what each value means. The
-// code has the answers and a new pool's path as values; the other paths stand in its contracts alone.
+// The answers that the calls of 01 give and the paths that its steps take, for the definitions in specs/, which say
+// what each value means. The code has the answers and a new pool's path as values; the other paths stand in its
+// contracts alone.
 
 // Format, ask, give back, resize and write: 01's number, and the offset that its table of numbers puts beside it.
 pub struct Answer {
@@ -26,8 +27,8 @@ pub enum Source {
     Opened(usize),
 }
 
-// The path of an ask. Its numbers are the pool's and the in-pool offsets of the block that is handed out and of the block that becomes
-// freeblock; Again has the arena's before them. Anew hands out the block at 48.
+// The path of an ask. Its numbers are the pool's and the in-pool offsets of the block that is handed out and of the
+// block that becomes freeblock; Again has the arena's before them. Anew hands out the block at 48.
 pub enum AskPlan {
     NoRoom,
     Damaged,
