@@ -1,4 +1,5 @@
--- The path of an ask from a listed pool by the tests that its functions make, of which the rules' definitions are a chain.
+-- The path of an ask from a listed pool by the tests that its functions make, of which the rules' definitions are a
+-- chain.
 -- Assumes nothing.
 use mathlib.Core.Path.{_≡_, refl}
 use mathlib.Core.Bool.{Bool, true, false, not, _&&_, _||_}
@@ -45,7 +46,8 @@ pub record Front (A P s p : ℕ) (q : Pool) (b : List ℕ) : Type 0 where
   pub start : Start s (q .freeblock)
 
 -- from the listed pool p, whose record is q, for class c, whose blocks have size s
-module _ (al A P : ℕ) (h : Heap) (c p s : ℕ) (q : Pool) (size : s ≡ sizeOf al c) (loaded : q ≡ poolAt A (h .books) p) where
+module _ (al A P : ℕ) (h : Heap) (c p s : ℕ) (q : Pool)
+    (size : s ≡ sizeOf al c) (loaded : q ≡ poolAt A (h .books) p) where
   listed-is : fromListed al A P h c p ≡ (mayServe q c s ⇛ fromFreeblock al A P h c p)
   unfolding fromListed
   listed-is =
@@ -72,7 +74,8 @@ module _ (al A P : ℕ) (h : Heap) (c p s : ℕ) (q : Pool) (size : s ≡ sizeOf
 
     -- and the link there is l
     module _ (l : ℕ) (link : l ≡ linkAt (h .memory) (offsetOf p f)) (t : mayServe q c s ≡ true) where
-      freeblock-is : fromFreeblock al A P h c p ≡ (spared h p s f ⇛ (none? l || spared h p s l) ⇛ (if none? l then noLink al A P h c p else Follow p f l))
+      freeblock-is : fromFreeblock al A P h c p
+          ≡ (spared h p s f ⇛ (none? l || spared h p s l) ⇛ (if none? l then noLink al A P h c p else Follow p f l))
       unfolding fromFreeblock
       freeblock-is = rw (link, free, loaded, size)
 
@@ -82,7 +85,8 @@ module _ (al A P : ℕ) (h : Heap) (c p s : ℕ) (q : Pool) (size : s ≡ sizeOf
       pub unlinked : spared h p s f ≡ true → l ≡ 0 → fromListed al A P h c p ≡ noLink al A P h c p
       unlinked u z = rw (listed-is, t, freeblock-is, u, eq-eqb l 0 z)
 
-      pub linked-wrong : spared h p s f ≡ true → (l ≡ 0 → ⊥) → spared h p s l ≡ false → fromListed al A P h c p ≡ Damaged
+      pub linked-wrong : spared h p s f ≡ true → (l ≡ 0 → ⊥) → spared h p s l ≡ false
+          → fromListed al A P h c p ≡ Damaged
       linked-wrong u n v = rw (listed-is, t, freeblock-is, u, ne-eqb l 0 n, v)
 
       pub follows : spared h p s f ≡ true → (l ≡ 0 → ⊥) → spared h p s l ≡ true → fromListed al A P h c p ≡ Follow p f l
@@ -91,7 +95,8 @@ module _ (al A P : ℕ) (h : Heap) (c p s : ℕ) (q : Pool) (size : s ≡ sizeOf
     -- which has no link, and its nextoffset is n
     module _ (n : ℕ) (next : n ≡ q .nextoffset) where
       no-link-is : noLink al A P h c p
-          ≡ (if leb (q .nextoffset) (q .maxnextoffset) then spared h p s n ⇛ Ready p f n else linksLead q (A * P) ⇛ Last p f)
+          ≡ (if leb (q .nextoffset) (q .maxnextoffset) then spared h p s n ⇛ Ready p f n
+          else linksLead q (A * P) ⇛ Last p f)
       unfolding noLink
       no-link-is = rw (next, free, loaded, size, pool-may-leave (A * P) A p (h .books))
 

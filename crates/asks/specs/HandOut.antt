@@ -12,7 +12,35 @@ use borrow.Author.Tests.{eq-eqb, ne-eqb, le-ltb}
 use Rattle.rules.specs.declared.Source.{Source}
 use Rattle.rules.specs.declared.Source.the-variants.{Freed, Carved, Opened}
 use Rattle.rules.specs.Say.{_▷_}
-use Rattle.rules.specs.Books.{Heap, at, put, onMemory, onMap, putMapBit, usableHead, unusedHead, classHead, openWord, carveMark, freePools, freedHead, arenaWord, arena, count, freeblock, poolNext, poolPrevious, class, noClass, nextoffset, poolWord, pool, putWord, rise, offsetOf}
+use Rattle.rules.specs.Books.{
+  Heap,
+  at,
+  put,
+  onMemory,
+  onMap,
+  putMapBit,
+  usableHead,
+  unusedHead,
+  classHead,
+  openWord,
+  carveMark,
+  freePools,
+  freedHead,
+  arenaWord,
+  arena,
+  count,
+  freeblock,
+  poolNext,
+  poolPrevious,
+  class,
+  noClass,
+  nextoffset,
+  poolWord,
+  pool,
+  putWord,
+  rise,
+  offsetOf,
+}
 use Rattle.rules.specs.Blocks.{isStart, blockNo}
 use Rattle.rules.specs.Lists.{nextAt, previousAt, leaveBy, leave, join, arenaLinks, poolLinks, arenaLeaves, arenaJoins, poolLeaves}
 use Rattle.rules.specs.Outcome.{heapOf, answerOf, outcome}
@@ -33,15 +61,18 @@ pub chain : {f g : Heap → Heap} {b b′ b″ : List ℕ} → Writes f b b′ �
 chain {g = g} first second = record { same = λ m k. second .same m k ∙ ap g (first .same m k) }
 
 -- and then a link in memory
-pub with-link : (g : List ℕ → List ℕ) (m m′ b k : List ℕ) (h : Heap) → m′ ≡ g m → heapOf m b k ≡ h → heapOf m′ b k ≡ onMemory g h
+pub with-link : (g : List ℕ → List ℕ) (m m′ b k : List ℕ) (h : Heap) → m′ ≡ g m → heapOf m b k ≡ h
+    → heapOf m′ b k ≡ onMemory g h
 with-link g m m′ b k h link left = ap (λ (x : List ℕ). heapOf x b k) link ∙ ap (onMemory g) left
 
 -- and last the bit of the block that is handed out, whose offset is the answer
 pub handed : (s p f : ℕ) (h h′ : Heap) (r : ℕ) (k : List ℕ) → 48 ≤ f → h ≡ h′ → r ≡ offsetOf p f
     → k ≡ putMapBit p (blockNo s f) 1 (h .map)
-    → outcome (answered r) (heapOf (h .memory) (h .books) k) ≡ outcome (answerOf 0 (offsetOf p f)) (onMap (putMapBit p (blockNo s f) 1) h′)
+    → outcome (answered r) (heapOf (h .memory) (h .books) k)
+    ≡ outcome (answerOf 0 (offsetOf p f)) (onMap (putMapBit p (blockNo s f) 1) h′)
 handed s p f h h′ r k low left answer set =
-    rw (answer, set, le-ltb (offsetOf p f) 48 (omega arith)) (ap (λ (x : Heap). outcome (answerOf 0 (offsetOf p f)) (onMap (putMapBit p (blockNo s f) 1) x)) left)
+    rw (answer, set, le-ltb (offsetOf p f) 48 (omega arith))
+    (ap (λ (x : Heap). outcome (answerOf 0 (offsetOf p f)) (onMap (putMapBit p (blockNo s f) 1) x)) left)
 
 -- ---- a block's start passes the test
 pub starts : (s o : ℕ) → Start s o → isStart s o ≡ true
@@ -56,12 +87,14 @@ module _ (A n : ℕ) (q t : Pool) (b b′ : List ℕ) (loaded : q ≡ poolAt A b
 
   -- a block was taken, and the one at nextoffset, i, exposed
   pub expose-writes : (i size : ℕ) → i ≡ q .nextoffset → t ≡ exposed q size
-      → Writes (λ h. h ▷ rise (poolWord A count n) ▷ putWord (poolWord A freeblock n) i ▷ putWord (poolWord A nextoffset n) (i + size)) b b′
+      → Writes (λ h. h ▷ rise (poolWord A count n) ▷ putWord (poolWord A freeblock n) i
+      ▷ putWord (poolWord A nextoffset n) (i + size)) b b′
   expose-writes i size next e =
       record { same = λ m k. rw (stored, e, next, loaded) (ap (λ (x : List ℕ). heapOf m x k) (expose-stored A n b size)) }
 
   -- the last block was taken, and then the pool left the list of class c, by the links of its record
-  pub last-writes : (c : ℕ) (b″ : List ℕ) → t ≡ taken q 0 → b″ ≡ leaveBy (poolLinks A) (classHead c) (q .next) (q .previous) n b′
+  pub last-writes : (c : ℕ) (b″ : List ℕ) → t ≡ taken q 0
+      → b″ ≡ leaveBy (poolLinks A) (classHead c) (q .next) (q .previous) n b′
       → Writes (λ h. h ▷ rise (poolWord A count n) ▷ putWord (poolWord A freeblock n) 0 ▷ poolLeaves A c n) b b″
   last-writes c b″ e left =
       record {
@@ -84,7 +117,8 @@ opened P a h =
     ▷ putWord (arenaWord freePools a) P
 
 -- leaving the unused list does not write the usable head
-pub usable-stays : (next previous a : ℕ) (b : List ℕ) → at (leaveBy arenaLinks unusedHead next previous a b) usableHead ≡ at b usableHead
+pub usable-stays : (next previous a : ℕ) (b : List ℕ)
+    → at (leaveBy arenaLinks unusedHead next previous a b) usableHead ≡ at b usableHead
 usable-stays next previous a b = leave-keeps arenaLinks unusedHead next previous a b usableHead (omega arith)
 
 -- the words of its record by which a pool is then carved
@@ -118,7 +152,8 @@ pub record Spends (A a : ℕ) (b : List ℕ) : Type 0 where
 
 -- it has, where its record is as it was but for its mark and its freed pools
 spends-still : (A P a : ℕ) (b b′ : List ℕ) → Gives A P a b
-    → ((i : ℕ) → i < arenaWord 8 a → i ≢ arenaWord carveMark a → i ≢ arenaWord freedHead a → at b′ i ≡ at b i) → Spends A a b′
+    → ((i : ℕ) → i < arenaWord 8 a → i ≢ arenaWord carveMark a → i ≢ arenaWord freedHead a → at b′ i ≡ at b i)
+    → Spends A a b′
 spends-still A P a b b′ gives same =
     let free = same (arenaWord freePools a) (omega arith) (omega arith) (omega arith) in
     let next = same (nextAt arenaLinks a) (omega arith) (omega arith) (omega arith) in
@@ -138,7 +173,8 @@ carve-keeps A P c a p h i n o =
     ∙ getD-set-other (h .books) (poolWord A class p) i noClass 0 o
 
 -- it has, once a pool was taken from its source
-take-spends : (A P c p : ℕ) (b : List ℕ) (src : Source) (m k : List ℕ) → 2 ≤ P → 72 + 8 * A ≤ length b → FitsSource A P b src p
+take-spends : (A P c p : ℕ) (b : List ℕ) (src : Source) (m k : List ℕ) → 2 ≤ P → 72 + 8 * A ≤ length b
+    → FitsSource A P b src p
     → Spends A (arenaOf 8 A P c src) (takeFrom 8 A P c src p (heapOf m b k) .books)
 unfolding takeFrom
 take-spends A P c p b (Freed a) m k some long (gives, next) =
@@ -171,7 +207,8 @@ module _ (A a : ℕ) (b : List ℕ) (inside : arenaWord freePools a < length b) 
   pub spend-stays : (P c : ℕ) → (arena b freePools a - 1 ≡ 0 → ⊥) → Writes (spend 8 A P c a) b fewer
   spend-stays P c more = record { same = λ m k. rw (free-is, ne-eqb (arena b freePools a - 1) 0 more) }
 
-  pub spend-leaves : (P c : ℕ) → arena b freePools a - 1 ≡ 0 → Writes (spend 8 A P c a) b (leave arenaLinks usableHead a fewer)
+  pub spend-leaves : (P c : ℕ) → arena b freePools a - 1 ≡ 0
+      → Writes (spend 8 A P c a) b (leave arenaLinks usableHead a fewer)
   spend-leaves P c last = record { same = λ m k. rw (free-is, eq-eqb (arena b freePools a - 1) 0 last) }
 
   -- by the links that it had

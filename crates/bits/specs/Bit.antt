@@ -1,4 +1,5 @@
--- The laws of one bit of a word: `bit w j` and `putBit w j d` of crate rules, and the machine's shift and mask, which are the same.
+-- The laws of one bit of a word: `bit w j` and `putBit w j d` of crate rules, and the machine's shift and mask, which
+-- are the same.
 -- Assumes nothing.
 use mathlib.Core.Path.{_≡_, refl, sym, ap, ap₂, _∙_}
 use Prim.Native.Nat.{ℕ, zero, suc, _+_, _-_, _*_, _/_, _%_, _^_, _≤_, _<_, min, max}

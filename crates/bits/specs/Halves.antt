@@ -1,5 +1,7 @@
--- The laws of a word that is taken apart from its lowest bit up: `w % 2` is that bit, and `w / 2` has the bits above it. The machine's counts
--- are defined so: that of trailing zeros, which is the place of the first set bit, and that of ones. Assumes nothing.
+-- The laws of a word that is taken apart from its lowest bit up: `w % 2` is that bit, and `w / 2` has the bits above
+-- it. The machine's counts are defined so: that of trailing zeros, which is the place of the first set bit, and that
+-- of ones.
+-- Assumes nothing.
 use mathlib.Core.Path.{_≡_, refl, ap, ap₂, _∙_}
 use mathlib.Core.Logic.{_⊎_, inl, inr}
 use Prim.Native.Nat.{ℕ, zero, suc, _+_, _-_, _*_, _/_, _%_, _^_, _≤_, _<_, min}

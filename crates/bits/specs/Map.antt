@@ -1,4 +1,5 @@
--- The laws of the live map: what every block's bit is after one is put. The map is a list of words, eight for each pool.
+-- The laws of the live map: what every block's bit is after one is put. The map is a list of words, eight for each
+-- pool.
 -- Assumes nothing.
 use mathlib.Core.Path.{_≡_, sym, ap, _∙_}
 use mathlib.Core.List.{List}

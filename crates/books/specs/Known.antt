@@ -78,7 +78,8 @@ size-high : (al c : ℕ) → c ≤ lastClass al → al * (c + 1) ≤ 511 + al
 size-high al c h = omega (arith, mul-add al c 1, mul-one al, mul-le-mul-left al h, mul-div-le 511 al)
 
 -- what the live test says
-pub live-is : (al A P : ℕ) (b m : List ℕ) (o : ℕ) → 8 ≤ al → al ≤ 512 → live al A P b m o ≡ true → LiveBlock al A P b m o
+pub live-is : (al A P : ℕ) (b m : List ℕ) (o : ℕ) → 8 ≤ al → al ≤ 512 → live al A P b m o ≡ true
+    → LiveBlock al A P b m o
 unfolding live
 live-is al A P b m o l h e =
     let s = sizeAt al A b o in

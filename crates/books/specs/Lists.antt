@@ -36,7 +36,8 @@ length-only : (t : Bool) (i v : ℕ) (b : List ℕ) → length (only t (put i v)
 length-only true i v b = length-set b i v
 length-only false i v b = refl
 
-pub length-leaveBy : (base head next previous n : ℕ) (b : List ℕ) → length (leaveBy base head next previous n b) ≡ length b
+pub length-leaveBy : (base head next previous n : ℕ) (b : List ℕ)
+    → length (leaveBy base head next previous n b) ≡ length b
 unfolding leaveBy
 length-leaveBy base head next previous n b = simp (length-set, length-only)
 
@@ -45,12 +46,14 @@ unfolding joinBy
 length-joinBy base head old n b = simp (length-set, length-only)
 
 -- ---- the words that they read, given
-pub leave-reads : (base head next previous n : ℕ) (b : List ℕ) → at b (nextAt base n) ≡ next → at b (previousAt base n) ≡ previous
+pub leave-reads : (base head next previous n : ℕ) (b : List ℕ) → at b (nextAt base n) ≡ next
+    → at b (previousAt base n) ≡ previous
     → leave base head n b ≡ leaveBy base head next previous n b
 leave-reads base head next previous n b e f = ap₂ (λ (x y : ℕ). leaveBy base head x y n b) e f
 
 -- the same of pool n, whose two words are those of its record
-pub pool-leaves : (A head next previous n : ℕ) (b : List ℕ) → pool A b poolNext n ≡ next → pool A b poolPrevious n ≡ previous
+pub pool-leaves : (A head next previous n : ℕ) (b : List ℕ) → pool A b poolNext n ≡ next
+    → pool A b poolPrevious n ≡ previous
     → leave (poolLinks A) head n b ≡ leaveBy (poolLinks A) head next previous n b
 pool-leaves A head next previous n b e f =
     leave-reads (poolLinks A) head next previous n b (ap (at b) (omega arith) ∙ e) (ap (at b) (omega arith) ∙ f)
@@ -70,7 +73,11 @@ neither true j x y h k = h
 neither false j x y h k = k
 
 pub leave-keeps : (base head next previous n : ℕ) (b : List ℕ) (j : ℕ)
-    → (j ≢ head) × (j ≢ nextAt base (linked previous)) × (j ≢ previousAt base (linked next)) × (j ≢ nextAt base n) × (j ≢ previousAt base n)
+    → (j ≢ head)
+    × (j ≢ nextAt base (linked previous))
+    × (j ≢ previousAt base (linked next))
+    × (j ≢ nextAt base n)
+    × (j ≢ previousAt base n)
     → at (leaveBy base head next previous n b) j ≡ at b j
 unfolding leaveBy
 leave-keeps base head next previous n b j h =

@@ -23,7 +23,8 @@ last-test (suc k) = refl
 
 -- ---- a call that is refused by its tests, and one that they let pass
 module _ (h : Heap) (rest : Outcome) where
-  pub refusal : (r : Answer) (n k : ℕ) → r ≡ answerOf n 0 → n ≡ k → (n ≡ 0 → ⊥) → outcome r h ≡ passing k (λ j. refused j h) rest
+  pub refusal : (r : Answer) (n k : ℕ) → r ≡ answerOf n 0 → n ≡ k → (n ≡ 0 → ⊥)
+      → outcome r h ≡ passing k (λ j. refused j h) rest
   refusal r n k e f g =
       ap (λ (x : Answer). outcome x h) (e ∙ ap (λ (x : ℕ). answerOf x 0) f) ∙ sym (stopped (λ j. refused j h) rest k (λ z. g (f ∙ z)))
 

@@ -88,7 +88,8 @@ taken p link =
 -- a block is taken, and the next one of the given size is exposed
 abbrev pub exposed : Pool → ℕ → Pool
 exposed p size =
-    poolOf (p .count + 1) (p .nextoffset) (p .next) (p .previous) (p .class) (p .nextoffset + size) (p .maxnextoffset) (p .spare)
+    poolOf (p .count + 1) (p .nextoffset) (p .next) (p .previous)
+    (p .class) (p .nextoffset + size) (p .maxnextoffset) (p .spare)
 
 -- the block at f is given back
 abbrev pub given : Pool → ℕ → Pool

@@ -22,13 +22,15 @@ pub record Passed (m b k : List ℕ) (o : ℕ) : Type 0 where
   pub live : LiveBlock 8 (at b 0) (at b 1) b k o
 
 -- ---- 5 and 7 come after the tests before them
-pub offset-after : (shape size offset : ℕ) → inOrder shape size offset 0 ≡ passing (inOrder shape size 0 0) (λ n. n) offset
+pub offset-after : (shape size offset : ℕ)
+    → inOrder shape size offset 0 ≡ passing (inOrder shape size 0 0) (λ n. n) offset
 offset-after zero zero zero = refl
 offset-after zero zero (suc o) = refl
 offset-after zero (suc s) o = refl
 offset-after (suc h) s o = refl
 
-pub room-after : (shape offset room : ℕ) → inOrder shape 0 offset room ≡ passing (inOrder shape 0 offset 0) (λ n. n) room
+pub room-after : (shape offset room : ℕ)
+    → inOrder shape 0 offset room ≡ passing (inOrder shape 0 offset 0) (λ n. n) room
 room-after zero zero room = refl
 room-after zero (suc o) room = refl
 room-after (suc s) o room = refl

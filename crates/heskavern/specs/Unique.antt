@@ -1,4 +1,5 @@
--- Each promise determines its call: any two answers that it allows are equal, and so is every byte and word beside them.
+-- Each promise determines its call: any two answers that it allows are equal, and so is every byte and word beside
+-- them.
 -- Assumes nothing.
 use mathlib.Core.Path.{_≡_, ap}
 use mathlib.Core.List.{List}

@@ -32,7 +32,8 @@ use Rattle.laws.specs.Step.{BytesAfter, link-after, no-bytes}
 use Rattle.laws.specs.Paths.{quiet-same, quiet-link, hand-out, Asked, asked, count-on, insideRows, insideView, inner}
 
 -- a list whose head is a link to x goes on from x
-pub front-of : {l x most : ℕ} → l ≡ suc x → x < most → (front : ℕ → AskPlan) (otherwise : AskPlan) → frontOf l most front otherwise ≡ front x
+pub front-of : {l x most : ℕ} → l ≡ suc x → x < most → (front : ℕ → AskPlan) (otherwise : AskPlan)
+    → frontOf l most front otherwise ≡ front x
 front-of {l} {x} {most} e u front otherwise = let z : suc x - 1 ≡ x = omega arith in rw (e, eqb·suc-zero x, le-leb (suc x) most u, z)
 
 -- past the last block of a pool no other fits
@@ -40,7 +41,8 @@ pub past-last : (s : ℕ) → 8 ≤ s → 4048 < s * capacity s + s
 past-last s l = omega (arith, div-add-mod' 4048 s, mod-lt 4048 {m = s} (omega arith), mul-comm s (capacity s))
 
 -- ---- pool p is the front of its class's list
-module _ {al A P p : ℕ} {h : Heap} {r : Plain} {ps : List ℕ} (L : Aligned al) (H : Held al A P h r) (lc : r .class p < 64) (lst : r .listed (r .class p) ≡ p ∷ ps) where
+module _ {al A P p : ℕ} {h : Heap} {r : Plain} {ps : List ℕ} (L : Aligned al)
+    (H : Held al A P h r) (lc : r .class p < 64) (lst : r .listed (r .class p) ≡ p ∷ ps) where
   open Held H using (view as U, books as K, says as F)
 
   abbrev c : ℕ
@@ -123,7 +125,8 @@ module _ {al A P p : ℕ} {h : Heap} {r : Plain} {ps : List ℕ} (L : Aligned al
     link = linkAt (h .memory) (offsetOf p (startOf s k))
 
     -- the tests up to that link
-    listed-first : (q : AskPlan) → (if none? link then noLink al A P h c p else Follow p (startOf s k) link) ≡ q → (none? link || spare al A P h c p link) ≡ true → planAsk al A P h c ≡ q
+    listed-first : (q : AskPlan) → (if none? link then noLink al A P h c p else Follow p (startOf s k) link) ≡ q
+        → (none? link || spare al A P h c p link) ≡ true → planAsk al A P h c ≡ q
     unfolding planAsk fromListed fromFreeblock
     listed-first q e f =
         front-of head-is lp (fromListed al A P h c) _ ∙ rw (
@@ -137,16 +140,24 @@ module _ {al A P p : ℕ} {h : Heap} {r : Plain} {ps : List ℕ} (L : Aligned al
           f,
         ) e
 
-    -- what is said after each of the three paths: ks′ is the chain then, virgins and listed are the plain heap's, and pools, homes and lists the view's
-    served : (ks′ : List ℕ) (virgins : ℕ → ℕ) (listed : ℕ → List ℕ) (pools : ℕ → ℕ → ℕ) (homes : ℕ → ℕ) (lists : ℕ → List ℕ) {m′ : List ℕ}
-        → ((y : ℕ) → y ≢ p → virgins y ≡ r .virgin y) → ((w y : ℕ) → y ≢ p → pools w y ≡ U .pool w y) → ((y : ℕ) → y ≢ p → homes y ≡ U .home y)
-        → pools 0 p ≡ pool A b 0 p + 1 → (pools 4 p ≡ U .pool 4 p) × (pools 6 p ≡ U .pool 6 p) × (pools 7 p ≡ U .pool 7 p)
-        → Blocks s p m′ (pools 1 p) (pools 5 p) (to k true (r .live p)) ks′ (virgins p) → (suc (count r p) < capacity s → 1 ≤ length ks′)
-        → homes p ≡ home al P (insideRows p k 1 ks′ virgins listed r) p → ((i : ℕ) → i < 64 → lists i ≡ listed i) → BytesAfter p (h .memory) m′
-        → Says al A P (insideView pools homes lists U) m′ (putMapBit p (blockNo s (startOf s k)) 1 (h .map)) (insideRows p k 1 ks′ virgins listed r)
+    -- what is said after each of the three paths: ks′ is the chain then, virgins and listed are the plain heap's, and
+    -- pools, homes and lists the view's
+    served : (ks′ : List ℕ) (virgins : ℕ → ℕ) (listed : ℕ → List ℕ)
+        (pools : ℕ → ℕ → ℕ) (homes : ℕ → ℕ) (lists : ℕ → List ℕ) {m′ : List ℕ}
+        → ((y : ℕ) → y ≢ p → virgins y ≡ r .virgin y) → ((w y : ℕ) → y ≢ p → pools w y ≡ U .pool w y)
+        → ((y : ℕ) → y ≢ p → homes y ≡ U .home y)
+        → pools 0 p ≡ pool A b 0 p + 1
+        → (pools 4 p ≡ U .pool 4 p) × (pools 6 p ≡ U .pool 6 p) × (pools 7 p ≡ U .pool 7 p)
+        → Blocks s p m′ (pools 1 p) (pools 5 p) (to k true (r .live p)) ks′ (virgins p)
+        → (suc (count r p) < capacity s → 1 ≤ length ks′)
+        → homes p ≡ home al P (insideRows p k 1 ks′ virgins listed r) p → ((i : ℕ) → i < 64 → lists i ≡ listed i)
+        → BytesAfter p (h .memory) m′
+        → Says al A P (insideView pools homes lists U) m′
+        (putMapBit p (blockNo s (startOf s k)) 1 (h .map)) (insideRows p k 1 ks′ virgins listed r)
     served ks′ virgins listed pools homes lists v w o e₀ e C one′ hm x M =
         rw (number-is s k (omega (arith, s-low)))
-        (inner L F lp k 1 (omega (arith, k-low, cap-high)) (omega arith) (counts .0) (omega (arith, count-after)) ks′ virgins listed pools homes lists v w (e .2) o x M
+        (inner L F lp k 1 (omega (arith, k-low, cap-high)) (omega arith) (counts .0)
+        (omega (arith, count-after)) ks′ virgins listed pools homes lists v w (e .2) o x M
         (record {
           count-is = e₀ ∙ omega (arith, count-is, count-after);
           class-is = e .0 ∙ F .pools p lp .class-is;
@@ -157,8 +168,10 @@ module _ {al A P p : ℕ} {h : Heap} {r : Plain} {ps : List ℕ} (L : Aligned al
         }))
 
     -- a pool with spare blocks left stays on its list
-    stays-home : (ks′ : List ℕ) (virgins : ℕ → ℕ) → suc (count r p) < capacity s → U .home p ≡ home al P (insideRows p k 1 ks′ virgins (r .listed) r) p
-    stays-home ks′ virgins l = member .is ∙ sym (home-listed al P (insideRows p k 1 ks′ virgins (r .listed) r) p (omega (arith, count-after)) (omega (arith, count-after)))
+    stays-home : (ks′ : List ℕ) (virgins : ℕ → ℕ) → suc (count r p) < capacity s
+        → U .home p ≡ home al P (insideRows p k 1 ks′ virgins (r .listed) r) p
+    stays-home ks′ virgins l =
+        member .is ∙ sym (home-listed al P (insideRows p k 1 ks′ virgins (r .listed) r) p (omega (arith, count-after)) (omega (arith, count-after)))
 
     -- ---- "the block at freeblock is the answer, freeblock becomes its link"
     ask-follow : (j : ℕ) (js : List ℕ) → ks ≡ j ∷ js → Asked al A P h r c
@@ -195,7 +208,8 @@ module _ {al A P p : ℕ} {h : Heap} {r : Plain} {ps : List ℕ} (L : Aligned al
 
         F′ : Says al A P U′ (h .memory) (h′ .map) r′
         F′ =
-            served (j ∷ js) (r .virgin) (r .listed) (U′ .pool) (U .home) (U .listed) (λ y d. refl) (λ w y d. rw (ne-eqb y p d)) (λ y d. refl) (rw (eq-eqb p p refl))
+            served (j ∷ js) (r .virgin) (r .listed) (U′ .pool) (U .home) (U .listed)
+            (λ y d. refl) (λ w y d. rw (ne-eqb y p d)) (λ y d. refl) (rw (eq-eqb p p refl))
             (rw (eq-eqb p p refl) (refl, refl, refl)) (rw (eq-eqb p p refl, ← link-is) (rw more at (taken k B))) (λ _. omega arith)
             (stays-home (j ∷ js) (r .virgin) (omega (arith, room-is, ap length more, B .fits))) (F .lists .listed) (no-bytes p (h .memory))
 
@@ -210,12 +224,14 @@ module _ {al A P p : ℕ} {h : Heap} {r : Plain} {ps : List ℕ} (L : Aligned al
       handed : Blocks s p (h .memory) 0 (U .pool 5 p) (to k true (r .live p)) [] (r .virgin p)
       handed = rw no-more at (rw none at (taken k B))
 
-      -- ---- "If that is 0 and nextoffset ≤ maxnextoffset, freeblock becomes nextoffset, .. and the link in the new freeblock is written 0"
+      -- ---- "If that is 0 and nextoffset ≤ maxnextoffset, freeblock becomes nextoffset, .. and the link in the new
+      -- freeblock is written 0"
       ask-ready : r .virgin p < capacity s → Asked al A P h r c
       unfolding afterAsk noLink askAnswer
       ask-ready more =
           asked (Ready p (startOf s k) (startOf s v)) r′
-          (listed-first _ (rw (no-more, next-is, maxnextoffset-is, free-is, le-leb (startOf s v) (lastStart s) (omega (arith, ends)), spare-is v more v-dead)) (rw no-more))
+          (listed-first _ (rw (no-more, next-is, maxnextoffset-is, free-is, le-leb (startOf s v) (lastStart s) (omega (arith, ends)), spare-is v more v-dead))
+          (rw no-more))
           (rw (lst, chn, none, lt-ltb (r .virgin p) (capacity s) more)) (rw chn)
           (sound {h = h′} L K′ F′) (quiet-link L F′ p v 0 (I .class-low) more still-dead) (λ _. hand-out p k lp k-low refl k-dead refl refl)
         where
@@ -241,23 +257,35 @@ module _ {al A P p : ℕ} {h : Heap} {r : Plain} {ps : List ℕ} (L : Aligned al
           U′ = U ▷ poolTo 0 p (pool A b 0 p + 1) ▷ poolTo 1 p (startOf s (r .virgin p)) ▷ poolTo 5 p (startOf s (r .virgin p) + s)
 
           K′ : Books A (A * P) (h′ .books) U′
-          K′ = put-pool (put-pool (put-pool K 0 p (pool A b 0 p + 1) (omega arith) lp) 1 p (startOf s (r .virgin p)) (omega arith) lp) 5 p (startOf s (r .virgin p) + s) (omega arith) lp
+          K′ =
+              put-pool (put-pool (put-pool K 0 p (pool A b 0 p + 1) (omega arith) lp) 1 p (startOf s (r .virgin p)) (omega arith) lp) 5 p
+              (startOf s (r .virgin p) + s) (omega arith) lp
 
-          readied : Blocks s p (h′ .memory) (startOf s (r .virgin p)) (startOf s (r .virgin p) + s) (to k true (r .live p)) (r .virgin p ∷ []) (r .virgin p + 1)
+          readied : Blocks s p (h′ .memory) (startOf s (r .virgin p)) (startOf s (r .virgin p) + s)
+              (to k true (r .live p)) (r .virgin p ∷ []) (r .virgin p + 1)
           readied = extended (rw (I .blocks .next-is) at handed) (omega (arith, s-low)) (omega (arith, F .bytes, lp)) more
 
           F′ : Says al A P U′ (h′ .memory) (h′ .map) r′
           F′ =
-              served (r .virgin p ∷ []) (r′ .virgin) (r .listed) (U′ .pool) (U .home) (U .listed) (λ y d. rw (ne-eqb y p d)) (λ w y d. rw (ne-eqb y p d)) (λ y d. refl) (rw (eq-eqb p p refl))
+              served (r .virgin p ∷ []) (r′ .virgin) (r .listed) (U′ .pool) (U .home) (U .listed)
+              (λ y d. rw (ne-eqb y p d)) (λ w y d. rw (ne-eqb y p d)) (λ y d. refl) (rw (eq-eqb p p refl))
               (rw (eq-eqb p p refl) (refl, refl, refl)) (rw (eq-eqb p p refl) readied) (λ _. omega arith)
-              (stays-home (r .virgin p ∷ []) (r′ .virgin) (omega (arith, full-room))) (F .lists .listed) (link-after (h .memory) p (startOf s (r .virgin p)) 0 (omega (arith, ends, s-low)))
+              (stays-home (r .virgin p ∷ []) (r′ .virgin) (omega (arith, full-room))) (F .lists .listed)
+              (link-after (h .memory) p (startOf s (r .virgin p)) 0 (omega (arith, ends, s-low)))
 
       -- ---- "If it is 0 and there is no such room, the pool is full: it leaves the list"
       ask-last : capacity s ≤ r .virgin p → Asked al A P h r c
       unfolding afterAsk noLink askAnswer
       ask-last full =
           asked (Last p (startOf s k)) r′
-          (listed-first _ (rw (no-more, next-is, maxnextoffset-is, free-is, lt-leb (startOf s (r .virgin p)) (lastStart s) past, pool-may-leave K c p lc lp (member .is))) (rw no-more))
+          (listed-first _ (rw (
+            no-more,
+            next-is,
+            maxnextoffset-is,
+            free-is,
+            lt-leb (startOf s (r .virgin p)) (lastStart s) past,
+            pool-may-leave K c p lc lp (member .is),
+          )) (rw no-more))
           (rw (lst, chn, none, le-ltb (r .virgin p) (capacity s) full)) (rw chn)
           (sound {h = h′} L K′ F′) (quiet-same {r = r′}) (λ _. hand-out p k lp k-low refl k-dead refl refl)
         where
@@ -281,8 +309,10 @@ module _ {al A P p : ℕ} {h : Heap} {r : Plain} {ps : List ℕ} (L : Aligned al
 
           F′ : Says al A P U′ (h .memory) (h′ .map) r′
           F′ =
-              served [] (r .virgin) (r′ .listed) (U′ .pool) (U′ .home) (U′ .listed) (λ y d. refl) (λ w y d. rw (ne-eqb y p d)) (λ y d. rw (ne-eqb y p d)) (rw (eq-eqb p p refl))
-              (rw (eq-eqb p p refl) (refl, refl, refl)) (rw (eq-eqb p p refl) handed) (λ z. absurd (omega (arith, full-room))) (rw (eq-eqb p p refl) (sym full-home))
+              served [] (r .virgin) (r′ .listed) (U′ .pool) (U′ .home) (U′ .listed) (λ y d. refl)
+              (λ w y d. rw (ne-eqb y p d)) (λ y d. rw (ne-eqb y p d)) (rw (eq-eqb p p refl))
+              (rw (eq-eqb p p refl) (refl, refl, refl)) (rw (eq-eqb p p refl) handed)
+              (λ z. absurd (omega (arith, full-room))) (rw (eq-eqb p p refl) (sym full-home))
               (λ i l. to-cong c (U .listed) (r .listed) (ap (erase p) (F .lists .listed c lc)) i (F .lists .listed i l)) (no-bytes p (h .memory))
 
   -- one of the three
@@ -299,8 +329,10 @@ module _ {al A P p : ℕ} {h : Heap} {r : Plain} {ps : List ℕ} (L : Aligned al
           end (no q) = ask-last k [] e refl (omega arith)
 
 -- ---- every ask that finds its class list not empty
-pub ask-listed : {al A P c p : ℕ} {h : Heap} {r : Plain} {ps : List ℕ} → Aligned al → Sound al A P h r → c < 64 → r .listed c ≡ p ∷ ps → Asked al A P h r c
-ask-listed {al} {A} {P} {c} {p} {h} {r} {ps} L S lc lst = subst (λ (x : ℕ). Asked al A P h r x) is-c (ask-front L (held S) (rw is-c lc) (ap (r .listed) is-c ∙ lst))
+pub ask-listed : {al A P c p : ℕ} {h : Heap} {r : Plain} {ps : List ℕ} → Aligned al → Sound al A P h r → c < 64
+    → r .listed c ≡ p ∷ ps → Asked al A P h r c
+ask-listed {al} {A} {P} {c} {p} {h} {r} {ps} L S lc lst =
+    subst (λ (x : ℕ). Asked al A P h r x) is-c (ask-front L (held S) (rw is-c lc) (ap (r .listed) is-c ∙ lst))
   where
     is-c : r .class p ≡ c
     is-c = listed-is al P r p c ((rw lst at (S .rule6 .listed .members c lc)) .0 .is) lc .2

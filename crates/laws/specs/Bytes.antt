@@ -1,4 +1,5 @@
--- Parts of memory: what lies outside one, their length, when two are equal, and what a text or a byte that is written makes of one.
+-- Parts of memory: what lies outside one, their length, when two are equal, and what a text or a byte that is written
+-- makes of one.
 -- Assumes nothing.
 use mathlib.Core.Path.{_≡_, refl, sym, ap, _∙_}
 use mathlib.Core.Logic.{_⊎_, inl, inr}
@@ -6,7 +7,21 @@ use mathlib.Core.List.{List, [], _∷_, _++_, append-assoc}
 use Prim.Native.Nat.{ℕ, suc, _+_, _-_, _≤_, _<_}
 use native.Mathlib.Omega.{arith}
 use lib.ListN.{length, set, take, drop, length-drop}
-use lib.Seq.{sets, sets-eq, ext-getD, getD-take, getD-drop, drop-at, take-add, take-append-add, drop-drop, drop-set-add, take-set-lt, getD-set-other, length-take-le}
+use lib.Seq.{
+  sets,
+  sets-eq,
+  ext-getD,
+  getD-take,
+  getD-drop,
+  drop-at,
+  take-add,
+  take-append-add,
+  drop-drop,
+  drop-set-add,
+  take-set-lt,
+  getD-set-other,
+  length-take-le,
+}
 use Rattle.rules.specs.Books.{at}
 use Rattle.rules.specs.View.{part}
 
@@ -31,14 +46,16 @@ pub part-long : (m : List ℕ) (o s : ℕ) → o + s ≤ length m → length (pa
 part-long m o s l = length-take-le s (drop o m) (omega (arith, length-drop o m))
 
 -- two parts are equal where their bytes are
-pub part-same : (m m′ : List ℕ) (o s : ℕ) → length m′ ≡ length m → o + s ≤ length m → ((d : ℕ) → d < s → at m′ (o + d) ≡ at m (o + d)) → part o s m′ ≡ part o s m
+pub part-same : (m m′ : List ℕ) (o s : ℕ) → length m′ ≡ length m → o + s ≤ length m
+    → ((d : ℕ) → d < s → at m′ (o + d) ≡ at m (o + d)) → part o s m′ ≡ part o s m
 part-same m m′ o s e l f =
     ext-getD 0 (part o s m′) (part o s m) (part-long m′ o s (rw e l) ∙ sym (part-long m o s l))
     (λ i u. let v : i < s = rw (part-long m′ o s (rw e l)) at u in
     getD-take s (drop o m′) i 0 v ∙ getD-drop o m′ i 0 ∙ f i v ∙ sym (getD-take s (drop o m) i 0 v ∙ getD-drop o m i 0))
 
 -- the bytes of a part after a text, or one byte, is written in it
-pub text-part : (m text : List ℕ) (o s : ℕ) → length text ≤ s → o + s ≤ length m → part o s (sets m o text) ≡ text ++ drop (length text) (part o s m)
+pub text-part : (m text : List ℕ) (o s : ℕ) → length text ≤ s → o + s ≤ length m
+    → part o s (sets m o text) ≡ text ++ drop (length text) (part o s m)
 text-part m text o s l f =
     let e : s ≡ length text + (s - length text) = omega arith in
     let g : length (take (length text) (drop o m)) ≡ length text = length-take-le (length text) (drop o m) (omega (arith, length-drop o m)) in

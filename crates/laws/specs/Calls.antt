@@ -38,13 +38,39 @@ use Rattle.rules.specs.Numbers.{
 use Rattle.books.specs.Known.{shaped}
 use Rattle.books.specs.Tests.{either}
 use Rattle.laws.specs.Update.{to}
-use Rattle.laws.specs.Plain.{Plain, count, free, none, front, rest, planAsk as plainAsk, planBack as plainBack, afterBack as plainAfterBack, fromListed, askPlain, backPlain}
+use Rattle.laws.specs.Plain.{
+  Plain,
+  count,
+  free,
+  none,
+  front,
+  rest,
+  planAsk as plainAsk,
+  planBack as plainBack,
+  afterBack as plainAfterBack,
+  fromListed,
+  askPlain,
+  backPlain,
+}
 use Rattle.laws.specs.Sizes.{Aligned, has-class}
 use Rattle.laws.specs.Sound.{Sound}
 use Rattle.laws.specs.Paths.{Asked, Backed}
 use Rattle.laws.specs.Emptied.{back-any}
 use Rattle.laws.specs.Sources.{ask-any}
-use Rattle.laws.specs.Holding.{LiveAt, liveSize, live-rows, pool-is, start-at, class-is, holding, holding-new, holding-others, holding-gone, holding-kept, Leaves}
+use Rattle.laws.specs.Holding.{
+  LiveAt,
+  liveSize,
+  live-rows,
+  pool-is,
+  start-at,
+  class-is,
+  holding,
+  holding-new,
+  holding-others,
+  holding-gone,
+  holding-kept,
+  Leaves,
+}
 
 -- rule 1: no 1 or 2
 pub shape-zero : {al A P : ℕ} {h : Heap} {r : Plain} → Sound al A P h r → shapeNumber h ≡ 0
@@ -90,14 +116,16 @@ pub done-or-not : (al P : ℕ) (r : Plain) (c : ℕ) → DoneOrNot al P r c
 unfolding askAnswer
 done-or-not al P r c = by-class (r .listed c) refl
   where
-    done : (t : Bool) (x y : AskPlan) → askAnswer x .number ≡ 0 → askAnswer y .number ≡ 0 → askAnswer (if t then x else y) .number ≡ 0
+    done : (t : Bool) (x y : AskPlan) → askAnswer x .number ≡ 0 → askAnswer y .number ≡ 0
+        → askAnswer (if t then x else y) .number ≡ 0
     done t x y e f = either (λ (q : AskPlan). askAnswer q .number ≡ 0) t x y (λ _. e) (λ _. f)
 
     by-unused : r .listed c ≡ [] → r .usable ≡ [] → (xs : List ℕ) → r .unused ≡ xs → DoneOrNot al P r c
     by-unused f g [] k = inr (record { plan-is = rw (f, g, k); listed = f; usable = g; unused = k })
     by-unused f g (a ∷ xs) k = inl (rw (f, g, k))
 
-    by-freed : (a : ℕ) (us : List ℕ) → r .listed c ≡ [] → r .usable ≡ a ∷ us → (xs : List ℕ) → r .freed a ≡ xs → DoneOrNot al P r c
+    by-freed : (a : ℕ) (us : List ℕ) → r .listed c ≡ [] → r .usable ≡ a ∷ us → (xs : List ℕ) → r .freed a ≡ xs
+        → DoneOrNot al P r c
     by-freed a us f g [] k = inl (rw (f, g, k))
     by-freed a us f g (p ∷ ps) k = inl (rw (f, g, k) (done (eqb (r .class p) c) _ _ refl refl))
 
@@ -124,14 +152,17 @@ module _ {al A P : ℕ} {h : Heap} {r : Plain} (L : Aligned al) (S : Sound al A 
     ask-done = ask-any L S (classOf al n) (has-class L n high)
 
     -- an ask answers number and offset as the plain heap does
-    pub ask-is : ask al h n ≡ outcome (askAnswer (plainAsk al P r (classOf al n))) (afterAsk al A P (classOf al n) (plainAsk al P r (classOf al n)) h)
+    pub ask-is : ask al h n
+        ≡ outcome (askAnswer (plainAsk al P r (classOf al n)))
+        (afterAsk al A P (classOf al n) (plainAsk al P r (classOf al n)) h)
     unfolding ask askStep sizeNumber
     ask-is = rw (shape-zero S, le-leb 1 n low, le-leb n 512 high, S .rule1 .arenas-are, S .rule1 .pools-are, ask-done .plan-is)
 
     -- an ask that is done adds the block at its offset, with the bytes that stand there
     pub ask-leaves : askAnswer (plainAsk al P r (classOf al n)) .number ≡ 0
         → Leaves al A P h (ask al h n .heap) (askPlain al P r n)
-        (to (ask al h n .answer .offset) (part (ask al h n .answer .offset) (sizeOf al (classOf al n)) (ask al h n .heap .memory)) (holding al A P h))
+        (to (ask al h n .answer .offset)
+        (part (ask al h n .answer .offset) (sizeOf al (classOf al n)) (ask al h n .heap .memory)) (holding al A P h))
     ask-leaves z = rw ask-is (record { sound = ask-done .sound; holds = λ o. go o (ℕ-discrete o new); first = ask-done .quiet .first-bytes })
       where
         new : ℕ
@@ -140,7 +171,8 @@ module _ {al A P : ℕ} {h : Heap} {r : Plain} (L : Aligned al) (S : Sound al A 
         h′ : Heap
         h′ = afterAsk al A P (classOf al n) (plainAsk al P r (classOf al n)) h
 
-        go : (o : ℕ) → Dec (o ≡ new) → holding al A P h′ o ≡ to new (part new (sizeOf al (classOf al n)) (h′ .memory)) (holding al A P h) o
+        go : (o : ℕ) → Dec (o ≡ new)
+            → holding al A P h′ o ≡ to new (part new (sizeOf al (classOf al n)) (h′ .memory)) (holding al A P h) o
         go o (yes q) = rw (eq-eqb o new q, q) (holding-new L S (ask-done .sound) (ask-done .quiet) (has-class L n high) (ask-done .hand z))
         go o (no q) = rw (ne-eqb o new q) (holding-others L S (ask-done .sound) (ask-done .quiet) (has-class L n high) (ask-done .hand z) o q)
 
@@ -157,14 +189,20 @@ size-number n = go (leb 1 n) (leb n 512) refl refl
 -- ---- give back
 -- every path of the plain heap is done, turns the block off and leaves the classes
 plain-back : (P : ℕ) (r : Plain) (p j o : ℕ)
-    → (backAnswer o (plainBack P r p j) ≡ answerOf 0 o) × (backPlain P r p j .live ≡ to p (to j false (r .live p)) (r .live)) × (backPlain P r p j .class ≡ r .class)
+    → (backAnswer o (plainBack P r p j) ≡ answerOf 0 o)
+    × (backPlain P r p j .live ≡ to p (to j false (r .live p)) (r .live))
+    × (backPlain P r p j .class ≡ r .class)
 unfolding backAnswer
 plain-back P r p j o = go (none (r .chain p)) (eqb (count r p) 1) (eqb (free P r (p / P) + 1) P) (eqb (free P r (p / P)) 0)
   where
     Q : BackPlan → Type 0
-    Q q = (backAnswer o q ≡ answerOf 0 o) × (plainAfterBack P r p j q .live ≡ to p (to j false (r .live p)) (r .live)) × (plainAfterBack P r p j q .class ≡ r .class)
+    Q q =
+        (backAnswer o q ≡ answerOf 0 o)
+        × (plainAfterBack P r p j q .live ≡ to p (to j false (r .live p)) (r .live))
+        × (plainAfterBack P r p j q .class ≡ r .class)
 
-    go : (t u v w : Bool) → Q (if t then Joins else (if u then (if v then Releases else (if w then Returns else Empties)) else Stays))
+    go : (t u v w : Bool)
+        → Q (if t then Joins else (if u then (if v then Releases else (if w then Returns else Empties)) else Stays))
     go true u v w = (refl, refl, refl)
     go false false v w = (refl, refl, refl)
     go false true true w = (refl, refl, refl)
@@ -185,7 +223,9 @@ module _ {al A P : ℕ} {h : Heap} {r : Plain} (L : Aligned al) (S : Sound al A 
 
     -- what it leaves
     abbrev backHeap : Heap
-    backHeap = afterBack al A P (r .class (block-of .pool)) (block-of .pool) (startOf (liveSize block-of) (block-of .block)) (plainBack P r (block-of .pool) (block-of .block)) h
+    backHeap =
+        afterBack al A P (r .class (block-of .pool)) (block-of .pool)
+        (startOf (liveSize block-of) (block-of .block)) (plainBack P r (block-of .pool) (block-of .block)) h
 
     pub back-is : giveBack al h o ≡ outcome (answerOf 0 o) backHeap
     unfolding giveBack backStep liveNumber
@@ -203,7 +243,8 @@ module _ {al A P : ℕ} {h : Heap} {r : Plain} (L : Aligned al) (S : Sound al A 
         )
 
     -- a give-back takes the block at its offset away
-    pub back-leaves : Leaves al A P h (giveBack al h o .heap) (backPlain P r (block-of .pool) (block-of .block)) (to o [] (holding al A P h))
+    pub back-leaves : Leaves al A P h (giveBack al h o .heap)
+        (backPlain P r (block-of .pool) (block-of .block)) (to o [] (holding al A P h))
     back-leaves = rw back-is (record { sound = back-done .sound; holds = λ x. go x (ℕ-discrete x o); first = back-done .quiet .first-bytes })
       where
         go : (x : ℕ) → Dec (x ≡ o) → holding al A P backHeap x ≡ to o [] (holding al A P h) x

@@ -1,4 +1,5 @@
--- The blocks of one pool: its freed chain in memory, and what taking, giving back and setting ready a block leave of it. Once for every block size.
+-- The blocks of one pool: its freed chain in memory, and what taking, giving back and setting ready a block leave of
+-- it. Once for every block size.
 -- Assumes nothing.
 use mathlib.Core.Path.{_≡_, refl, sym, ap, _∙_}
 use mathlib.Core.Logic.{_≢_, inl, inr}
@@ -21,7 +22,8 @@ use Rattle.laws.specs.Counting.{many-same, many-more, many-all, many-cut
 use Rattle.laws.specs.Bytes.{Outside, outside-less, Clear, clear-outside}
 
 -- ---- the four bytes of a link
-four : (v : ℕ) → v < 4294967296 → v % 256 + v / 256 % 256 * 256 + v / 65536 % 256 * 65536 + v / 16777216 % 256 * 16777216 ≡ v
+four : (v : ℕ) → v < 4294967296
+    → v % 256 + v / 256 % 256 * 256 + v / 65536 % 256 * 65536 + v / 16777216 % 256 * 16777216 ≡ v
 four v h = rw (← div-div-eq-div-mul v 256 256, ← div-div-eq-div-mul v 65536 256, ← div-div-eq-div-mul v 256 256) (omega arith)
 
 -- a link that is put is read again, and the other bytes stand
@@ -68,18 +70,22 @@ blocks-apart s n j k d = go (decLt j k)
     go (yes l) = inl (omega (arith, mul-le-mul-right s l, suc-mul j s))
     go (no l) = let m : suc k ≤ j = omega arith in inr (omega (arith, mul-le-mul-right s m, suc-mul k s))
 
--- nor do two blocks that lie in their pools, unless they are one: block j of pool p and block k of pool n, where `size` says the block size of each pool
-module _ (size : ℕ → ℕ) (p j n k : ℕ) (other : p ≡ n → j ≢ k) (e : startOf (size p) j + size p ≤ 4096) (f : startOf (size n) k + size n ≤ 4096) where
+-- nor do two blocks that lie in their pools, unless they are one: block j of pool p and block k of pool n, where
+-- `size` says the block size of each pool
+module _ (size : ℕ → ℕ) (p j n k : ℕ) (other : p ≡ n → j ≢ k)
+    (e : startOf (size p) j + size p ≤ 4096) (f : startOf (size n) k + size n ≤ 4096) where
   pub pools-apart : Clear (offsetOf p (startOf (size p) j)) (size p) (offsetOf n (startOf (size n) k)) (size n)
   pools-apart = go (ℕ-discrete p n) (decLe p n)
     where
-      go : Dec (p ≡ n) → Dec (p ≤ n) → Clear (offsetOf p (startOf (size p) j)) (size p) (offsetOf n (startOf (size n) k)) (size n)
+      go : Dec (p ≡ n) → Dec (p ≤ n)
+          → Clear (offsetOf p (startOf (size p) j)) (size p) (offsetOf n (startOf (size n) k)) (size n)
       go (yes q) l = rw q (blocks-apart (size n) n j k (other q))
       go (no q) (yes l) = inl (omega arith)
       go (no q) (no l) = inr (omega arith)
 
   -- byte d of the second is none of the first
-  pub block-outside : (d : ℕ) → d < size n → Outside (offsetOf p (startOf (size p) j)) (size p) (offsetOf n (startOf (size n) k) + d)
+  pub block-outside : (d : ℕ) → d < size n
+      → Outside (offsetOf p (startOf (size p) j)) (size p) (offsetOf n (startOf (size n) k) + d)
   block-outside d l = clear-outside (offsetOf p (startOf (size p) j)) (size p) (offsetOf n (startOf (size n) k)) (size n) d pools-apart l
 
 -- the first 48 bytes of a pool are outside of what begins past them and ends in its pool
@@ -112,13 +118,14 @@ abbrev pub Chained : ℕ → ℕ → List ℕ → ℕ → List ℕ → Type 0
 Chained s n m l [] = l ≡ 0
 Chained s n m l (k ∷ ks) = (l ≡ startOf s k) × Chained s n m (linkAt m (offsetOf n (startOf s k))) ks
 
-chained-same : (s n l : ℕ) (m m′ ks : List ℕ) → All (λ k. linkAt m′ (offsetOf n (startOf s k)) ≡ linkAt m (offsetOf n (startOf s k))) ks
+chained-same : (s n l : ℕ) (m m′ ks : List ℕ)
+    → All (λ k. linkAt m′ (offsetOf n (startOf s k)) ≡ linkAt m (offsetOf n (startOf s k))) ks
     → Chained s n m l ks → Chained s n m′ l ks
 chained-same s n l m m′ [] a w = w
 chained-same s n l m m′ (k ∷ ks) a w = (w .0, rw (a .0) (chained-same s n (linkAt m (offsetOf n (startOf s k))) m m′ ks (a .1) (w .1)))
 
--- ---- W-201's rule 8, of a carved pool of blocks of size s: "nextoffset a block start or the last block's end, each block in exactly one of live,
--- freed chain and virgin, once"
+-- ---- W-201's rule 8, of a carved pool of blocks of size s: "nextoffset a block start or the last block's end, each
+-- block in exactly one of live, freed chain and virgin, once"
 pub record Blocks (s n : ℕ) (m : List ℕ) (free next : ℕ) (live : ℕ → Bool) (chain : List ℕ) (virgin : ℕ) : Type 0 where
   pub next-is : next ≡ startOf s virgin
   pub fits : virgin ≤ capacity s
@@ -129,7 +136,8 @@ pub record Blocks (s n : ℕ) (m : List ℕ) (free next : ℕ) (live : ℕ → B
   pub rest : (k : ℕ) → virgin ≤ k → live k ≡ false
 
 -- every block below the virgin ones is live or on the chain, so the two counts are together their number
-room-of : (chain : List ℕ) (v : ℕ) → Once chain → All (λ k. k < v) chain → howMany (λ k. not (among k chain)) v + length chain ≡ v
+room-of : (chain : List ℕ) (v : ℕ) → Once chain → All (λ k. k < v) chain
+    → howMany (λ k. not (among k chain)) v + length chain ≡ v
 room-of [] v o b = omega (arith, many-all (λ k. true) v (λ k l. refl))
 room-of (x ∷ xs) v o b =
     omega (
@@ -139,7 +147,8 @@ room-of (x ∷ xs) v o b =
       room-of xs v (o .1) (b .1),
     )
 
-module _ {s n : ℕ} {m : List ℕ} {free next : ℕ} {live : ℕ → Bool} {chain : List ℕ} {virgin : ℕ} (B : Blocks s n m free next live chain virgin) where
+module _ {s n : ℕ} {m : List ℕ} {free next : ℕ} {live : ℕ → Bool} {chain : List ℕ}
+    {virgin : ℕ} (B : Blocks s n m free next live chain virgin) where
   pub room : capacity s ≤ 512 → howMany live 512 + length chain ≡ virgin
   room c =
       omega (
@@ -157,7 +166,8 @@ module _ {s n : ℕ} {m : List ℕ} {free next : ℕ} {live : ℕ → Bool} {cha
   live-off k e = not-among k chain (not-true (among k chain) (sym (B .either k (live-below k e)) ∙ e))
 
   -- memory may change wherever the chain's links do not lie
-  pub framed : (m′ : List ℕ) → All (λ k. linkAt m′ (offsetOf n (startOf s k)) ≡ linkAt m (offsetOf n (startOf s k))) chain
+  pub framed : (m′ : List ℕ)
+      → All (λ k. linkAt m′ (offsetOf n (startOf s k)) ≡ linkAt m (offsetOf n (startOf s k))) chain
       → Blocks s n m′ free next live chain virgin
   framed m′ f =
       record {
@@ -171,15 +181,18 @@ module _ {s n : ℕ} {m : List ℕ} {free next : ℕ} {live : ℕ → Bool} {cha
       }
 
   -- only the bytes of the first four of block k may differ, where k is not on the chain
-  written : (m′ : List ℕ) (k : ℕ) → 4 ≤ s → Not k chain → ((i : ℕ) → Outside (offsetOf n (startOf s k)) 4 i → at m′ i ≡ at m i)
+  written : (m′ : List ℕ) (k : ℕ) → 4 ≤ s → Not k chain
+      → ((i : ℕ) → Outside (offsetOf n (startOf s k)) 4 i → at m′ i ≡ at m i)
       → Blocks s n m′ free next live chain virgin
   written m′ k l d same =
       framed m′ (all-map {R = λ j. linkAt m′ (offsetOf n (startOf s j)) ≡ linkAt m (offsetOf n (startOf s j))}
       (λ j (q : k ≢ j). link-bytes m m′ (offsetOf n (startOf s j))
-      (λ d u. same (offsetOf n (startOf s j) + d) (outside-less l (clear-outside (offsetOf n (startOf s k)) s (offsetOf n (startOf s j)) s d (blocks-apart s n k j q) (omega arith))))) chain d)
+      (λ d u. same (offsetOf n (startOf s j) + d)
+      (outside-less l (clear-outside (offsetOf n (startOf s k)) s (offsetOf n (startOf s j)) s d (blocks-apart s n k j q) (omega arith))))) chain d)
 
 -- ---- the front of the chain is taken
-pub taken : {s n : ℕ} {m : List ℕ} {free next : ℕ} {live : ℕ → Bool} {ks : List ℕ} {virgin : ℕ} (k : ℕ) → Blocks s n m free next live (k ∷ ks) virgin
+pub taken : {s n : ℕ} {m : List ℕ} {free next : ℕ} {live : ℕ → Bool} {ks : List ℕ} {virgin : ℕ} (k : ℕ)
+    → Blocks s n m free next live (k ∷ ks) virgin
     → Blocks s n m (linkAt m (offsetOf n (startOf s k))) next (to k true live) ks virgin
 taken {s} {n} {m} {free} {next} {live} {ks} {virgin} k B =
     record {
@@ -197,14 +210,19 @@ taken {s} {n} {m} {free} {next} {live} {ks} {virgin} k B =
     either′ j l (no q) = to-other k true live j q ∙ B .either j l ∙ rw (ne-eqb j k q)
 
 -- ---- a live block comes back, with the old front as its link
-pub given : {s n : ℕ} {m : List ℕ} {free next : ℕ} {live : ℕ → Bool} {ks : List ℕ} {virgin : ℕ} (k : ℕ) → Blocks s n m free next live ks virgin
+pub given : {s n : ℕ} {m : List ℕ} {free next : ℕ} {live : ℕ → Bool} {ks : List ℕ} {virgin : ℕ} (k : ℕ)
+    → Blocks s n m free next live ks virgin
     → 4 ≤ s → 4096 * n + 4096 ≤ length m → live k ≡ true
     → Blocks s n (putLink (offsetOf n (startOf s k)) free m) (startOf s k) next (to k false live) (k ∷ ks) virgin
 given {s} {n} {m} {free} {next} {live} {ks} {virgin} k B l f on =
     record {
       next-is = B .next-is;
       fits = B .fits;
-      chained = (refl, rw (link-same m (offsetOf n (startOf s k)) free (omega (arith, block-ends s k virgin (live-below B k on) (B .fits))) (small ks (B .chained) (B .below))) (C .chained));
+      chained = (
+        refl,
+        rw (link-same m (offsetOf n (startOf s k)) free (omega (arith, block-ends s k virgin (live-below B k on) (B .fits)))
+            (small ks (B .chained) (B .below))) (C .chained),
+      );
       once = (live-off B k on, B .once);
       below = (live-below B k on, B .below);
       either = λ j u. either′ j u (ℕ-discrete j k);
@@ -230,7 +248,10 @@ extended {s} {n} {m} {next} {live} {virgin} B l f less =
     record {
       next-is = omega (arith, B .next-is, suc-mul virgin s, ap (λ (x : ℕ). x * s) step);
       fits = omega arith;
-      chained = (B .next-is, rw (← B .next-is) (link-same m (offsetOf n next) 0 (omega (arith, B .next-is, block-ends s virgin (suc virgin) (omega arith) less)) (omega arith)));
+      chained = (
+        B .next-is,
+        rw (← B .next-is) (link-same m (offsetOf n next) 0 (omega (arith, B .next-is, block-ends s virgin (suc virgin) (omega arith) less)) (omega arith)),
+      );
       once = (tt, tt);
       below = (omega arith, tt);
       either = λ j u. either′ j u (ℕ-discrete j virgin);
@@ -245,7 +266,8 @@ extended {s} {n} {m} {next} {live} {virgin} B l f less =
     either′ j u (no q) = B .either j (omega arith) ∙ rw (ne-eqb j virgin q)
 
 -- ---- a pool that is just set to a class: block 0 is live, block 1 is the chain
-pub anew : (s n : ℕ) (m : List ℕ) (live : ℕ → Bool) → 4 ≤ s → s ≤ 2024 → 4096 * n + 4096 ≤ length m → ((k : ℕ) → live k ≡ false)
+pub anew : (s n : ℕ) (m : List ℕ) (live : ℕ → Bool) → 4 ≤ s → s ≤ 2024 → 4096 * n + 4096 ≤ length m
+    → ((k : ℕ) → live k ≡ false)
     → Blocks s n (putLink (offsetOf n (48 + s)) 0 m) (48 + s) (48 + 2 * s) (to 0 true live) (1 ∷ []) 2
 anew s n m live l h f dead =
     record {

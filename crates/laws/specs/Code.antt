@@ -1,5 +1,5 @@
--- A run of the public functions of crate heap, each call keeping its promise, is a history: its buffers and numbers are those of the rules' run. So the
--- theorems speak of the running code.
+-- A run of the public functions of crate heap, each call keeping its promise, is a history: its buffers and numbers
+-- are those of the rules' run. So the theorems speak of the running code.
 -- Assumes nothing.
 use mathlib.Core.Path.{_≡_, refl, sym, ap, ap₂, _∙_, subst}
 use mathlib.Core.Logic.{_≢_}
@@ -47,8 +47,9 @@ use Rattle.laws.specs.Theorems.{begun, end, no-six, view-shows, entries,
 abbrev pub state : Ledger → Heap → State
 state l h = record { heap = h; ledger = l }
 
--- the call of event e, over the buffers of h, answered number k and left the buffers of g: that it kept its promise, which
--- has here the name that its contract in crate heap uses. View answers no number, and a holder writes its byte itself
+-- the call of event e, over the buffers of h, answered number k and left the buffers of g: that it kept its promise,
+-- which has here the name that its contract in crate heap uses. View answers no number, and a holder writes its byte
+-- itself
 abbrev pub Kept : Ledger → Heap → Event → ℕ → Heap → Type 0
 Kept l h (formats A P) k g = (r : Answer) × (r .number ≡ k) × FormatPromise h g A P r
 Kept l h (asks n) k g = (r : Answer) × (r .number ≡ k) × AskPromise h g n r
@@ -60,7 +61,8 @@ Kept l h (writes o text) k g = (r : Answer) × (r .number ≡ k) × WritePromise
 Kept l h (rolls words) k g = (r : Rolled) × (v : List ℕ) × (r .number ≡ k) × RollCallPromise h g words v r
 Kept l h (pokes o d v) k g = (0 ≡ k) × (g ≡ after 8 (state l h) (pokes o d v) .heap)
 
--- a run: the events, the numbers answered, and the buffers at the end; each call finds the buffers that the one before it left
+-- a run: the events, the numbers answered, and the buffers at the end; each call finds the buffers that the one
+-- before it left
 pub data Ran : Ledger → Heap → List Event → List ℕ → Heap → Type 0 where
   none : {l : Ledger} {h : Heap} → Ran l h [] [] h
   next : {l : Ledger} {h g end : Heap} {e : Event} {es : List Event} {k : ℕ} {ks : List ℕ}
@@ -72,10 +74,12 @@ numbers x [] = []
 numbers x (e ∷ es) = numberOf 8 x e ∷ numbers (after 8 x e) es
 
 -- ---- one event
-answered : (x : Outcome) (r : Answer) (g : Heap) (k : ℕ) → r .number ≡ k → outcome r g ≡ x → (k ≡ x .answer .number) × (x .heap ≡ g)
+answered : (x : Outcome) (r : Answer) (g : Heap) (k : ℕ) → r .number ≡ k → outcome r g ≡ x
+    → (k ≡ x .answer .number) × (x .heap ≡ g)
 answered x r g k e f = (sym e ∙ ap (λ (o : Outcome). o .answer .number) f, sym (ap (λ (o : Outcome). o .heap) f))
 
-kept-is : (l : Ledger) (h : Heap) (e : Event) (k : ℕ) (g : Heap) → Kept l h e k g → (k ≡ numberOf 8 (state l h) e) × (after 8 (state l h) e .heap ≡ g)
+kept-is : (l : Ledger) (h : Heap) (e : Event) (k : ℕ) (g : Heap) → Kept l h e k g
+    → (k ≡ numberOf 8 (state l h) e) × (after 8 (state l h) e .heap ≡ g)
 unfolding numberOf after
 kept-is l h (formats A P) k g t = answered (format h A P) (t .0) g k (t .1) (t .2)
 kept-is l h (asks n) k g t = answered (ask 8 h n) (t .0) g k (t .1) (t .2)
@@ -89,7 +93,8 @@ kept-is l h (rolls words) k g t =
 kept-is l h (pokes o d v) k g t = (sym (t .0), sym (t .1))
 
 -- ---- the whole run
-pub ran-is : {l : Ledger} {h : Heap} {es : List Event} {ks : List ℕ} {end : Heap} → Ran l h es ks end → (end ≡ run 8 (state l h) es .heap) × (ks ≡ numbers (state l h) es)
+pub ran-is : {l : Ledger} {h : Heap} {es : List Event} {ks : List ℕ} {end : Heap} → Ran l h es ks end
+    → (end ≡ run 8 (state l h) es .heap) × (ks ≡ numbers (state l h) es)
 unfolding run numbers
 ran-is none = (refl, refl)
 ran-is {l} {h} (next {g = g} {e = e} {es = es} {k = k} t rest) =
@@ -147,14 +152,16 @@ module _ (h : Heap) (A P : ℕ) (ok : format h A P .answer .number ≡ 0) (es : 
   pub ran-no-six : Sixless ks
   ran-no-six = subst Sixless (sym (ran-is ran .1)) (sixless (begun h A P) es (no-six eight h A P ok es))
 
-  -- a roll call with room for it lists the ledger of the calls: offset and size of each block that is held, and how many
-  -- there are
+  -- a roll call with room for it lists the ledger of the calls: offset and size of each block that is held, and how
+  -- many there are
   pub ran-roll : {left : Heap} (words v : List ℕ) (r : Rolled)
       → RollCallPromise g left words v r → length (entries eight h A P ok es) ≤ length words
       → (r ≡ rolledOf 0 (entryCount eight h A P ok es))
       × (v ≡ entries eight h A P ok es ++ drop (length (entries eight h A P ok es)) words)
   ran-roll words v r kept room =
-      let e = ap (λ (x : RollOutcome × Heap). x .0) kept ∙ ap (λ (x : Heap). rollCall 8 x words) (ran-is ran .0) ∙ roll-with-room eight h A P ok es words room in
+      let e = ap (λ (x : RollOutcome × Heap). x .0) kept
+      ∙ ap (λ (x : Heap). rollCall 8 x words) (ran-is ran .0)
+      ∙ roll-with-room eight h A P ok es words room in
       (ap (λ (x : RollOutcome). x .answer) e, ap (λ (x : RollOutcome). x .words) e)
 
   -- and a view shows the ledger of the calls: the bytes of the block that is held there, or none

@@ -1,4 +1,5 @@
--- The laws of counting: `howMany test n` where the test changes at one number, and where it passes everywhere or nowhere.
+-- The laws of counting: `howMany test n` where the test changes at one number, and where it passes everywhere or
+-- nowhere.
 -- Assumes nothing.
 use mathlib.Core.Path.{_≡_, refl, sym, ap, _∙_}
 use mathlib.Core.Logic.{_≢_}
@@ -24,12 +25,14 @@ many-same f g zero e = refl
 many-same f g (suc n) e = rw (e n (omega arith), many-same f g n (λ k l. e k (omega arith)))
 
 -- one more passes
-pub many-more : (f g : ℕ → Bool) (x n : ℕ) → x < n → f x ≡ false → g x ≡ true → ((k : ℕ) → k ≢ x → g k ≡ f k) → howMany g n ≡ suc (howMany f n)
+pub many-more : (f g : ℕ → Bool) (x n : ℕ) → x < n → f x ≡ false → g x ≡ true → ((k : ℕ) → k ≢ x → g k ≡ f k)
+    → howMany g n ≡ suc (howMany f n)
 unfolding howMany
 many-more f g x zero l p q s = absurd (omega arith)
 many-more f g x (suc n) l p q s = go (ℕ-discrete n x) (λ h. many-more f g x n h p q s)
   where
-    go : Dec (n ≡ x) → (x < n → howMany g n ≡ suc (howMany f n)) → one (g n) + howMany g n ≡ suc (one (f n) + howMany f n)
+    go : Dec (n ≡ x) → (x < n → howMany g n ≡ suc (howMany f n))
+        → one (g n) + howMany g n ≡ suc (one (f n) + howMany f n)
     go (yes e) h = rw (e, p, q) (omega (arith, rw e at (many-same f g n (λ k m. s k (omega arith)))))
     go (no d) h = rw (s n d, h (omega arith)) (omega arith)
 

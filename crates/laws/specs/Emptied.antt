@@ -1,4 +1,5 @@
--- Give back the last live block of a pool: its arena keeps its place, becomes usable, or is released. And so every give-back of a live block.
+-- Give back the last live block of a pool: its arena keeps its place, becomes usable, or is released. And so every
+-- give-back of a live block.
 -- Assumes nothing.
 use mathlib.Core.Path.{_≡_, refl, sym, ap, _∙_, subst}
 use mathlib.Core.Logic.{_≢_, inr}
@@ -24,23 +25,79 @@ use Rattle.books.specs.Known.{in-range}
 use Rattle.laws.specs.Update.{to, to-same, to-other, to-cong}
 use Rattle.laws.specs.Sequences.{erase}
 use Rattle.laws.specs.Families.{head-link, stack-link}
-use Rattle.laws.specs.Books.{View, Books, put-arena, pool-may-leave, pool-leaves, freed-comes, freed-cleared, arena-may-leave, arena-leaves, arena-joins, arenaTo, homeTo, baseTo, listedTo, freedTo, arenasTo, freedNone}
+use Rattle.laws.specs.Books.{
+  View,
+  Books,
+  put-arena,
+  pool-may-leave,
+  pool-leaves,
+  freed-comes,
+  freed-cleared,
+  arena-may-leave,
+  arena-leaves,
+  arena-joins,
+  arenaTo,
+  homeTo,
+  baseTo,
+  listedTo,
+  freedTo,
+  arenasTo,
+  freedNone,
+}
 use Rattle.laws.specs.Plain.{Plain, count, inUse, carved, free, setChain, setLive, setListed, setFreed, setUsable, setUnused, setMark}
 use Rattle.laws.specs.Counting.{many-more, many-le, all-many, none-many}
 use Rattle.laws.specs.Sizes.{Aligned, capacity-high, capacity-low}
 use Rattle.laws.specs.Chains.{Blocks, live-below}
 use Rattle.laws.specs.Sound.{home, Sound}
-use Rattle.laws.specs.Held.{Says, Held, held, sound, in-class, freed-is, use-class, arena-low, home-listed, home-freed, home-away, base-usable, base-spent, base-unused}
+use Rattle.laws.specs.Held.{
+  Says,
+  Held,
+  held,
+  sound,
+  in-class,
+  freed-is,
+  use-class,
+  arena-low,
+  home-listed,
+  home-freed,
+  home-away,
+  base-usable,
+  base-spent,
+  base-unused,
+}
 use Rattle.laws.specs.Step.{Aside, HomesAfter, count-same, home-same, homes-same, stepped}
 use Rattle.laws.specs.Paths.{quiet-link, Backed, backed}
-use Rattle.laws.specs.GiveBack.{Given, I, s-low, c-low, j-low, j-small, some, count-is, free-is, tested, b₂, m₂, U₂, K₂, bytes₂, count₂, count-after, dead-after, in-class₂, back-stays, back-joins}
+use Rattle.laws.specs.GiveBack.{
+  Given,
+  I,
+  s-low,
+  c-low,
+  j-low,
+  j-small,
+  some,
+  count-is,
+  free-is,
+  tested,
+  b₂,
+  m₂,
+  U₂,
+  K₂,
+  bytes₂,
+  count₂,
+  count-after,
+  dead-after,
+  in-class₂,
+  back-stays,
+  back-joins,
+}
 
 -- a word that is put as it stands
 pub put-zero : (b : List ℕ) (i : ℕ) → at b i ≡ 0 → put i 0 b ≡ b
 put-zero b i e = ap (λ (x : ℕ). put i x b) (sym e) ∙ set-getD b i 0
 
 -- ---- block j is the last live one of pool p, which has a spare one
-module _ {al A P p j i : ℕ} {h : Heap} {r : Plain} {is : List ℕ} (G : Given al A P h r p j) (chn : r .chain p ≡ i ∷ is) (last : count r p ≡ 1) where
+module _ {al A P p j i : ℕ} {h : Heap} {r : Plain} {is : List ℕ}
+    (G : Given al A P h r p j) (chn : r .chain p ≡ i ∷ is) (last : count r p ≡ 1) where
   open Given G using (aligned as L, inside as lp, on)
   open Held (G .held) using (view as U, books as K, says as F)
 
@@ -92,7 +149,8 @@ module _ {al A P p j i : ℕ} {h : Heap} {r : Plain} {is : List ℕ} (G : Given 
     where
       go : Dec (512 ≤ x) → gone .live p x ≡ false
       go (yes q) =
-          rw (eq-eqb p p refl) (to-other j false (r .live p) x (omega (arith, j-small G)) ∙ I G .blocks .rest x (omega (arith, I G .blocks .fits, capacity-high L c (I G .class-low))))
+          rw (eq-eqb p p refl) (to-other j false (r .live p) x (omega (arith, j-small G))
+          ∙ I G .blocks .rest x (omega (arith, I G .blocks .fits, capacity-high L c (I G .class-low))))
       go (no q) = none-many (gone .live p) 512 now-none x (omega arith)
 
   one-more : free P gone a ≡ suc (free P r a)
@@ -128,18 +186,23 @@ module _ {al A P p j i : ℕ} {h : Heap} {r : Plain} {is : List ℕ} (G : Given 
       ) e)
 
   -- ---- ".. it leaves its class list and goes to the front of its arena's freed pools, .. and free pools rises by 1."
-  -- b₃ are the books once it has left, b₄ once it is among the freed, b₅ with the free pools; U₄ and U₅ are what they say
+  -- b₃ are the books once it has left, b₄ once it is among the freed, b₅ with the free pools; U₄ and U₅ are what they
+  -- say
   abbrev b₃ : List ℕ
   b₃ = leave (poolLinks A) (classHead c) p (b₂ G)
 
   abbrev b₄ : List ℕ
-  b₄ = b₃ ▷ put (poolWord A 2 p) (at b₃ (arenaWord freedHead a)) ▷ put (poolWord A 3 p) 0 ▷ put (arenaWord freedHead a) (p + 1)
+  b₄ =
+      b₃ ▷ put (poolWord A 2 p) (at b₃ (arenaWord freedHead a)) ▷ put (poolWord A 3 p) 0
+      ▷ put (arenaWord freedHead a) (p + 1)
 
   abbrev b₅ : List ℕ
   b₅ = put (arenaWord 2 a) (at b₄ (arenaWord 2 a) + 1) b₄
 
   abbrev U₄ : View
-  U₄ = U₂ G ▷ homeTo p 0 ▷ listedTo c (erase p (U .listed c)) ▷ homeTo p (arenaWord freedHead a) ▷ freedTo a (p ∷ U .freed a)
+  U₄ =
+      U₂ G ▷ homeTo p 0 ▷ listedTo c (erase p (U .listed c)) ▷ homeTo p (arenaWord freedHead a)
+      ▷ freedTo a (p ∷ U .freed a)
 
   abbrev U₅ : View
   U₅ = U₄ ▷ arenaTo 2 a (at b₄ (arenaWord 2 a) + 1)
@@ -165,10 +228,22 @@ module _ {al A P p j i : ℕ} {h : Heap} {r : Plain} {is : List ℕ} (G : Given 
 
   -- ---- the arena stays open: the plain heap with the usable arenas us
   abbrev emptied : List ℕ → Plain
-  emptied us = r ▷ setChain p (j ∷ r .chain p) ▷ setLive p j false ▷ setListed c (erase p (r .listed c)) ▷ setFreed a (p ∷ r .freed a) ▷ setUsable us
+  emptied us =
+      r ▷ setChain p (j ∷ r .chain p) ▷ setLive p j false ▷ setListed c (erase p (r .listed c))
+      ▷ setFreed a (p ∷ r .freed a) ▷ setUsable us
 
-  open-says : (us : List ℕ) (bases : ℕ → ℕ) (arenas : ℕ → List ℕ) → ((x : ℕ) → x ≢ a → bases x ≡ U .base x) → bases a ≡ 2 → arenas 2 ≡ us → arenas 3 ≡ r .unused
-      → Says al A P (record { head = U .head; pool = U₅ .pool; arena = U₅ .arena; home = U₅ .home; base = bases; listed = U₅ .listed; freed = U₅ .freed; arenas = arenas })
+  open-says : (us : List ℕ) (bases : ℕ → ℕ) (arenas : ℕ → List ℕ) → ((x : ℕ) → x ≢ a → bases x ≡ U .base x)
+      → bases a ≡ 2 → arenas 2 ≡ us → arenas 3 ≡ r .unused
+      → Says al A P (record {
+        head = U .head;
+        pool = U₅ .pool;
+        arena = U₅ .arena;
+        home = U₅ .home;
+        base = bases;
+        listed = U₅ .listed;
+        freed = U₅ .freed;
+        arenas = arenas;
+      })
       (m₂ G) (putMapBit p (blockNo (sizeOf al c) f) 0 (h .map)) (emptied us)
   open-says us bases arenas o base-a usable unused =
       rw (number-is (sizeOf al c) j (omega (arith, s-low G)))
@@ -214,7 +289,9 @@ module _ {al A P p j i : ℕ} {h : Heap} {r : Plain} {is : List ℕ} (G : Given 
       h′ = afterBack al A P c p f Empties h
 
       F′ : Says al A P U₅ (m₂ G) (h′ .map) (emptied (r .usable))
-      F′ = open-says (r .usable) (U .base) (U .arenas) (λ x d. refl) (F .arenas a la .base-is ∙ base-usable P r a marked not-none) (F .lists .usable) (F .lists .unused)
+      F′ =
+          open-says (r .usable) (U .base) (U .arenas) (λ x d. refl)
+          (F .arenas a la .base-is ∙ base-usable P r a marked not-none) (F .lists .usable) (F .lists .unused)
 
   -- ---- "If free pools is now 1, the arena joins the usable list at the front."
   back-returns : free P r a ≡ 0 → Backed al A P h r p j
@@ -239,12 +316,17 @@ module _ {al A P p j i : ℕ} {h : Heap} {r : Plain} {is : List ℕ} (G : Given 
           open-says (a ∷ r .usable) (U₆ .base) (U₆ .arenas) (λ x d. rw (ne-eqb x a d)) (rw (eq-eqb a a refl))
           (ap (λ (xs : List ℕ). a ∷ xs) (F .lists .usable)) (F .lists .unused)
 
-  -- ---- "If free pools is now P, the arena leaves the usable list, its record becomes 0 except that it joins the unused list at the front"
+  -- ---- "If free pools is now P, the arena leaves the usable list, its record becomes 0 except that it joins the
+  -- unused list at the front"
   back-releases : free P r a + 1 ≡ P → Backed al A P h r p j
   unfolding afterBack
   back-releases all =
       backed Releases r′
-      (emptying-is Releases (rw (eq-eqb (free P r a + 1) P all, arena-may-leave K 2 a (omega arith) la usable-a, le-leb (at b unusedHead) A (head-link (K .lists) 3 (omega arith)))))
+      (emptying-is Releases (rw (
+        eq-eqb (free P r a + 1) P all,
+        arena-may-leave K 2 a (omega arith) la usable-a,
+        le-leb (at b unusedHead) A (head-link (K .lists) 3 (omega arith)),
+      )))
       (rw (chn, last, eq-eqb (free P r a + 1) P all)) refl
       (sound {h = h′} L K₈ F′) (quiet-link L F′ p j (pool A b freeblock p) (I G .class-low) (j-low G) (dead-after G))
     where
@@ -276,7 +358,8 @@ module _ {al A P p j i : ℕ} {h : Heap} {r : Plain} {is : List ℕ} (G : Given 
 
       last-words : (w : ℕ) → 6 ≤ w → w < 8 → at b₇ (arenaWord w a) ≡ 0
       last-words w u v =
-          K₇ .arenas w a (omega arith) la ∙ rw (eq-eqb a a refl, ne-eqb w 0 (omega arith), ne-eqb w 1 (omega arith), ne-eqb w 2 (omega arith)) (F .arena-zeros w a u v la)
+          K₇ .arenas w a (omega arith) la
+          ∙ rw (eq-eqb a a refl, ne-eqb w 0 (omega arith), ne-eqb w 1 (omega arith), ne-eqb w 2 (omega arith)) (F .arena-zeros w a u v la)
 
       zeroed : sets (leave arenaLinks usableHead a b₅) (arenaWord 0 a) (replicate 8 0) ≡ b₇
       zeroed =
@@ -298,7 +381,9 @@ module _ {al A P p j i : ℕ} {h : Heap} {r : Plain} {is : List ℕ} (G : Given 
       U₈ = U₇ ▷ baseTo a 3 ▷ arenasTo 3 (a ∷ U .arenas 3)
 
       K₈ : Books A (A * P) (h′ .books) U₈
-      K₈ = subst (λ (x : List ℕ). Books A (A * P) (join arenaLinks unusedHead a x) U₈) (sym zeroed) (arena-joins K₇ 3 a (omega arith) la (to-same a 0 (U .base) a refl))
+      K₈ =
+          subst (λ (x : List ℕ). Books A (A * P) (join arenaLinks unusedHead a x) U₈)
+          (sym zeroed) (arena-joins K₇ 3 a (omega arith) la (to-same a 0 (U .base) a refl))
 
       -- every pool of the arena is free, and none is carved
       idle : (y : ℕ) → y / P ≡ a → count gone y ≡ 0
@@ -339,13 +424,20 @@ module _ {al A P p j i : ℕ} {h : Heap} {r : Plain} {is : List ℕ} (G : Given 
           carve y e (yes q) = absurd (true≢false (sym e ∙ uncarved y q))
           carve y e (no q) = sym (carved-other y q) ∙ e
 
-          keep : (y x : ℕ) → y < A * P → y ≢ p → r .live y x ≡ true → carved P r y ≡ true → Dec (y / P ≡ a) → carved P r′ y ≡ true
+          keep : (y x : ℕ) → y < A * P → y ≢ p → r .live y x ≡ true → carved P r y ≡ true → Dec (y / P ≡ a)
+              → carved P r′ y ≡ true
           keep y x l d o e (no q) = carved-other y q ∙ e
           keep y x l d o e (yes q) =
               let D = in-class L F y x l o in
-              absurd (true≢false (sym o ∙ none-many (r .live y) 512 (idle-before y d q) x (omega (arith, live-below (D .blocks) x o, D .blocks .fits, capacity-high L (r .class y) (D .class-low)))))
+              absurd (true≢false (sym o ∙ none-many (r .live y) 512 (idle-before y d q) x (omega (
+                arith,
+                live-below (D .blocks) x o,
+                D .blocks .fits,
+                capacity-high L (r .class y) (D .class-low),
+              ))))
 
-          stay : (y : ℕ) → y < A * P → y ≢ p → Dec (y / P ≡ a) → Dec (U .home y ≡ arenaWord freedHead a) → U₈ .home y ≡ home al P r′ y
+          stay : (y : ℕ) → y < A * P → y ≢ p → Dec (y / P ≡ a) → Dec (U .home y ≡ arenaWord freedHead a)
+              → U₈ .home y ≡ home al P r′ y
           stay y l d (yes q) (yes t) = rw (home₅ y d, eq-eqb (U .home y) (arenaWord freedHead a) t) (sym (home-away al P r′ y (idle y q) (uncarved y q)))
           stay y l d (yes q) (no t) =
               rw (home₅ y d, ne-eqb (U .home y) (arenaWord freedHead a) t)
@@ -356,7 +448,8 @@ module _ {al A P p j i : ℕ} {h : Heap} {r : Plain} {is : List ℕ} (G : Given 
               was-away false e = home-away al P r y (idle-before y d q) e
           stay y l d (no q) (yes t) = absurd (q (freed-is al P r y a (sym (F .pools y l .home-is) ∙ t) (use-class L K F y l) .2))
           stay y l d (no q) (no t) =
-              rw (home₅ y d, ne-eqb (U .home y) (arenaWord freedHead a) t) (F .pools y l .home-is ∙ sym (home-same r r′ al P y (T .lives y d) refl (carved-other y q)))
+              rw (home₅ y d, ne-eqb (U .home y) (arenaWord freedHead a) t)
+              (F .pools y l .home-is ∙ sym (home-same r r′ al P y (T .lives y d) refl (carved-other y q)))
 
       F′ : Says al A P U₈ (m₂ G) (h′ .map) r′
       F′ =
@@ -393,13 +486,16 @@ module _ {al A P p j i : ℕ} {h : Heap} {r : Plain} {is : List ℕ} (G : Given 
           homes′ (bytes₂ G) j 0 (j-small G) (omega arith) refl)
 
 -- ---- every give-back of a live block
-pub back-any : {al A P : ℕ} {h : Heap} {r : Plain} → Aligned al → Sound al A P h r → (p j : ℕ) → p < A * P → r .live p j ≡ true → Backed al A P h r p j
-back-any {al} {A} {P} {h} {r} L S p j l on = go (r .chain p) refl (ℕ-discrete (count r p) 1) (ℕ-discrete (free P r (p / P) + 1) P) (ℕ-discrete (free P r (p / P)) 0)
+pub back-any : {al A P : ℕ} {h : Heap} {r : Plain} → Aligned al → Sound al A P h r → (p j : ℕ) → p < A * P
+    → r .live p j ≡ true → Backed al A P h r p j
+back-any {al} {A} {P} {h} {r} L S p j l on =
+    go (r .chain p) refl (ℕ-discrete (count r p) 1) (ℕ-discrete (free P r (p / P) + 1) P) (ℕ-discrete (free P r (p / P)) 0)
   where
     G : Given al A P h r p j
     G = record { aligned = L; held = held S; inside = l; on = on }
 
-    go : (xs : List ℕ) → r .chain p ≡ xs → Dec (count r p ≡ 1) → Dec (free P r (p / P) + 1 ≡ P) → Dec (free P r (p / P) ≡ 0) → Backed al A P h r p j
+    go : (xs : List ℕ) → r .chain p ≡ xs → Dec (count r p ≡ 1) → Dec (free P r (p / P) + 1 ≡ P)
+        → Dec (free P r (p / P) ≡ 0) → Backed al A P h r p j
     go [] e d t u = back-joins G e
     go (i ∷ is) e (no d) t u = back-stays G i is e (omega (arith, some G))
     go (i ∷ is) e (yes d) (yes t) u = back-releases G e d t

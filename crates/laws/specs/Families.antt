@@ -1,5 +1,5 @@
--- A family of lists over one kind of record. Each record has at most one home, the head word of the list that it belongs to, so the lists have no member in common. What joining,
--- leaving and writes elsewhere leave of a family.
+-- A family of lists over one kind of record. Each record has at most one home, the head word of the list that it
+-- belongs to, so the lists have no member in common. What joining, leaving and writes elsewhere leave of a family.
 -- Assumes nothing.
 use mathlib.Core.Path.{_≡_, refl, sym, ap, _∙_}
 use mathlib.Core.Logic.{_≢_, Ne·symm as flip, inl, inr}
@@ -10,8 +10,42 @@ use native.Mathlib.Omega.{arith}
 use lib.ListN.{length}
 use Rattle.rules.specs.Books.{at}
 use Rattle.laws.specs.Update.{to, to-same, to-other}
-use Rattle.laws.specs.Sequences.{All, Not, Once, In, Seg, erase, Split, split, erase-is, in-drop, once-gone, all-drop, all-map, all-two, head-in, next-in, prev-in}
-use Rattle.laws.specs.Linked.{Doubly, Singly, Stack, Lay, joined, left, join-in, leave-in, join-strange, leave-strange, joined-other, left-other, LinksSame, doubly-same, singly-same}
+use Rattle.laws.specs.Sequences.{
+  All,
+  Not,
+  Once,
+  In,
+  Seg,
+  erase,
+  Split,
+  split,
+  erase-is,
+  in-drop,
+  once-gone,
+  all-drop,
+  all-map,
+  all-two,
+  head-in,
+  next-in,
+  prev-in,
+}
+use Rattle.laws.specs.Linked.{
+  Doubly,
+  Singly,
+  Stack,
+  Lay,
+  joined,
+  left,
+  join-in,
+  leave-in,
+  join-strange,
+  leave-strange,
+  joined-other,
+  left-other,
+  LinksSame,
+  doubly-same,
+  singly-same,
+}
 
 -- record y is one of N, and its home is h
 pub record At (N : ℕ) (home : ℕ → ℕ) (h y : ℕ) : Type 0 where
@@ -19,12 +53,14 @@ pub record At (N : ℕ) (home : ℕ → ℕ) (h y : ℕ) : Type 0 where
   pub is : home y ≡ h
 
 -- list i, for i of the kind H, has its head at `place i`. `Meets h xs` says that the list with the head h holds xs
-pub record Family (Meets : ℕ → List ℕ → Type 0) (H : ℕ → Type 0) (place : ℕ → ℕ) (N : ℕ) (home : ℕ → ℕ) (rows : ℕ → List ℕ) : Type 0 where
+pub record Family (Meets : ℕ → List ℕ → Type 0) (H : ℕ → Type 0)
+    (place : ℕ → ℕ) (N : ℕ) (home : ℕ → ℕ) (rows : ℕ → List ℕ) : Type 0 where
   pub row : (i : ℕ) → H i → Meets (place i) (rows i)
   pub members : (i : ℕ) → H i → All (At N home (place i)) (rows i)
   pub all : (i : ℕ) → H i → (y : ℕ) → y < N → home y ≡ place i → In y (rows i)
 
-module _ {Meets : ℕ → List ℕ → Type 0} {H : ℕ → Type 0} {place : ℕ → ℕ} {N : ℕ} {home : ℕ → ℕ} {rows : ℕ → List ℕ} (F : Family Meets H place N home rows) where
+module _ {Meets : ℕ → List ℕ → Type 0} {H : ℕ → Type 0} {place : ℕ → ℕ} {N : ℕ}
+    {home : ℕ → ℕ} {rows : ℕ → List ℕ} (F : Family Meets H place N home rows) where
   -- a record with another home is no member
   pub stranger : (i y : ℕ) → H i → home y ≢ place i → Not y (rows i)
   stranger i y k n = all-map {R = λ z. y ≢ z} (λ z (t : At N home (place i) z) e. n (ap home e ∙ t .is)) (rows i) (F .members i k)
@@ -33,7 +69,8 @@ module _ {Meets : ℕ → List ℕ → Type 0} {H : ℕ → Type 0} {place : ℕ
   inside i k = all-map {R = λ y. y < N} (λ y (t : At N home (place i) y). t .low) (rows i) (F .members i k)
 
   -- list i has other members: x comes or goes
-  module _ (Meets′ : ℕ → List ℕ → Type 0) {rows′ : ℕ → List ℕ} (i x : ℕ) (k : H i) (l : x < N) (others : (j : ℕ) → j ≢ i → rows′ j ≡ rows j)
+  module _ (Meets′ : ℕ → List ℕ → Type 0) {rows′ : ℕ → List ℕ} (i x : ℕ)
+      (k : H i) (l : x < N) (others : (j : ℕ) → j ≢ i → rows′ j ≡ rows j)
       (new : Meets′ (place i) (rows′ i)) (old : (j : ℕ) → H j → j ≢ i → Meets′ (place j) (rows j)) where
     row-after : (j : ℕ) → H j → Dec (j ≡ i) → Meets′ (place j) (rows′ j)
     row-after j h (yes q) = rw q new
@@ -56,17 +93,20 @@ module _ {Meets : ℕ → List ℕ → Type 0} {H : ℕ → Type 0} {place : ℕ
         }
       where
         members′ : (j : ℕ) → H j → Dec (j ≡ i) → All (At N (to x (place i) home) (place j)) (rows′ j)
-        members′ j h (yes q) = rw (q, r) (record { low = l; is = to-same x (place i) home x refl }, kept (place i) i (rows i) (stranger i x k (out i k)) (F .members i k))
+        members′ j h (yes q) =
+            rw (q, r) (record { low = l; is = to-same x (place i) home x refl }, kept (place i) i (rows i) (stranger i x k (out i k)) (F .members i k))
         members′ j h (no q) = rw (others j q) (kept (place i) j (rows j) (stranger j x h (out j h)) (F .members j h))
 
-        all′ : (j : ℕ) → H j → (y : ℕ) → y < N → to x (place i) home y ≡ place j → Dec (y ≡ x) → Dec (j ≡ i) → In y (rows′ j)
+        all′ : (j : ℕ) → H j → (y : ℕ) → y < N → to x (place i) home y ≡ place j → Dec (y ≡ x) → Dec (j ≡ i)
+            → In y (rows′ j)
         all′ j h y m e (yes p) (yes q) = rw (q, r) (inl p)
         all′ j h y m e (yes p) (no q) = absurd (q (one j h (sym e ∙ to-same x (place i) home y p)))
         all′ j h y m e (no p) (yes q) = rw (q, r) (inr (F .all i k y m (sym (to-other x (place i) home y p) ∙ e ∙ ap place q)))
         all′ j h y m e (no p) (no q) = rw (others j q) (F .all j h y m (sym (to-other x (place i) home y p) ∙ e))
 
     -- x leaves list i, and v is its home then, no head
-    pub goes : (v : ℕ) → Once (rows i) → home x ≡ place i → ((j : ℕ) → H j → v ≢ place j) → ((j : ℕ) → H j → place j ≡ place i → j ≡ i) → rows′ i ≡ erase x (rows i)
+    pub goes : (v : ℕ) → Once (rows i) → home x ≡ place i → ((j : ℕ) → H j → v ≢ place j)
+        → ((j : ℕ) → H j → place j ≡ place i → j ≡ i) → rows′ i ≡ erase x (rows i)
         → Family Meets′ H place N (to x v home) rows′
     goes v o e out one r =
         record {
@@ -100,11 +140,13 @@ pub record Alike (H : ℕ → Type 0) (place : ℕ → ℕ) (N : ℕ) (home home
   pub keep : (i y : ℕ) → H i → y < N → home y ≡ place i → home′ y ≡ place i
   pub back : (i y : ℕ) → H i → y < N → home′ y ≡ place i → home y ≡ place i
 
-pub alike : {H : ℕ → Type 0} {place : ℕ → ℕ} {N : ℕ} {home home′ : ℕ → ℕ} → ((y : ℕ) → y < N → home′ y ≡ home y) → Alike H place N home home′
+pub alike : {H : ℕ → Type 0} {place : ℕ → ℕ} {N : ℕ} {home home′ : ℕ → ℕ} → ((y : ℕ) → y < N → home′ y ≡ home y)
+    → Alike H place N home home′
 alike f = record { keep = λ i y k l e. f y l ∙ e; back = λ i y k l e. sym (f y l) ∙ e }
 
 -- x has no home among the heads, before and after
-pub aside : {H : ℕ → Type 0} {place : ℕ → ℕ} {N : ℕ} {home : ℕ → ℕ} (x v : ℕ) → ((i : ℕ) → H i → (home x ≢ place i) × (v ≢ place i))
+pub aside : {H : ℕ → Type 0} {place : ℕ → ℕ} {N : ℕ} {home : ℕ → ℕ} (x v : ℕ)
+    → ((i : ℕ) → H i → (home x ≢ place i) × (v ≢ place i))
     → Alike H place N home (to x v home)
 aside {H} {place} {N} {home} x v out =
     record { keep = λ i y k l e. keep′ i y k e (ℕ-discrete y x); back = λ i y k l e. back′ i y k e (ℕ-discrete y x) }
@@ -131,7 +173,8 @@ module _ {nx pv : ℕ → ℕ} {H : ℕ → Type 0} {place : ℕ → ℕ} {N : �
   same-members i xs k =
       all-map {R = At N home′ (place i)} (λ y (t : At N home (place i) y). record { low = t .low; is = homes .keep i y k (t .low) (t .is) }) xs
 
-  pub doubly-stay : {rows : ℕ → List ℕ} → Family (Doubly nx pv b) H place N home rows → Family (Doubly nx pv b′) H place N home′ rows
+  pub doubly-stay : {rows : ℕ → List ℕ} → Family (Doubly nx pv b) H place N home rows
+      → Family (Doubly nx pv b′) H place N home′ rows
   doubly-stay {rows} F =
       record {
         row = λ i k. doubly-same (same-links i (rows i) k (F .members i k)) (S .heads i k) (F .row i k);
@@ -139,7 +182,8 @@ module _ {nx pv : ℕ → ℕ} {H : ℕ → Type 0} {place : ℕ → ℕ} {N : �
         all = λ i k y l e. F .all i k y l (homes .back i y k l e);
       }
 
-  pub singly-stay : {rows : ℕ → List ℕ} → Family (Singly nx pv b) H place N home rows → Family (Singly nx pv b′) H place N home′ rows
+  pub singly-stay : {rows : ℕ → List ℕ} → Family (Singly nx pv b) H place N home rows
+      → Family (Singly nx pv b′) H place N home′ rows
   singly-stay {rows} F =
       record {
         row = λ i k. singly-same (same-links i (rows i) k (F .members i k)) (S .heads i k) (F .row i k);
@@ -153,7 +197,8 @@ link-low : (N v : ℕ) → ((y : ℕ) → v ≡ suc y → y < N) → v ≤ N
 link-low N zero f = omega arith
 link-low N (suc v) f = f v refl
 
-pub stack-link : {nx pv : ℕ → ℕ} {H : ℕ → Type 0} {place : ℕ → ℕ} {N : ℕ} {home : ℕ → ℕ} {b : List ℕ} {rows : ℕ → List ℕ}
+pub stack-link : {nx pv : ℕ → ℕ} {H : ℕ → Type 0} {place : ℕ → ℕ}
+    {N : ℕ} {home : ℕ → ℕ} {b : List ℕ} {rows : ℕ → List ℕ}
     → Family (Singly nx pv b) H place N home rows → (i : ℕ) → H i → at b (place i) ≤ N
 stack-link {nx} {pv} {H} {place} {N} {home} {b} {rows} F i k = go (rows i) (F .row i k .walk) (inside F i k)
   where
@@ -171,7 +216,8 @@ module _ {nx pv : ℕ → ℕ} {H : ℕ → Type 0} {place : ℕ → ℕ} {N : �
     (F : Family (Doubly nx pv b) H place N home rows) (i : ℕ) (k : H i) where
   pub head-link : at b (place i) ≤ N
   head-link =
-      link-low N (at b (place i)) (head-in (λ y. y < N) (λ n. at b (nx n)) (λ n. at b (pv n)) (at b (place i)) 0 (rows i) (inside F i k) (F .row i k .row .walk))
+      link-low N (at b (place i))
+      (head-in (λ y. y < N) (λ n. at b (nx n)) (λ n. at b (pv n)) (at b (place i)) 0 (rows i) (inside F i k) (F .row i k .row .walk))
 
   module _ (x : ℕ) (l : x < N) (e : home x ≡ place i) where
     s : Split x (rows i)
@@ -180,7 +226,8 @@ module _ {nx pv : ℕ → ℕ} {H : ℕ → Type 0} {place : ℕ → ℕ} {N : �
     pub member-links : (at b (nx x) ≤ N) × (at b (pv x) ≤ N)
     member-links = (
       link-low N (at b (nx x)) (next-in (λ y. y < N) (λ n. at b (nx n)) (λ n. at b (pv n)) x (s .pre) (s .post) (at b (place i)) 0 all walk),
-      link-low N (at b (pv x)) (prev-in (λ y. y < N) (λ n. at b (nx n)) (λ n. at b (pv n)) x (s .pre) (s .post) (at b (place i)) 0 all walk (λ y q. absurd (omega arith))),
+      link-low N (at b (pv x)) (prev-in (λ y. y < N) (λ n. at b (nx n)) (λ n. at b (pv n)) x
+          (s .pre) (s .post) (at b (place i)) 0 all walk (λ y q. absurd (omega arith))),
     )
       where
         walk : Seg (λ n. at b (nx n)) (λ n. at b (pv n)) (at b (place i)) 0 (s .pre ++ x ∷ s .post)
@@ -194,9 +241,11 @@ module _ {nx pv : ℕ → ℕ} {H : ℕ → Type 0} {place : ℕ → ℕ} {N : �
       pub leave-keeps : (y : ℕ) → y ≢ x → home y ≢ place i → LinksSame nx pv b (left nx pv (place i) x b) y
       leave-keeps y d n = leave-strange (W .lay i k) x y d (rows i) (stranger F i y k n) (F .row i k) (s .pre) (s .post) (s .is)
 
-      pub leaves : (v : ℕ) → ((j : ℕ) → H j → v ≢ place j) → Family (Doubly nx pv (left nx pv (place i) x b)) H place N (to x v home) (to i (erase x (rows i)) rows)
+      pub leaves : (v : ℕ) → ((j : ℕ) → H j → v ≢ place j)
+          → Family (Doubly nx pv (left nx pv (place i) x b)) H place N (to x v home) (to i (erase x (rows i)) rows)
       leaves v out =
-          goes F (Doubly nx pv (left nx pv (place i) x b)) i x k l (λ j d. to-other i (erase x (rows i)) rows j d) new old v (F .row i k .row .once) e out (λ j h. W .one i j k h)
+          goes F (Doubly nx pv (left nx pv (place i) x b)) i x k l
+          (λ j d. to-other i (erase x (rows i)) rows j d) new old v (F .row i k .row .once) e out (λ j h. W .one i j k h)
           (to-same i (erase x (rows i)) rows i refl)
         where
           new : Doubly nx pv (left nx pv (place i) x b) (place i) (to i (erase x (rows i)) rows i)
@@ -207,8 +256,10 @@ module _ {nx pv : ℕ → ℕ} {H : ℕ → Type 0} {place : ℕ → ℕ} {N : �
           old : (j : ℕ) → H j → j ≢ i → Doubly nx pv (left nx pv (place i) x b) (place j) (rows j)
           old j h d =
               doubly-same (all-map {R = LinksSame nx pv b (left nx pv (place i) x b)}
-              (λ y (t : At N home (place j) y). leave-keeps y (λ q. d (W .one i j k h (sym (t .is) ∙ ap home q ∙ e))) (λ q. d (W .one i j k h (sym (t .is) ∙ q)))) (rows j) (F .members j h))
-              (left-other nx pv (place i) x (place j) b (W .lay j h .h-nx x) (W .lay j h .h-pv x) (λ q. d (W .one i j k h q)) (λ y _. W .lay j h .h-nx y) (λ y _. W .lay j h .h-pv y))
+              (λ y (t : At N home (place j) y). leave-keeps y (λ q. d (W .one i j k h (sym (t .is) ∙ ap home q ∙ e)))
+              (λ q. d (W .one i j k h (sym (t .is) ∙ q)))) (rows j) (F .members j h))
+              (left-other nx pv (place i) x (place j) b (W .lay j h .h-nx x) (W .lay j h .h-pv x)
+              (λ q. d (W .one i j k h q)) (λ y _. W .lay j h .h-nx y) (λ y _. W .lay j h .h-pv y))
               (F .row j h)
 
   -- x, at home in no list, joins: the same
@@ -216,9 +267,11 @@ module _ {nx pv : ℕ → ℕ} {H : ℕ → Type 0} {place : ℕ → ℕ} {N : �
     pub join-keeps : (y : ℕ) → y ≢ x → home y ≢ place i → LinksSame nx pv b (joined nx pv (place i) x b) y
     join-keeps y d n = join-strange (W .lay i k) x y d (rows i) (stranger F i y k n) (F .row i k)
 
-    pub joins : Family (Doubly nx pv (joined nx pv (place i) x b)) H place N (to x (place i) home) (to i (x ∷ rows i) rows)
+    pub joins : Family (Doubly nx pv (joined nx pv (place i) x b)) H place N
+        (to x (place i) home) (to i (x ∷ rows i) rows)
     joins =
-        comes F (Doubly nx pv (joined nx pv (place i) x b)) i x k l (λ j d. to-other i (x ∷ rows i) rows j d) new old (λ j h. W .one i j k h) out (to-same i (x ∷ rows i) rows i refl)
+        comes F (Doubly nx pv (joined nx pv (place i) x b)) i x k l (λ j d. to-other i (x ∷ rows i) rows j d) new old
+        (λ j h. W .one i j k h) out (to-same i (x ∷ rows i) rows i refl)
       where
         new : Doubly nx pv (joined nx pv (place i) x b) (place i) (to i (x ∷ rows i) rows i)
         new = rw (to-same i (x ∷ rows i) rows i refl) (join-in (W .lay i k) l (stranger F i x k (out i k)) (inside F i k) (F .row i k))
@@ -226,6 +279,7 @@ module _ {nx pv : ℕ → ℕ} {H : ℕ → Type 0} {place : ℕ → ℕ} {N : �
         old : (j : ℕ) → H j → j ≢ i → Doubly nx pv (joined nx pv (place i) x b) (place j) (rows j)
         old j h d =
             doubly-same (all-map {R = LinksSame nx pv b (joined nx pv (place i) x b)}
-            (λ y (t : At N home (place j) y). join-keeps y (λ q. out j h (ap home (sym q) ∙ t .is)) (λ q. d (W .one i j k h (sym (t .is) ∙ q)))) (rows j) (F .members j h))
+            (λ y (t : At N home (place j) y). join-keeps y (λ q. out j h (ap home (sym q) ∙ t .is)) (λ q. d (W .one i j k h (sym (t .is) ∙ q))))
+            (rows j) (F .members j h))
             (joined-other nx pv (place i) x (place j) b (W .lay j h .h-nx x) (W .lay j h .h-pv x) (λ q. d (W .one i j k h q)) (λ y _. W .lay j h .h-pv y))
             (F .row j h)

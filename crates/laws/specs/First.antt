@@ -1,5 +1,6 @@
--- 01's "the first 48 bytes of each pool stay unused and are never written", over any heap at all. What a call writes of memory lies in a block: a link at a block start that a rule has tested, a copy
--- into the block that an ask hands out, a text in a live block.
+-- 01's "the first 48 bytes of each pool stay unused and are never written", over any heap at all. What a call writes
+-- of memory lies in a block: a link at a block start that a rule has tested, a copy into the block that an ask hands
+-- out, a text in a live block.
 -- Assumes nothing.
 use mathlib.Core.Path.{_≡_, refl, ap, _∙_}
 use mathlib.Core.Logic.{_⊎_, inl, inr}
@@ -25,7 +26,21 @@ use Rattle.rules.specs.Outcome.{Outcome, heapOf, outcome, answerOf, done, refus
 use Rattle.rules.specs.Ask.{planAsk, takeFrom, arenaOf, spend, afterAsk, askAnswer, askStep}
 use Rattle.rules.specs.GiveBack.{afterBack, backStep}
 use Rattle.rules.specs.Resize.{keeps, copy, giveOld, halfDone, moved, resizeStep}
-use Rattle.rules.specs.Numbers.{fitNumber, shapeNumber, sizeNumber, roomNumber, _before_, inOrder, offsetNumber, blockSize, format, ask, giveBack, resize, write}
+use Rattle.rules.specs.Numbers.{
+  fitNumber,
+  shapeNumber,
+  sizeNumber,
+  roomNumber,
+  _before_,
+  inOrder,
+  offsetNumber,
+  blockSize,
+  format,
+  ask,
+  giveBack,
+  resize,
+  write,
+}
 use Rattle.books.specs.Known.{in-range, live-is}
 use Rattle.plans.specs.Fits.{FitsAsk, fits-ask}
 use Rattle.laws.specs.Bytes.{sets-off}
@@ -57,7 +72,8 @@ take-memory al A P c (Freed a) p h = refl
 take-memory al A P c (Carved a) p h = refl
 take-memory al A P c (Opened a) p h = refl
 
-given-memory : (al A P c a : ℕ) (s : Source) (p : ℕ) (h : Heap) → spend al A P c a (takeFrom al A P c s p h) .memory ≡ h .memory
+given-memory : (al A P c a : ℕ) (s : Source) (p : ℕ) (h : Heap)
+    → spend al A P c a (takeFrom al A P c s p h) .memory ≡ h .memory
 given-memory al A P c a s p h = ap (λ (x : Heap). x .memory) (spend-is al A P c a (takeFrom al A P c s p h)) ∙ take-memory al A P c s p h
 
 -- where a block of n bytes or more is handed out
@@ -69,7 +85,8 @@ pub record Placed (n o : ℕ) : Type 0 where
   pub ends : start + n ≤ 4096
 
 module _ {al : ℕ} (L : Aligned al) (A P c : ℕ) (lc : c ≤ lastClass al) (h : Heap) where
-  ask-path : (q : AskPlan) → FitsAsk A P (sizeOf al c) c (h .books) (h .map) q → First (h .memory) (afterAsk al A P c q h .memory)
+  ask-path : (q : AskPlan) → FitsAsk A P (sizeOf al c) c (h .books) (h .map) q
+      → First (h .memory) (afterAsk al A P c q h .memory)
   unfolding afterAsk
   ask-path NoRoom t = λ i l. refl
   ask-path Damaged t = λ i l. refl
@@ -82,7 +99,8 @@ module _ {al : ℕ} (L : Aligned al) (A P c : ℕ) (lc : c ≤ lastClass al) (h 
       ap (λ (x : List ℕ). at (putLink (offsetOf p (48 + sizeOf al c)) 0 x) i) (given-memory al A P c (arenaOf al A P c s) s p h)
       ∙ link-first (h .memory) 0 p (48 + sizeOf al c) (omega arith) (omega (arith, size-high L c lc)) i l
 
-  ask-place : (q : AskPlan) → FitsAsk A P (sizeOf al c) c (h .books) (h .map) q → askAnswer q .number ≡ 0 → Placed (sizeOf al c) (askAnswer q .offset)
+  ask-place : (q : AskPlan) → FitsAsk A P (sizeOf al c) c (h .books) (h .map) q → askAnswer q .number ≡ 0
+      → Placed (sizeOf al c) (askAnswer q .offset)
   unfolding askAnswer
   ask-place NoRoom t z = absurd (omega arith)
   ask-place Damaged t z = absurd (omega arith)
@@ -101,7 +119,8 @@ pools-some : (h : Heap) → shapeNumber h ≡ 0 → 1 ≤ pools h
 unfolding shapeNumber fitNumber
 pools-some h = go (ltb (length (h .books)) 2) (inRange (arenas h) (pools h)) refl (not (exact (arenas h) (pools h) h))
   where
-    go : (t u : Bool) → inRange (arenas h) (pools h) ≡ u → (v : Bool) → _≡_ {A = ℕ} (if t then 2 else if not u then 1 else if v then 2 else 0) 0 → 1 ≤ pools h
+    go : (t u : Bool) → inRange (arenas h) (pools h) ≡ u → (v : Bool)
+        → _≡_ {A = ℕ} (if t then 2 else if not u then 1 else if v then 2 else 0) 0 → 1 ≤ pools h
     go true u e v z = absurd (omega arith)
     go false false e v z = absurd (omega arith)
     go false true e v z = omega (arith, in-range (arenas h) (pools h) e .2)
@@ -131,7 +150,8 @@ size-zero n z = go (size-number n)
 
 -- ---- a give-back of offset o
 module _ {al : ℕ} (L : Aligned al) (A P : ℕ) (h : Heap) (o : ℕ) where
-  back-path : (c : ℕ) (q : BackPlan) → 48 ≤ o % 4096 → o % 4096 + 8 ≤ 4096 → First (h .memory) (afterBack al A P c (o / 4096) (o % 4096) q h .memory)
+  back-path : (c : ℕ) (q : BackPlan) → 48 ≤ o % 4096 → o % 4096 + 8 ≤ 4096
+      → First (h .memory) (afterBack al A P c (o / 4096) (o % 4096) q h .memory)
   unfolding afterBack
   back-path c Broken low high = λ i l. refl
   back-path c Joins low high = link-first (h .memory) _ (o / 4096) (o % 4096) low high
@@ -150,7 +170,8 @@ module _ {al : ℕ} (L : Aligned al) (A P : ℕ) (h : Heap) (o : ℕ) where
   unfolding giveOld liveNumber
   give-old-first = go (live al A P (h .books) (h .map) o) refl
     where
-      go : (t : Bool) → live al A P (h .books) (h .map) o ≡ t → First (h .memory) (passing (if t then 0 else 5) (λ k. refused k h) (backStep al A P h o) .heap .memory)
+      go : (t : Bool) → live al A P (h .books) (h .map) o ≡ t
+          → First (h .memory) (passing (if t then 0 else 5) (λ k. refused k h) (backStep al A P h o) .heap .memory)
       go true e = back-live e
       go false e = λ i l. refl
 
@@ -177,7 +198,8 @@ module _ {al : ℕ} (L : Aligned al) (A P : ℕ) (some : 1 ≤ P) (h : Heap) (n 
   unfolding askStep
   step-place z = ask-place L A P c (has-class L n hi) h (planAsk al A P h c) fits z
 
-  copy-first : (o k : ℕ) → k ≤ n → (new : ℕ) → Placed (sizeOf al c) new → (g : Heap) → First (g .memory) (copy o new k g .memory)
+  copy-first : (o k : ℕ) → k ≤ n → (new : ℕ) → Placed (sizeOf al c) new → (g : Heap)
+      → First (g .memory) (copy o new k g .memory)
   copy-first o k l new t g =
       rw (t .place)
       (text-first (g .memory) (take k (drop o (g .memory))) (t .pool) (t .start) (t .low)
@@ -195,7 +217,8 @@ module _ {al : ℕ} (L : Aligned al) (A P : ℕ) (some : 1 ≤ P) (h : Heap) (n 
   move-first o k l = go (got .answer .number) refl
     where
       go : (j : ℕ) → got .answer .number ≡ j
-          → First (h .memory) (passing j (λ number. got) (halfDone al A P (got .answer .offset) (giveOld al A P (copied o k) o)) .heap .memory)
+          → First (h .memory) (passing j (λ number. got)
+          (halfDone al A P (got .answer .offset) (giveOld al A P (copied o k) o)) .heap .memory)
       go (suc j) e = step-first
       go zero e =
           rw (half-heap al A P (got .answer .offset) (giveOld al A P (copied o k) o))
@@ -207,7 +230,9 @@ module _ {al : ℕ} (L : Aligned al) (A P : ℕ) (some : 1 ≤ P) (h : Heap) (n 
   unfolding resizeStep
   resize-step-first o = go (keeps (sizeAt al A (h .books) o) n)
     where
-      go : (t : Bool) → First (h .memory) ((if t then done o h else moved al A P o (min n (sizeAt al A (h .books) o)) (askStep al A P h n)) .heap .memory)
+      go : (t : Bool)
+          → First (h .memory) ((if t then done o h
+          else moved al A P o (min n (sizeAt al A (h .books) o)) (askStep al A P h n)) .heap .memory)
       go true = λ i l. refl
       go false = move-first o (min n (sizeAt al A (h .books) o)) (min-le-left n (sizeAt al A (h .books) o))
 
@@ -216,13 +241,15 @@ pub format-first : (h : Heap) (A P : ℕ) → First (h .memory) (format h A P .h
 unfolding format
 format-first h A P = go (fitNumber h A P) _ _
   where
-    go : (k : ℕ) (b m : List ℕ) → First (h .memory) (passing k (λ j. refused j h) (done 0 (heapOf (h .memory) b m)) .heap .memory)
+    go : (k : ℕ) (b m : List ℕ)
+        → First (h .memory) (passing k (λ j. refused j h) (done 0 (heapOf (h .memory) b m)) .heap .memory)
     go zero b m = λ i l. refl
     go (suc k) b m = λ i l. refl
 
 module _ {al : ℕ} (L : Aligned al) (h : Heap) where
   -- a refusal, or what comes after the tests
-  after-tests : (k : ℕ) (x : Outcome) → (k ≡ 0 → First (h .memory) (x .heap .memory)) → First (h .memory) (passing k (λ j. refused j h) x .heap .memory)
+  after-tests : (k : ℕ) (x : Outcome) → (k ≡ 0 → First (h .memory) (x .heap .memory))
+      → First (h .memory) (passing k (λ j. refused j h) x .heap .memory)
   after-tests k x = tested (λ (y : Outcome). First (h .memory) (y .heap .memory)) h k x (λ j i l. refl)
 
   pub ask-first : (n : ℕ) → First (h .memory) (ask al h n .heap .memory)
@@ -262,4 +289,5 @@ module _ {al : ℕ} (L : Aligned al) (h : Heap) where
       let b = live-is al (arenas h) (pools h) (h .books) (h .map) o (L .low) (L .high) (live-zero al (arenas h) (pools h) (h .books) (h .map) o (u .0)) in
       let place : o ≡ offsetOf (o / 4096) (o % 4096) = omega arith in
       λ i l. ap (λ (x : ℕ). at (sets (h .memory) x text) i) place
-      ∙ text-first (h .memory) text (o / 4096) (o % 4096) (b .start .low) (omega (arith, b .start .ends, room-zero (length text) (blockSize al h o) (u .1))) i l)
+      ∙ text-first (h .memory) text (o / 4096) (o % 4096) (b .start .low)
+      (omega (arith, b .start .ends, room-zero (length text) (blockSize al h o) (u .1))) i l)

@@ -1,5 +1,5 @@
--- Who holds what on a sound heap: a live offset is held, and nothing is held where an ask or a moving resize hands a block
--- out; nor does the ask write there.
+-- Who holds what on a sound heap: a live offset is held, and nothing is held where an ask or a moving resize hands a
+-- block out; nor does the ask write there.
 -- Assumes nothing.
 use mathlib.Core.Path.{_≡_, refl, sym, ap, _∙_}
 use mathlib.Core.Logic.{_≢_, _⊎_, inl, inr}
@@ -27,14 +27,17 @@ module _ {al A P : ℕ} {h : Heap} {r : Plain} (L : Aligned al) (S : Sound al A 
   live-held o e q = absurd (omega (arith, holding-more L S o (live-rows L S o e), ap length q))
 
   -- where the plain heap's ask hands a block out
-  handed-free : (n : ℕ) → 1 ≤ n → (hi : n ≤ 512) → askAnswer (plainAsk al P r (classOf al n)) .number ≡ 0 → holding al A P h (askAnswer (plainAsk al P r (classOf al n)) .offset) ≡ []
+  handed-free : (n : ℕ) → 1 ≤ n → (hi : n ≤ 512) → askAnswer (plainAsk al P r (classOf al n)) .number ≡ 0
+      → holding al A P h (askAnswer (plainAsk al P r (classOf al n)) .offset) ≡ []
   handed-free n lo hi z = let D = ask-done L S n lo hi in holding-none L S (D .sound) (D .quiet) (has-class L n hi) (D .hand z)
 
   -- an ask that is done is for a size of a block, and the plain heap's is done
-  done-asked : (n : ℕ) → ask al h n .answer .number ≡ 0 → (1 ≤ n) × (n ≤ 512) × (askAnswer (plainAsk al P r (classOf al n)) .number ≡ 0)
+  done-asked : (n : ℕ) → ask al h n .answer .number ≡ 0
+      → (1 ≤ n) × (n ≤ 512) × (askAnswer (plainAsk al P r (classOf al n)) .number ≡ 0)
   done-asked n z = go (size-number n)
     where
-      go : ((1 ≤ n) × (n ≤ 512)) ⊎ (sizeNumber n ≡ 3) → (1 ≤ n) × (n ≤ 512) × (askAnswer (plainAsk al P r (classOf al n)) .number ≡ 0)
+      go : ((1 ≤ n) × (n ≤ 512)) ⊎ (sizeNumber n ≡ 3)
+          → (1 ≤ n) × (n ≤ 512) × (askAnswer (plainAsk al P r (classOf al n)) .number ≡ 0)
       go (inl t) = (t .0, t .1, sym (ap (λ (y : Outcome). y .answer .number) (ask-is L S n (t .0) (t .1))) ∙ z)
       go (inr e) = absurd (omega (arith, sym (ap (λ (y : Outcome). y .answer .number) (ask-size L S n e)) ∙ z))
 
@@ -50,18 +53,21 @@ module _ {al A P : ℕ} {h : Heap} {r : Plain} (L : Aligned al) (S : Sound al A 
       let D = ask-done L S n (t .0) (t .1) in
       rw (ask-is L S n (t .0) (t .1)) (bytes-new L S (D .sound) (D .quiet) (has-class L n (t .1)) (D .hand (t .2)))
 
-  pub resize-free : (o n : ℕ) → resize al h o n .answer .number ≡ 0 → resize al h o n .answer .offset ≢ o → holding al A P h (resize al h o n .answer .offset) ≡ []
+  pub resize-free : (o n : ℕ) → resize al h o n .answer .number ≡ 0 → resize al h o n .answer .offset ≢ o
+      → holding al A P h (resize al h o n .answer .offset) ≡ []
   resize-free o n = by-size (size-number n)
     where
       Q : Outcome → Type 0
       Q y = y .answer .number ≡ 0 → y .answer .offset ≢ o → holding al A P h (y .answer .offset) ≡ []
 
-      by-room : (lo : 1 ≤ n) (hi : n ≤ 512) (e : live al A P (h .books) (h .map) o ≡ true) → keeps (sizeOf al (r .class (block-of L S o e .pool))) n ≡ false
+      by-room : (lo : 1 ≤ n) (hi : n ≤ 512) (e : live al A P (h .books) (h .map) o ≡ true)
+          → keeps (sizeOf al (r .class (block-of L S o e .pool))) n ≡ false
           → DoneOrNot al P r (classOf al n) → Q (resize al h o n)
       by-room lo hi e q (inl z) = rw (resize-moves L S o n lo hi e z q) (λ _ _. handed-free n lo hi z)
       by-room lo hi e q (inr z) = rw (resize-none L S o n lo hi e q (z .plan-is)) (λ k. absurd (omega arith))
 
-      by-keep : (lo : 1 ≤ n) (hi : n ≤ 512) (e : live al A P (h .books) (h .map) o ≡ true) (b : Bool) → keeps (sizeOf al (r .class (block-of L S o e .pool))) n ≡ b → Q (resize al h o n)
+      by-keep : (lo : 1 ≤ n) (hi : n ≤ 512) (e : live al A P (h .books) (h .map) o ≡ true) (b : Bool)
+          → keeps (sizeOf al (r .class (block-of L S o e .pool))) n ≡ b → Q (resize al h o n)
       by-keep lo hi e true q = rw (resize-keeps L S o n lo hi e q) (λ _ d. absurd (d refl))
       by-keep lo hi e false q = by-room lo hi e q (done-or-not al P r (classOf al n))
 

@@ -46,7 +46,8 @@ eight : (a w : ℕ) → 8 * suc a + w ≡ suc (suc (suc (suc (suc (suc (suc (suc
 eight a w = omega arith
 
 arena-words : (i k a w : ℕ) → a < k → w < 8
-    → at (freshArenas i k) (8 * a + w) ≡ (if eqb w 4 then (if eqb (k - suc a) 0 then 0 else linkTo (i + a + 1)) else if eqb w 5 then i + a else 0)
+    → at (freshArenas i k) (8 * a + w)
+    ≡ (if eqb w 4 then (if eqb (k - suc a) 0 then 0 else linkTo (i + a + 1)) else if eqb w 5 then i + a else 0)
 arena-words i zero a w l u = absurd (omega arith)
 arena-words i (suc k) (suc a) w l u =
     let e : suc k - suc (suc a) ≡ k - suc a = omega arith in
@@ -59,7 +60,8 @@ arena-words i (suc k) zero w l u =
     let g : i + 0 + 1 ≡ i + 1 = omega arith in
     let h : i + 0 ≡ i = omega arith in
     rw (e, f, g, h)
-    (each-word (λ w. at (freshArenas i (suc k)) w ≡ (if eqb w 4 then (if eqb k 0 then 0 else linkTo (i + 1)) else if eqb w 5 then i else 0)) (refl, refl, refl, refl, refl, refl, refl, refl) w u)
+    (each-word (λ w. at (freshArenas i (suc k)) w ≡ (if eqb w 4 then (if eqb k 0 then 0 else linkTo (i + 1)) else if eqb w 5 then i else 0))
+    (refl, refl, refl, refl, refl, refl, refl, refl) w u)
 
 pool-words : (k n w : ℕ) → n < k → w < 8 → at (freshPools k) (8 * n + w) ≡ (if eqb w 4 then noClass else 0)
 pool-words zero n w l u = absurd (omega arith)
@@ -88,7 +90,10 @@ module _ (A P : ℕ) where
   unfolding freshBooks
   head-word i l = List·getD-append heads records 0 i (rw length-heads l)
 
-  first-words : (at (freshBooks A P) 0 ≡ A) × (at (freshBooks A P) 1 ≡ P) × (at (freshBooks A P) 2 ≡ 0) × (at (freshBooks A P) 3 ≡ 1)
+  first-words : (at (freshBooks A P) 0 ≡ A)
+      × (at (freshBooks A P) 1 ≡ P)
+      × (at (freshBooks A P) 2 ≡ 0)
+      × (at (freshBooks A P) 3 ≡ 1)
   first-words = (head-word 0 (omega arith), head-word 1 (omega arith), head-word 2 (omega arith), head-word 3 (omega arith))
 
   other-heads : (i : ℕ) → 4 ≤ i → i < 72 → at (freshBooks A P) i ≡ 0
@@ -97,7 +102,8 @@ module _ (A P : ℕ) where
       head-word i v ∙ ap (at heads) e ∙ getD-replicate 68 (i - 4) 0 0 (omega arith)
 
   arena-word : (w a : ℕ) → w < 8 → a < A
-      → at (freshBooks A P) (arenaWord w a) ≡ (if eqb w 4 then (if eqb (A - suc a) 0 then 0 else linkTo (0 + a + 1)) else if eqb w 5 then 0 + a else 0)
+      → at (freshBooks A P) (arenaWord w a)
+      ≡ (if eqb w 4 then (if eqb (A - suc a) 0 then 0 else linkTo (0 + a + 1)) else if eqb w 5 then 0 + a else 0)
   unfolding freshBooks
   arena-word w a u l =
       let e : arenaWord w a ≡ 72 + (8 * a + w) = omega arith in
@@ -144,7 +150,9 @@ module _ (A P : ℕ) (low : 1 ≤ A) where
   previous : (a : ℕ) → a < A → at (freshBooks A P) (arenaWord 5 a) ≡ a
   previous a l = arena-word A P 5 a (omega arith) l ∙ omega arith
 
-  walk : (i k : ℕ) → i + suc k ≡ A → Seg (λ a. at (freshBooks A P) (arenaWord 4 a)) (λ a. at (freshBooks A P) (arenaWord 5 a)) (suc i) i (from i (suc k))
+  walk : (i k : ℕ) → i + suc k ≡ A
+      → Seg (λ a. at (freshBooks A P) (arenaWord 4 a)) (λ a. at (freshBooks A P) (arenaWord 5 a))
+      (suc i) i (from i (suc k))
   walk i zero e = (refl, (previous i (omega arith), last i (omega arith)))
   walk i (suc k) e = (refl, (previous i (omega arith), rw (next i (omega arith)) (walk (suc i) k (omega arith))))
 
@@ -156,7 +164,8 @@ module _ (A P : ℕ) (low : 1 ≤ A) where
       go (suc k) e = record { row = record { walk = rw (first-words A P .3) (walk 0 k (omega arith)); once = once-from 0 (suc k) } }
 
 -- ---- the fresh heap
-module _ (al A P : ℕ) (L : Aligned al) (m : List ℕ) (range : inRange A P ≡ true) (bytes : length m ≡ memoryLength A P) where
+module _ (al A P : ℕ) (L : Aligned al) (m : List ℕ)
+    (range : inRange A P ≡ true) (bytes : length m ≡ memoryLength A P) where
   arenas-low : 1 ≤ A
   arenas-low = in-range A P range .0
 
@@ -203,7 +212,8 @@ module _ (al A P : ℕ) (L : Aligned al) (m : List ℕ) (range : inRange A P ≡
         spent = λ a l e. absurd (omega (arith, unused a));
       }
     where
-      row′ : (i : ℕ) → ArenaHead i → Dec (i ≡ 2) → Doubly (arenaWord 4) (arenaWord 5) (freshBooks A P) i (arenaRows (fresh A) i)
+      row′ : (i : ℕ) → ArenaHead i → Dec (i ≡ 2)
+          → Doubly (arenaWord 4) (arenaWord 5) (freshBooks A P) i (arenaRows (fresh A) i)
       row′ i h (yes q) = rw q (record { row = record { walk = first-words A P .2; once = tt } })
       row′ i h (no q) = let e : i ≡ 3 = omega arith in rw e (unused-row A P arenas-low)
 

@@ -85,11 +85,17 @@ module _ {al A P p j : ℕ} {h : Heap} {r : Plain} (G : Given al A P h r p j) wh
 
   -- the tests of freeblock and count
   pub tested : (q : BackPlan) (v : ℕ) → pool A b 1 p ≡ v → (eqb v 0 || isStart s v) ≡ true
-      → (if eqb v 0 then mayJoin (A * P) (classHead c) b ⇛ Joins else if eqb (pool A b 0 p) 1 then emptying al A P b c p else Stays) ≡ q
+      → (if eqb v 0 then mayJoin (A * P) (classHead c) b ⇛ Joins
+      else if eqb (pool A b 0 p) 1 then emptying al A P b c p else Stays) ≡ q
       → planBack al A P b c p ≡ q
   unfolding planBack
   tested q v e t g =
-      rw (e, t, le-leb 1 (pool A b 0 p) (omega (arith, count-is, some)), le-leb (pool A b 0 p) 506 (omega (arith, count-is, room-is, I .blocks .fits, cap-high))) g
+      rw (
+        e,
+        t,
+        le-leb 1 (pool A b 0 p) (omega (arith, count-is, some)),
+        le-leb (pool A b 0 p) 506 (omega (arith, count-is, room-is, I .blocks .fits, cap-high)),
+      ) g
 
   -- ---- "Clear the bit; write the old freeblock as the block's link; freeblock is the block; count falls by 1."
   -- b₁ are the books after the first of their two writes, b₂ after both; U₂ is what they say then, and m₂ is memory
@@ -109,7 +115,8 @@ module _ {al A P p j : ℕ} {h : Heap} {r : Plain} (G : Given al A P h r p j) wh
   K₂ = put-pool (put-pool K 1 p f (omega arith) lp) 0 p (at b₁ (poolWord A 0 p) - 1) (omega arith) lp
 
   pub bytes₂ : BytesAfter p (h .memory) m₂
-  bytes₂ = link-after (h .memory) p f (pool A b freeblock p) (omega (arith, s-low, block-ends s j (r .virgin p) (live-below (I .blocks) j on) (I .blocks .fits)))
+  bytes₂ =
+      link-after (h .memory) p f (pool A b freeblock p) (omega (arith, s-low, block-ends s j (r .virgin p) (live-below (I .blocks) j on) (I .blocks .fits)))
 
   -- ---- the pool in the plain heap after
   pub count-after : suc (count (r ▷ setLive p j false) p) ≡ count r p
@@ -120,7 +127,8 @@ module _ {al A P p j : ℕ} {h : Heap} {r : Plain} (G : Given al A P h r p j) wh
 
   pub count₂ : U₂ .pool 0 p ≡ count (r ▷ setLive p j false) p
   count₂ =
-      let e : at b₁ (poolWord A 0 p) ≡ count r p = put-pool K 1 p f (omega arith) lp .pools 0 p (omega arith) lp ∙ rw (eq-eqb p p refl) (F .pools p lp .count-is) in
+      let e : at b₁ (poolWord A 0 p) ≡ count r p = put-pool K 1 p f (omega arith) lp .pools 0 p (omega arith) lp
+      ∙ rw (eq-eqb p p refl) (F .pools p lp .count-is) in
       let q : U₂ .pool 0 p ≡ at b₁ (poolWord A 0 p) - 1 = rw (eq-eqb p p refl) in
       omega (arith, count-after)
 
@@ -136,7 +144,8 @@ module _ {al A P p j : ℕ} {h : Heap} {r : Plain} (G : Given al A P h r p j) wh
     where
       given₂ : Blocks s p m₂ f (U .pool 5 p) (to j false (r .live p)) (j ∷ r .chain p) (r .virgin p)
       given₂ =
-          subst (λ (v : ℕ). Blocks s p (putLink (offsetOf p f) v (h .memory)) f (U .pool 5 p) (to j false (r .live p)) (j ∷ r .chain p) (r .virgin p)) (sym free-is)
+          subst (λ (v : ℕ). Blocks s p (putLink (offsetOf p f) v (h .memory)) f (U .pool 5 p)
+          (to j false (r .live p)) (j ∷ r .chain p) (r .virgin p)) (sym free-is)
           (given j (I .blocks) (omega (arith, s-low)) (omega (arith, F .bytes, lp)) on)
 
       -- the last live block comes back to a pool that is not full
@@ -144,9 +153,11 @@ module _ {al A P p j : ℕ} {h : Heap} {r : Plain} (G : Given al A P h r p j) wh
       empty-two e = omega (arith, I .one (omega (arith, capacity-low L c (I .class-low))))
 
   -- a pool that keeps a live block is listed then
-  kept : (listed : ℕ → List ℕ) (homes : ℕ → ℕ) (lists : ℕ → List ℕ) → 2 ≤ count r p → ((y : ℕ) → y ≢ p → homes y ≡ U .home y) → homes p ≡ classHead c
+  kept : (listed : ℕ → List ℕ) (homes : ℕ → ℕ) (lists : ℕ → List ℕ) → 2 ≤ count r p
+      → ((y : ℕ) → y ≢ p → homes y ≡ U .home y) → homes p ≡ classHead c
       → ((i : ℕ) → i < 64 → lists i ≡ listed i)
-      → Says al A P (insideView (U₂ .pool) homes lists U) m₂ (putMapBit p (blockNo s f) 0 (h .map)) (insideRows p j 0 (j ∷ r .chain p) (r .virgin) listed r)
+      → Says al A P (insideView (U₂ .pool) homes lists U) m₂ (putMapBit p (blockNo s f) 0 (h .map))
+      (insideRows p j 0 (j ∷ r .chain p) (r .virgin) listed r)
   kept listed homes lists two o e x =
       rw (number-is s j (omega (arith, s-low)))
       (inner L F lp j 0 j-small (omega arith) some (omega (arith, count-after)) (j ∷ r .chain p) (r .virgin) listed (U₂ .pool) homes lists
@@ -156,7 +167,8 @@ module _ {al A P p j : ℕ} {h : Heap} {r : Plain} (G : Given al A P h r p j) wh
         class-is = rw (eq-eqb p p refl) (F .pools p lp .class-is);
         used = λ _ _. F .pools p lp .used j on;
         rule = λ _. inr in-class₂;
-        home-is = e ∙ sym (home-listed al P (insideRows p j 0 (j ∷ r .chain p) (r .virgin) listed r) p (omega (arith, count-after)) (omega (arith, count-after, room-is, I .blocks .fits)));
+        home-is = e ∙ sym (home-listed al P (insideRows p j 0 (j ∷ r .chain p) (r .virgin) listed r) p
+            (omega (arith, count-after)) (omega (arith, count-after, room-is, I .blocks .fits)));
       }))
 
   -- ---- the pool had a spare block and keeps a live one: it stays where it is

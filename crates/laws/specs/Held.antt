@@ -1,4 +1,5 @@
--- `Sound`, taken apart for the paths and put together again after them: what the books say (`Books`), and that it says the plain heap (`Says`), arena by arena, pool by pool and list by list.
+-- `Sound`, taken apart for the paths and put together again after them: what the books say (`Books`), and that it
+-- says the plain heap (`Says`), arena by arena, pool by pool and list by list.
 -- Assumes nothing.
 use mathlib.Core.Path.{_≡_, refl, sym, ap, _∙_}
 use mathlib.Core.Logic.{_≢_, _⊎_, inl, inr}
@@ -12,7 +13,25 @@ use lib.Dec.{ltb, eqb, eqb·suc-zero}
 use lib.ListN.{length}
 use borrow.Author.Tests.{eq-eqb, ne-eqb, lt-ltb, le-ltb, ltb-true, ltb-false, eqb-true, eqb-false}
 use Rattle.rules.specs.Say.{if_then_else_}
-use Rattle.rules.specs.Books.{Heap, at, inRange, exact, memoryLength, booksLength, mapLength, isSet, usableHead, unusedHead, classHead, openWord, freedHead, arenaWord, arena, poolWord, pool}
+use Rattle.rules.specs.Books.{
+  Heap,
+  at,
+  inRange,
+  exact,
+  memoryLength,
+  booksLength,
+  mapLength,
+  isSet,
+  usableHead,
+  unusedHead,
+  classHead,
+  openWord,
+  freedHead,
+  arenaWord,
+  arena,
+  poolWord,
+  pool,
+}
 use Rattle.rules.specs.Blocks.{sizeOf, lastClass, capacity}
 use Rattle.books.specs.Known.{Shaped, shaped, in-range}
 use Rattle.laws.specs.Update.{is-false}
@@ -28,7 +47,8 @@ use Rattle.laws.specs.Sound.{home, base, arenaRows, Shape, Carved, BitSe
 -- ---- where a pool and an arena belong
 module _ (al P : ℕ) (r : Plain) (n : ℕ) where
   -- a pool with live and spare blocks; a full one; a freed one; one that is not carved
-  pub home-listed : 1 ≤ count r n → count r n < capacity (sizeOf al (r .class n)) → home al P r n ≡ classHead (r .class n)
+  pub home-listed : 1 ≤ count r n → count r n < capacity (sizeOf al (r .class n))
+      → home al P r n ≡ classHead (r .class n)
   unfolding home
   home-listed l u = rw (lt-ltb 0 (count r n) l, lt-ltb (count r n) (capacity (sizeOf al (r .class n))) u)
 
@@ -45,24 +65,28 @@ module _ (al P : ℕ) (r : Plain) (n : ℕ) where
   home-away e c = rw (e, c)
 
   -- and what a home says
-  pub listed-is : (c : ℕ) → home al P r n ≡ classHead c → c < 64 → (1 ≤ count r n) × (count r n < capacity (sizeOf al (r .class n))) × (r .class n ≡ c)
+  pub listed-is : (c : ℕ) → home al P r n ≡ classHead c → c < 64
+      → (1 ≤ count r n) × (count r n < capacity (sizeOf al (r .class n))) × (r .class n ≡ c)
   unfolding home
   listed-is c e l = go (inUse r n) (ltb (count r n) (capacity (sizeOf al (r .class n)))) (carved P r n) refl refl e
     where
       go : (t u v : Bool) → inUse r n ≡ t → ltb (count r n) (capacity (sizeOf al (r .class n))) ≡ u
-          → (if t then (if u then classHead (r .class n) else 0) else if v then arenaWord 3 (n / P) else 1) ≡ classHead c
+          → (if t then (if u then classHead (r .class n) else 0) else if v then arenaWord 3 (n / P) else 1)
+          ≡ classHead c
           → (1 ≤ count r n) × (count r n < capacity (sizeOf al (r .class n))) × (r .class n ≡ c)
       go true true v p q f = (ltb-true 0 (count r n) p, ltb-true (count r n) _ q, omega arith)
       go true false v p q f = absurd (omega arith)
       go false u true p q f = absurd (omega arith)
       go false u false p q f = absurd (omega arith)
 
-  pub freed-is : (a : ℕ) → home al P r n ≡ arenaWord freedHead a → (1 ≤ count r n → r .class n < 64) → (count r n ≡ 0) × (carved P r n ≡ true) × (n / P ≡ a)
+  pub freed-is : (a : ℕ) → home al P r n ≡ arenaWord freedHead a → (1 ≤ count r n → r .class n < 64)
+      → (count r n ≡ 0) × (carved P r n ≡ true) × (n / P ≡ a)
   unfolding home
   freed-is a e low = go (inUse r n) (ltb (count r n) (capacity (sizeOf al (r .class n)))) (carved P r n) refl refl e
     where
       go : (t u v : Bool) → inUse r n ≡ t → carved P r n ≡ v
-          → (if t then (if u then classHead (r .class n) else 0) else if v then arenaWord 3 (n / P) else 1) ≡ arenaWord 3 a
+          → (if t then (if u then classHead (r .class n) else 0) else if v then arenaWord 3 (n / P) else 1)
+          ≡ arenaWord 3 a
           → (count r n ≡ 0) × (carved P r n ≡ true) × (n / P ≡ a)
       go true true v p q f = absurd (omega (arith, low (ltb-true 0 (count r n) p)))
       go true false v p q f = absurd (omega arith)
@@ -87,7 +111,8 @@ module _ (P : ℕ) (r : Plain) (a : ℕ) where
   unfolding base
   usable-is e = go (eqb (r .mark a) 0) (eqb (free P r a) 0) refl refl e
     where
-      go : (t u : Bool) → eqb (r .mark a) 0 ≡ t → eqb (free P r a) 0 ≡ u → (if t then unusedHead else if u then 0 else usableHead) ≡ usableHead → (r .mark a ≢ 0) × (free P r a ≢ 0)
+      go : (t u : Bool) → eqb (r .mark a) 0 ≡ t → eqb (free P r a) 0 ≡ u
+          → (if t then unusedHead else if u then 0 else usableHead) ≡ usableHead → (r .mark a ≢ 0) × (free P r a ≢ 0)
       go true u p q k = absurd (omega arith)
       go false true p q k = absurd (omega arith)
       go false false p q k = (eqb-false (r .mark a) 0 p, eqb-false (free P r a) 0 q)
@@ -96,7 +121,8 @@ module _ (P : ℕ) (r : Plain) (a : ℕ) where
   unfolding base
   unused-is e = go (eqb (r .mark a) 0) (eqb (free P r a) 0) refl e
     where
-      go : (t u : Bool) → eqb (r .mark a) 0 ≡ t → (if t then unusedHead else if u then 0 else usableHead) ≡ unusedHead → r .mark a ≡ 0
+      go : (t u : Bool) → eqb (r .mark a) 0 ≡ t → (if t then unusedHead else if u then 0 else usableHead) ≡ unusedHead
+          → r .mark a ≡ 0
       go true u p k = eqb-true (r .mark a) 0 p
       go false true p k = absurd (omega arith)
       go false false p k = absurd (omega arith)
@@ -111,10 +137,14 @@ freeWord P r a = if eqb (r .mark a) 0 then 0 else free P r a
 
 -- rule 8 of pool n; and its second half, that the pool is in a class
 abbrev pub PoolRuleOf : ℕ → View → List ℕ → Plain → ℕ → Type 0
-PoolRuleOf al U m r n = PoolRule al n m (count r n) (U .pool 1 n) (r .class n) (U .pool 5 n) (U .pool 6 n) (r .live n) (r .chain n) (r .virgin n)
+PoolRuleOf al U m r n =
+    PoolRule al n m (count r n) (U .pool 1 n) (r .class n)
+    (U .pool 5 n) (U .pool 6 n) (r .live n) (r .chain n) (r .virgin n)
 
 abbrev pub InClassOf : ℕ → View → List ℕ → Plain → ℕ → Type 0
-InClassOf al U m r n = InClass al n m (count r n) (U .pool 1 n) (r .class n) (U .pool 5 n) (U .pool 6 n) (r .live n) (r .chain n) (r .virgin n)
+InClassOf al U m r n =
+    InClass al n m (count r n) (U .pool 1 n) (r .class n)
+    (U .pool 5 n) (U .pool 6 n) (r .live n) (r .chain n) (r .virgin n)
 
 -- what is said of arena a
 pub record ArenaSays (P : ℕ) (U : View) (r : Plain) (a : ℕ) : Type 0 where
@@ -220,7 +250,8 @@ held {al} {A} {P} {h} {r} S =
     arena-is : (a : ℕ) → a < A → ArenaSays P (viewOf al A P (h .books) r) r a
     arena-is a l = go (S .rule2 .opens a l)
       where
-        go : (arena (h .books) openWord a ≡ 0) ⊎ (arena (h .books) openWord a ≡ 1) → ArenaSays P (viewOf al A P (h .books) r) r a
+        go : (arena (h .books) openWord a ≡ 0) ⊎ (arena (h .books) openWord a ≡ 1)
+            → ArenaSays P (viewOf al A P (h .books) r) r a
         go (inl e) =
             let z : r .mark a ≡ 0 = sym (S .marks a l) ∙ S .rule3 a l e .mark in
             record { open-is = e ∙ rw z; mark-is = S .marks a l; mark-high = omega arith; free-is = S .rule3 a l e .free ∙ rw z; base-is = refl }
@@ -242,7 +273,8 @@ held {al} {A} {P} {h} {r} S =
         let d : r .mark (n / P) ≢ 0 = (λ z. absurd (omega arith)) in
         record { opened = arena-is (n / P) u .open-is ∙ rw (ne-eqb (r .mark (n / P)) 0 d); below = rw (S .marks (n / P) u) t }
 
-    used′ : (n j : ℕ) → n < A * P → r .live n j ≡ true → Dec (512 ≤ j) → (carved P r n ≡ true) × (r .class n ≤ lastClass al)
+    used′ : (n j : ℕ) → n < A * P → r .live n j ≡ true → Dec (512 ≤ j)
+        → (carved P r n ≡ true) × (r .class n ≤ lastClass al)
     used′ n j l e (yes d) = absurd (true≢false (sym e ∙ S .beyond n j l d))
     used′ n j l e (no d) =
         let t = S .rule5 n j l (omega arith) (S .bits n j l (omega arith) ∙ e) in
@@ -252,19 +284,25 @@ held {al} {A} {P} {h} {r} S =
 -- ---- rule 8
 -- a pool of a class below 64 keeps its second half
 pub classed : {al n : ℕ} {m : List ℕ} {count free class next max : ℕ} {live : ℕ → Bool} {chain : List ℕ} {virgin : ℕ}
-    → PoolRule al n m count free class next max live chain virgin → class < 64 → InClass al n m count free class next max live chain virgin
+    → PoolRule al n m count free class next max live chain virgin → class < 64
+    → InClass al n m count free class next max live chain virgin
 classed (inl t) l = absurd (omega (arith, t .class-is))
 classed (inr t) l = t
 
 -- memory may change where the blocks of a pool stand
-pub rule-memory : {al n : ℕ} {m m′ : List ℕ} {count free class next max : ℕ} {live : ℕ → Bool} {chain : List ℕ} {virgin : ℕ}
-    → (class ≤ lastClass al → Blocks (sizeOf al class) n m free next live chain virgin → Blocks (sizeOf al class) n m′ free next live chain virgin)
-    → PoolRule al n m count free class next max live chain virgin → PoolRule al n m′ count free class next max live chain virgin
+pub rule-memory : {al n : ℕ} {m m′ : List ℕ} {count free class next max : ℕ}
+    {live : ℕ → Bool} {chain : List ℕ} {virgin : ℕ}
+    → (class ≤ lastClass al → Blocks (sizeOf al class) n m free next live chain virgin
+    → Blocks (sizeOf al class) n m′ free next live chain virgin)
+    → PoolRule al n m count free class next max live chain virgin
+    → PoolRule al n m′ count free class next max live chain virgin
 rule-memory f (inl t) = inl t
-rule-memory f (inr t) = inr (record { class-low = t .class-low; maxnextoffset-is = t .maxnextoffset-is; blocks = f (t .class-low) (t .blocks); two = t .two; one = t .one })
+rule-memory f (inr t) =
+    inr (record { class-low = t .class-low; maxnextoffset-is = t .maxnextoffset-is; blocks = f (t .class-low) (t .blocks); two = t .two; one = t .one })
 
 -- a pool of the plain heap that has a live block is in a class, with its blocks
-pub in-class : {al A P : ℕ} {U : View} {m k : List ℕ} {r : Plain} → Aligned al → Says al A P U m k r → (n j : ℕ) → n < A * P → r .live n j ≡ true → InClassOf al U m r n
+pub in-class : {al A P : ℕ} {U : View} {m k : List ℕ} {r : Plain} → Aligned al → Says al A P U m k r → (n j : ℕ)
+    → n < A * P → r .live n j ≡ true → InClassOf al U m r n
 in-class {r = r} L F n j l e = let t = F .pools n l .used j e in classed (F .pools n l .rule (t .0)) (class-low L (r .class n) (t .1))
 
 -- ---- and put together
@@ -279,7 +317,8 @@ closed-mark (suc mark) e = absurd (omega (arith, rw (eqb·suc-zero mark) at e))
 open-mark : (mark : ℕ) → opened mark ≡ 1 → mark ≢ 0
 open-mark mark e z = omega (arith, rw z at e)
 
-module _ {al A P : ℕ} {h : Heap} {U : View} {r : Plain} (L : Aligned al) (K : Books A (A * P) (h .books) U) (F : Says al A P U (h .memory) (h .map) r) where
+module _ {al A P : ℕ} {h : Heap} {U : View} {r : Plain} (L : Aligned al)
+    (K : Books A (A * P) (h .books) U) (F : Says al A P U (h .memory) (h .map) r) where
   shape : Shape A P h
   unfolding exact
   shape =
@@ -351,13 +390,16 @@ module _ {al A P : ℕ} {h : Heap} {U : View} {r : Plain} (L : Aligned al) (K : 
       }
     where
       -- the same lists and homes, by other names
-      renamed : {Meets : ℕ → List ℕ → Type 0} {H : ℕ → Type 0} {place : ℕ → ℕ} {N : ℕ} {at-home at-home′ : ℕ → ℕ} {rows rows′ : ℕ → List ℕ}
-          → ((i : ℕ) → H i → rows i ≡ rows′ i) → ((y : ℕ) → y < N → at-home y ≡ at-home′ y) → Family Meets H place N at-home rows → Family Meets H place N at-home′ rows′
+      renamed : {Meets : ℕ → List ℕ → Type 0} {H : ℕ → Type 0} {place : ℕ → ℕ}
+          {N : ℕ} {at-home at-home′ : ℕ → ℕ} {rows rows′ : ℕ → List ℕ}
+          → ((i : ℕ) → H i → rows i ≡ rows′ i) → ((y : ℕ) → y < N → at-home y ≡ at-home′ y)
+          → Family Meets H place N at-home rows → Family Meets H place N at-home′ rows′
       renamed {place = place} {N = N} {at-home = at-home} {at-home′ = at-home′} {rows = rows} e f G =
           record {
             row = λ i k. rw (← e i k) (G .row i k);
             members = λ i k. rw (← e i k)
-                (all-map {R = At N at-home′ (place i)} (λ y (t : At N at-home (place i) y). record { low = t .low; is = sym (f y (t .low)) ∙ t .is }) (rows i) (G .members i k));
+                (all-map {R = At N at-home′ (place i)}
+                (λ y (t : At N at-home (place i) y). record { low = t .low; is = sym (f y (t .low)) ∙ t .is }) (rows i) (G .members i k));
             all = λ i k y l g. rw (← e i k) (G .all i k y l (f y l ∙ g));
           }
 

@@ -1,4 +1,5 @@
--- What a heap holds at an offset: the bytes of the live block there, or nothing. What an ask and a give-back make of it.
+-- What a heap holds at an offset: the bytes of the live block there, or nothing. What an ask and a give-back make of
+-- it.
 -- Assumes nothing.
 use mathlib.Core.Path.{_≡_, refl, sym, ap, ap₂, _∙_, subst}
 use mathlib.Core.Logic.{_≢_, _⊎_, inl, inr}
@@ -42,12 +43,15 @@ pub record LiveAt (al A P : ℕ) (r : Plain) (o : ℕ) : Type 0 where
 abbrev pub liveSize : {al A P : ℕ} {r : Plain} {o : ℕ} → LiveAt al A P r o → ℕ
 liveSize {al} {r = r} t = sizeOf al (r .class (t .pool))
 
-pub live-ends : {al A P : ℕ} {r : Plain} {o : ℕ} (t : LiveAt al A P r o) → startOf (liveSize t) (t .block) + liveSize t ≤ 4096
+pub live-ends : {al A P : ℕ} {r : Plain} {o : ℕ} (t : LiveAt al A P r o)
+    → startOf (liveSize t) (t .block) + liveSize t ≤ 4096
 live-ends t = block-ends (liveSize t) (t .block) (suc (t .block)) (omega arith) (t .fits)
 
 -- a plain heap with the same class of its pool, and it live, has it too
-live-still : {al A P o : ℕ} {r r′ : Plain} (t : LiveAt al A P r o) → r′ .class (t .pool) ≡ r .class (t .pool) → r′ .live (t .pool) (t .block) ≡ true → LiveAt al A P r′ o
-live-still t e f = record { pool = t .pool; block = t .block; place = rw e (t .place); inside = t .inside; class = rw e (t .class); fits = rw e (t .fits); on = f }
+live-still : {al A P o : ℕ} {r r′ : Plain} (t : LiveAt al A P r o) → r′ .class (t .pool) ≡ r .class (t .pool)
+    → r′ .live (t .pool) (t .block) ≡ true → LiveAt al A P r′ o
+live-still t e f =
+    record { pool = t .pool; block = t .block; place = rw e (t .place); inside = t .inside; class = rw e (t .class); fits = rw e (t .fits); on = f }
 
 pub dead-holding : (al A P : ℕ) (h : Heap) (o : ℕ) → live al A P (h .books) (h .map) o ≡ false → holding al A P h o ≡ []
 unfolding holding
@@ -79,10 +83,19 @@ module _ {al A P : ℕ} {h : Heap} {r : Plain} (L : Aligned al) (S : Sound al A 
       }
 
   -- a live block of the plain heap
-  pub block-live : (p k : ℕ) → p < A * P → r .live p k ≡ true → LiveAt al A P r (offsetOf p (startOf (sizeOf al (r .class p)) k))
+  pub block-live : (p k : ℕ) → p < A * P → r .live p k ≡ true
+      → LiveAt al A P r (offsetOf p (startOf (sizeOf al (r .class p)) k))
   block-live p k l on =
       let I = in-class L (held S .says) p k l on in
-      record { pool = p; block = k; place = refl; inside = l; class = I .class-low; fits = omega (arith, live-below (I .blocks) k on, I .blocks .fits); on = on }
+      record {
+        pool = p;
+        block = k;
+        place = refl;
+        inside = l;
+        class = I .class-low;
+        fits = omega (arith, live-below (I .blocks) k on, I .blocks .fits);
+        on = on;
+      }
 
   pub block-pool : (p k : ℕ) (l : p < A * P) (on : r .live p k ≡ true) → block-live p k l on .pool ≡ p
   unfolding block-live
@@ -134,12 +147,14 @@ module _ {al A P : ℕ} {h : Heap} {r : Plain} (L : Aligned al) (S : Sound al A 
     holding-more = omega (arith, holding-long, low)
 
 -- ---- two sound heaps
-module _ {al A P : ℕ} {h h′ : Heap} {r r′ : Plain} (L : Aligned al) (S : Sound al A P h r) (S′ : Sound al A P h′ r′) where
+module _ {al A P : ℕ} {h h′ : Heap} {r r′ : Plain} (L : Aligned al)
+    (S : Sound al A P h r) (S′ : Sound al A P h′ r′) where
   -- the live blocks at one offset lie in one pool, and are one block of it if they are of one size
   pub one-pool : (o : ℕ) (t : LiveAt al A P r o) (u : LiveAt al A P r′ o) → u .pool ≡ t .pool
   one-pool o t u = sym (pool-is L S′ o u) ∙ pool-is L S o t
 
-  pub one-block : (o : ℕ) (t : LiveAt al A P r o) (u : LiveAt al A P r′ o) → liveSize u ≡ liveSize t → u .block ≡ t .block
+  pub one-block : (o : ℕ) (t : LiveAt al A P r o) (u : LiveAt al A P r′ o) → liveSize u ≡ liveSize t
+      → u .block ≡ t .block
   one-block o t u e = sym (number-at L S′ o u) ∙ ap (λ (s : ℕ). blockNo s (o % 4096)) e ∙ number-at L S o t
 
   -- ---- a step that touches no byte of a block that is live after it
@@ -148,17 +163,20 @@ module _ {al A P : ℕ} {h h′ : Heap} {r r′ : Plain} (L : Aligned al) (S : S
     untouched : (o : ℕ) (t : LiveAt al A P r′ o) → part o (liveSize t) (h′ .memory) ≡ part o (liveSize t) (h .memory)
     untouched o t =
         part-same (h .memory) (h′ .memory) o (liveSize t) (Q .same-length) (omega (arith, in-memory L S′ o t, Q .same-length))
-        (λ d v. subst (λ (x : ℕ). at (h′ .memory) (x + d) ≡ at (h .memory) (x + d)) (sym (t .place)) (Q .live-bytes (t .pool) (t .block) d (t .inside) (t .on) v))
+        (λ d v. subst (λ (x : ℕ). at (h′ .memory) (x + d) ≡ at (h .memory) (x + d))
+        (sym (t .place)) (Q .live-bytes (t .pool) (t .block) d (t .inside) (t .on) v))
 
     -- an offset that is live before and after, in a pool of the same class, holds the same
-    holding-same : (o : ℕ) → (LiveAt al A P r o → LiveAt al A P r′ o) → ((t : LiveAt al A P r′ o) → LiveAt al A P r o × (r .class (t .pool) ≡ r′ .class (t .pool)))
+    holding-same : (o : ℕ) → (LiveAt al A P r o → LiveAt al A P r′ o)
+        → ((t : LiveAt al A P r′ o) → LiveAt al A P r o × (r .class (t .pool) ≡ r′ .class (t .pool)))
         → holding al A P h′ o ≡ holding al A P h o
     holding-same o f g = go (live al A P (h′ .books) (h′ .map) o) refl
       where
         go : (t : Bool) → live al A P (h′ .books) (h′ .map) o ≡ t → holding al A P h′ o ≡ holding al A P h o
         go false e =
             dead-holding al A P h′ o e
-            ∙ sym (dead-holding al A P h o (is-false (live al A P (h .books) (h .map) o) (λ u. true≢false (sym (rows-live L S′ o (f (live-rows L S o u))) ∙ e))))
+            ∙ sym (dead-holding al A P h o
+            (is-false (live al A P (h .books) (h .map) o) (λ u. true≢false (sym (rows-live L S′ o (f (live-rows L S o u))) ∙ e))))
         go true e =
             let t = live-rows L S′ o e in
             let u = g t .0 in
@@ -205,7 +223,10 @@ module _ {al A P : ℕ} {h h′ : Heap} {r r′ : Plain} (L : Aligned al) (S : S
 
           go : (r .class (H .pool) ≡ c) ⊎ ((j : ℕ) → r .live (H .pool) j ≡ false) → ⊥
           go (inr f) = true≢false (sym (t .on) ∙ ap (λ (x : ℕ). r .live x (t .block)) q ∙ f (t .block))
-          go (inl e) = true≢false (sym (t .on) ∙ ap₂ (r .live) q (sym (one-block o t at-block (ap (sizeOf al) (H .class-now ∙ sym (ap (r .class) q ∙ e))))) ∙ H .was-dead)
+          go (inl e) =
+              true≢false (sym (t .on)
+              ∙ ap₂ (r .live) q (sym (one-block o t at-block (ap (sizeOf al) (H .class-now ∙ sym (ap (r .class) q ∙ e)))))
+              ∙ H .was-dead)
 
       -- nothing was held there
       pub holding-none : holding al A P h o ≡ []
@@ -238,21 +259,25 @@ module _ {al A P : ℕ} {h h′ : Heap} {r r′ : Plain} (L : Aligned al) (S : S
           back : (t : LiveAt al A P r′ x) → LiveAt al A P r x × (r .class (t .pool) ≡ r′ .class (t .pool))
           back t = go (ℕ-discrete (t .pool) (H .pool)) (ℕ-discrete (t .block) (H .block))
             where
-              same : r .class (t .pool) ≡ r′ .class (t .pool) → r .live (t .pool) (t .block) ≡ true → LiveAt al A P r x × (r .class (t .pool) ≡ r′ .class (t .pool))
+              same : r .class (t .pool) ≡ r′ .class (t .pool) → r .live (t .pool) (t .block) ≡ true
+                  → LiveAt al A P r x × (r .class (t .pool) ≡ r′ .class (t .pool))
               same e f = (live-still t e f, e)
 
               now : t .pool ≡ H .pool → r′ .class (t .pool) ≡ c
               now q = ap (r′ .class) q ∙ H .class-now
 
-              go : Dec (t .pool ≡ H .pool) → Dec (t .block ≡ H .block) → LiveAt al A P r x × (r .class (t .pool) ≡ r′ .class (t .pool))
+              go : Dec (t .pool ≡ H .pool) → Dec (t .block ≡ H .block)
+                  → LiveAt al A P r x × (r .class (t .pool) ≡ r′ .class (t .pool))
               go (no q) u = same (sym (H .classes (t .pool) q)) (sym (rw (ne-eqb (t .pool) (H .pool) q) at (live-at (t .pool) (t .block))) ∙ t .on)
               go (yes q) (yes u) = absurd (d (t .place ∙ rw (now q, q, u) (sym (H .place))))
               go (yes q) (no u) =
-                  let on : r .live (H .pool) (t .block) ≡ true = sym (rw (eq-eqb (t .pool) (H .pool) q, ne-eqb (t .block) (H .block) u) at (live-at (t .pool) (t .block))) ∙ t .on in
+                  let on : r .live (H .pool) (t .block) ≡ true =
+                  sym (rw (eq-eqb (t .pool) (H .pool) q, ne-eqb (t .block) (H .block) u) at (live-at (t .pool) (t .block))) ∙ t .on in
                   same (ap (r .class) q ∙ of-class (t .block) on ∙ sym (now q)) (rw q on)
 
     -- ---- a give-back of the live block at o
-    module _ (o : ℕ) (t : LiveAt al A P r o) (class-same : r′ .class ≡ r .class) (live-now : r′ .live ≡ to (t .pool) (to (t .block) false (r .live (t .pool))) (r .live)) where
+    module _ (o : ℕ) (t : LiveAt al A P r o) (class-same : r′ .class ≡ r .class)
+        (live-now : r′ .live ≡ to (t .pool) (to (t .block) false (r .live (t .pool))) (r .live)) where
       off : (y i : ℕ) → r′ .live y i ≡ to (t .pool) (to (t .block) false (r .live (t .pool))) (r .live) y i
       off y i = ap (λ (g : ℕ → ℕ → Bool). g y i) live-now
 
@@ -275,7 +300,8 @@ module _ {al A P : ℕ} {h h′ : Heap} {r r′ : Plain} (L : Aligned al) (S : S
           stays : LiveAt al A P r x → LiveAt al A P r′ x
           stays u = live-still u (class-at (u .pool)) (off (u .pool) (u .block) ∙ go (ℕ-discrete (u .pool) (t .pool)) (ℕ-discrete (u .block) (t .block)))
             where
-              go : Dec (u .pool ≡ t .pool) → Dec (u .block ≡ t .block) → to (t .pool) (to (t .block) false (r .live (t .pool))) (r .live) (u .pool) (u .block) ≡ true
+              go : Dec (u .pool ≡ t .pool) → Dec (u .block ≡ t .block)
+                  → to (t .pool) (to (t .block) false (r .live (t .pool))) (r .live) (u .pool) (u .block) ≡ true
               go (no q) k = rw (ne-eqb (u .pool) (t .pool) q) (u .on)
               go (yes q) (no k) = rw (eq-eqb (u .pool) (t .pool) q, ne-eqb (u .block) (t .block) k, ← q) (u .on)
               go (yes q) (yes k) = absurd (d (u .place ∙ ap₂ (λ (y z : ℕ). offsetOf y (startOf (sizeOf al (r .class y)) z)) q k ∙ sym (t .place)))
@@ -285,13 +311,15 @@ module _ {al A P : ℕ} {h h′ : Heap} {r r′ : Plain} (L : Aligned al) (S : S
               let e = sym (class-at (u .pool)) in
               (live-still u e (go (ℕ-discrete (u .pool) (t .pool)) (ℕ-discrete (u .block) (t .block)) (sym (off (u .pool) (u .block)) ∙ u .on)), e)
             where
-              go : Dec (u .pool ≡ t .pool) → Dec (u .block ≡ t .block) → to (t .pool) (to (t .block) false (r .live (t .pool))) (r .live) (u .pool) (u .block) ≡ true
+              go : Dec (u .pool ≡ t .pool) → Dec (u .block ≡ t .block)
+                  → to (t .pool) (to (t .block) false (r .live (t .pool))) (r .live) (u .pool) (u .block) ≡ true
                   → r .live (u .pool) (u .block) ≡ true
               go (no q) k e = rw (ne-eqb (u .pool) (t .pool) q) at e
               go (yes q) (no k) e = rw q (rw (eq-eqb (u .pool) (t .pool) q, ne-eqb (u .block) (t .block) k) at e)
               go (yes q) (yes k) e = absurd (true≢false (sym e ∙ rw (eq-eqb (u .pool) (t .pool) q, eq-eqb (u .block) (t .block) k)))
 
--- ---- what a step leaves, the heap being h before it: a heap that holds the plain heap r, at each offset the bytes that g says, and the first 48 bytes of each pool
+-- ---- what a step leaves, the heap being h before it: a heap that holds the plain heap r, at each offset the bytes
+-- that g says, and the first 48 bytes of each pool
 pub record Leaves (al A P : ℕ) (h h′ : Heap) (r : Plain) (g : ℕ → List ℕ) : Type 0 where
   pub sound : Sound al A P h′ r
   pub holds : (o : ℕ) → holding al A P h′ o ≡ g o

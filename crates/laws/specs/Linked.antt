@@ -1,5 +1,5 @@
--- Sequences in the words of the books: the writes of joining and leaving a doubly linked list, and what they leave of it and of every other word; and the freed pools' lists, which are
--- linked by next alone.
+-- Sequences in the words of the books: the writes of joining and leaving a doubly linked list, and what they leave of
+-- it and of every other word; and the freed pools' lists, which are linked by next alone.
 -- Assumes nothing.
 use mathlib.Core.Path.{_≡_, refl, sym, ap, _∙_}
 use mathlib.Core.Logic.{_≢_}
@@ -89,11 +89,13 @@ store-only b f base (suc k) v e =
     let q : base + 8 * (suc k - 1) + 1 ≡ f k = omega (arith, e k) in
     rw (eqb·suc-zero k, q)
 
-place-only : (f : ℕ → ℕ) (base h k : ℕ) → ((y : ℕ) → f y ≡ base + 8 * y) → (if none? k then h else base + 8 * (k - 1)) ≡ place h f k
+place-only : (f : ℕ → ℕ) (base h k : ℕ) → ((y : ℕ) → f y ≡ base + 8 * y)
+    → (if none? k then h else base + 8 * (k - 1)) ≡ place h f k
 place-only f base h zero e = refl
 place-only f base h (suc k) e = rw (eqb·suc-zero k) (omega (arith, e k))
 
-module _ (nx pv : ℕ → ℕ) (base : ℕ) (e : (y : ℕ) → nx y ≡ base + 8 * y) (f : (y : ℕ) → pv y ≡ base + 8 * y + 1) (h n : ℕ) (b : List ℕ) where
+module _ (nx pv : ℕ → ℕ) (base : ℕ) (e : (y : ℕ) → nx y ≡ base + 8 * y)
+    (f : (y : ℕ) → pv y ≡ base + 8 * y + 1) (h n : ℕ) (b : List ℕ) where
   pub leave-is : leave base h n b ≡ left nx pv h n b
   unfolding leaveBy left
   leave-is =
@@ -111,8 +113,11 @@ module _ {nx pv : ℕ → ℕ} {h N len : ℕ} (L : Lay nx pv h N len) (x : ℕ)
   join-writes k e i j l m d =
       record {
         head = rw e (search (getD-set-same, lt-length-set, lt-store));
-        own-next = past (nx x) (L .nx-h x) (λ y _. L .nx-pv x y) ∙ getD-set-other (set b (nx x) k) (pv x) (nx x) 0 0 (L .nx-pv x x) ∙ getD-set-same b (nx x) k 0 i;
-        own-prev = past (pv x) (L .pv-h x) (λ y q. L .pv-pv x y (λ t. d (q ∙ ap suc (sym t)))) ∙ getD-set-same (set b (nx x) k) (pv x) 0 0 (lt-length-set b (nx x) k j);
+        own-next = past (nx x) (L .nx-h x) (λ y _. L .nx-pv x y)
+            ∙ getD-set-other (set b (nx x) k) (pv x) (nx x) 0 0 (L .nx-pv x x)
+            ∙ getD-set-same b (nx x) k 0 i;
+        own-prev = past (pv x) (L .pv-h x) (λ y q. L .pv-pv x y (λ t. d (q ∙ ap suc (sym t))))
+            ∙ getD-set-same (set b (nx x) k) (pv x) 0 0 (lt-length-set b (nx x) k j);
         old-head = λ y n f. rw e (simp (getD-set-other, L .pv-h)
             (store-same pv k (suc x) y (set (set b (nx x) k) (pv x) 0) f (lt-length-set (set b (nx x) k) (pv x) 0 (lt-length-set b (nx x) k (m y f)))));
         next-same = λ y n. past (nx y) (L .nx-h y) (λ z _. L .nx-pv y z) ∙ simp (getD-set-other, L .nx-pv, L .nx-nx);
@@ -128,7 +133,8 @@ module _ {nx pv : ℕ → ℕ} {h N len : ℕ} (L : Lay nx pv h N len) (x : ℕ)
   leave-writes p n e l f g =
       record {
         head = λ z. past h (L .h-nx x) (L .h-pv x) (λ y _. L .h-pv y) ∙ rw z (getD-set-same b h n 0 l);
-        head-same = λ z. past h (L .h-nx x) (L .h-pv x) (λ y _. L .h-pv y) ∙ getD-set-other b (place h nx p) h n 0 (place-other nx h p h (λ q. absurd (z q)) (λ y _. L .h-nx y));
+        head-same = λ z. past h (L .h-nx x) (L .h-pv x) (λ y _. L .h-pv y)
+            ∙ getD-set-other b (place h nx p) h n 0 (place-other nx h p h (λ q. absurd (z q)) (λ y _. L .h-nx y));
         before = λ y a c. past (nx y) (L .nx-nx y x a) (L .nx-pv y x) (λ z _. L .nx-pv y z) ∙ rw c (getD-set-same b (nx y) n 0 (f y c));
         after = λ y a c. rw e (simp (getD-set-other, L .pv-pv, L .pv-nx)
             (store-same pv n p y (set b (place h nx p) n) c (lt-length-set b (place h nx p) n (g y c))));
@@ -143,7 +149,8 @@ module _ {nx pv : ℕ → ℕ} {h N len : ℕ} (L : Lay nx pv h N len) (x : ℕ)
 
 -- ---- the list itself
 module _ {nx pv : ℕ → ℕ} {h N : ℕ} {b : List ℕ} (L : Lay nx pv h N (length b)) where
-  pub join-in : {x : ℕ} {xs : List ℕ} → x < N → Not x xs → All (λ y. y < N) xs → Doubly nx pv b h xs → Doubly nx pv (joined nx pv h x b) h (x ∷ xs)
+  pub join-in : {x : ℕ} {xs : List ℕ} → x < N → Not x xs → All (λ y. y < N) xs → Doubly nx pv b h xs
+      → Doubly nx pv (joined nx pv h x b) h (x ∷ xs)
   unfolding joined
   join-in {x} {xs} l n i r =
       record {
@@ -158,7 +165,8 @@ module _ {nx pv : ℕ → ℕ} {h N : ℕ} {b : List ℕ} (L : Lay nx pv h N (le
   leave-in x pre post i r =
       record {
         row = row-leaves pre post (leave-writes L x b (left nx pv h x b) (at b (pv x)) (at b (nx x)) refl (L .h-in)
-            (λ y e. L .nx-in y (prev-in (λ y. y < N) (λ n. at b (nx n)) (λ n. at b (pv n)) x pre post (at b h) 0 i (r .row .walk) (λ y e. absurd (omega arith)) y e))
+            (λ y e. L .nx-in y (prev-in (λ y. y < N) (λ n. at b (nx n)) (λ n. at b (pv n)) x pre post
+            (at b h) 0 i (r .row .walk) (λ y e. absurd (omega arith)) y e))
             (λ y e. L .pv-in y (next-in (λ y. y < N) (λ n. at b (nx n)) (λ n. at b (pv n)) x pre post (at b h) 0 i (r .row .walk) y e))) (r .row);
       }
 
@@ -167,11 +175,13 @@ module _ {nx pv : ℕ → ℕ} {h N : ℕ} {b : List ℕ} (L : Lay nx pv h N (le
 abbrev pub LinksSame : (nx pv : ℕ → ℕ) → List ℕ → List ℕ → ℕ → Type 0
 LinksSame nx pv b b′ y = (at b′ (nx y) ≡ at b (nx y)) × (at b′ (pv y) ≡ at b (pv y))
 
-stack-same : (nx pv : ℕ → ℕ) (b b′ : List ℕ) (k : ℕ) (xs : List ℕ) → All (LinksSame nx pv b b′) xs → Stack (λ n. at b (nx n)) k xs → Stack (λ n. at b′ (nx n)) k xs
+stack-same : (nx pv : ℕ → ℕ) (b b′ : List ℕ) (k : ℕ) (xs : List ℕ) → All (LinksSame nx pv b b′) xs
+    → Stack (λ n. at b (nx n)) k xs → Stack (λ n. at b′ (nx n)) k xs
 stack-same nx pv b b′ k [] a s = s
 stack-same nx pv b b′ k (x ∷ xs) a s = (s .0, rw (a .0 .0) (stack-same nx pv b b′ (at b (nx x)) xs (a .1) (s .1)))
 
-behind-same : (nx pv : ℕ → ℕ) (b b′ xs : List ℕ) → All (LinksSame nx pv b b′) xs → All (λ y. at b (pv y) ≡ 0) xs → All (λ y. at b′ (pv y) ≡ 0) xs
+behind-same : (nx pv : ℕ → ℕ) (b b′ xs : List ℕ) → All (LinksSame nx pv b b′) xs → All (λ y. at b (pv y) ≡ 0) xs
+    → All (λ y. at b′ (pv y) ≡ 0) xs
 behind-same nx pv b b′ xs = all-two {S = λ y. at b′ (pv y) ≡ 0} (λ y (t : LinksSame nx pv b b′ y) (q : at b (pv y) ≡ 0). t .1 ∙ q) xs
 
 module _ {nx pv : ℕ → ℕ} {b b′ xs : List ℕ} {h : ℕ} (same : All (LinksSame nx pv b b′) xs) where
@@ -184,20 +194,31 @@ module _ {nx pv : ℕ → ℕ} {b b′ xs : List ℕ} {h : ℕ} (same : All (Lin
       }
 
   pub singly-same : at b′ h ≡ at b h → Singly nx pv b h xs → Singly nx pv b′ h xs
-  singly-same e r = record { walk = rw e (stack-same nx pv b b′ (at b h) xs same (r .walk)); once = r .once; behind = behind-same nx pv b b′ xs same (r .behind) }
+  singly-same e r =
+      record { walk = rw e (stack-same nx pv b b′ (at b h) xs same (r .walk)); once = r .once; behind = behind-same nx pv b b′ xs same (r .behind) }
 
   -- x, which is no member, comes to the front
-  pub singly-comes : {x : ℕ} → at b′ h ≡ suc x → at b′ (nx x) ≡ at b h → at b′ (pv x) ≡ 0 → Not x xs → Singly nx pv b h xs → Singly nx pv b′ h (x ∷ xs)
+  pub singly-comes : {x : ℕ} → at b′ h ≡ suc x → at b′ (nx x) ≡ at b h → at b′ (pv x) ≡ 0 → Not x xs
+      → Singly nx pv b h xs → Singly nx pv b′ h (x ∷ xs)
   singly-comes e f g n r =
-      record { walk = (e, rw f (stack-same nx pv b b′ (at b h) xs same (r .walk))); once = (n, r .once); behind = (g, behind-same nx pv b b′ xs same (r .behind)) }
+      record {
+        walk = (e, rw f (stack-same nx pv b b′ (at b h) xs same (r .walk)));
+        once = (n, r .once);
+        behind = (g, behind-same nx pv b b′ xs same (r .behind));
+      }
 
   -- the front goes
   pub singly-goes : {x : ℕ} → at b′ h ≡ at b (nx x) → Singly nx pv b h (x ∷ xs) → Singly nx pv b′ h xs
   singly-goes {x} e r =
-      record { walk = rw e (stack-same nx pv b b′ (at b (nx x)) xs same (r .walk .1)); once = r .once .1; behind = behind-same nx pv b b′ xs same (r .behind .1) }
+      record {
+        walk = rw e (stack-same nx pv b b′ (at b (nx x)) xs same (r .walk .1));
+        once = r .once .1;
+        behind = behind-same nx pv b b′ xs same (r .behind .1);
+      }
 
 -- ---- joining and leaving touch no other word
-pub joined-other : (nx pv : ℕ → ℕ) (h x i : ℕ) (b : List ℕ) → i ≢ nx x → i ≢ pv x → i ≢ h → ((y : ℕ) → at b h ≡ suc y → i ≢ pv y)
+pub joined-other : (nx pv : ℕ → ℕ) (h x i : ℕ) (b : List ℕ) → i ≢ nx x → i ≢ pv x → i ≢ h
+    → ((y : ℕ) → at b h ≡ suc y → i ≢ pv y)
     → at (joined nx pv h x b) i ≡ at b i
 unfolding joined
 joined-other nx pv h x i b p q r s = simp (getD-set-other, store-other)
@@ -228,7 +249,8 @@ left-own {nx} {pv} {h} {N} b L x l =
     (search (getD-set-other, getD-set-same, lt-length-set, lt-store, L .nx-pv), search (getD-set-same, lt-length-set, lt-store))
 
 -- ---- a record that is no member, nor the one that joins or leaves, keeps its links
-module _ {nx pv : ℕ → ℕ} {h N : ℕ} {b : List ℕ} (L : Lay nx pv h N (length b)) (x y : ℕ) (d : y ≢ x) (xs : List ℕ) (n : Not y xs) (r : Doubly nx pv b h xs) where
+module _ {nx pv : ℕ → ℕ} {h N : ℕ} {b : List ℕ} (L : Lay nx pv h N (length b))
+    (x y : ℕ) (d : y ≢ x) (xs : List ℕ) (n : Not y xs) (r : Doubly nx pv b h xs) where
   pub join-strange : LinksSame nx pv b (joined nx pv h x b) y
   join-strange = (
     joined-other nx pv h x (nx y) b (L .nx-nx y x d) (L .nx-pv y x) (L .nx-h y) (λ z e. L .nx-pv y z),

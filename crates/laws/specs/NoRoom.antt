@@ -1,5 +1,6 @@
--- When an ask finds no room: exactly if every pool holds a live block and every pool of the class is full of them. It finds none exactly with three lists empty, and these hold just the
--- closed arenas, the open ones with a free pool, and the pools of the class with a spare block.
+-- When an ask finds no room: exactly if every pool holds a live block and every pool of the class is full of them. It
+-- finds none exactly with three lists empty, and these hold just the closed arenas, the open ones with a free pool,
+-- and the pools of the class with a spare block.
 -- Assumes nothing.
 use mathlib.Core.Path.{_≡_, refl, sym, ap, _∙_}
 use mathlib.Core.Logic.{_≢_, _⊎_, inl, inr}
@@ -29,7 +30,8 @@ use Rattle.laws.specs.Holding.{holding, live-rows, rows-live, pool-is, b
 use Rattle.laws.specs.History.{Full}
 use Rattle.laws.specs.Calls.{NoneLeft, DoneOrNot, done-or-not, ask-done, ask-is}
 
-module _ {al A P : ℕ} {h : Heap} {r : Plain} (L : Aligned al) (S : Sound al A P h r) (n : ℕ) (low : 1 ≤ n) (high : n ≤ 512) where
+module _ {al A P : ℕ} {h : Heap} {r : Plain} (L : Aligned al)
+    (S : Sound al A P h r) (n : ℕ) (low : 1 ≤ n) (high : n ≤ 512) where
   F : Says al A P (held S .view) (h .memory) (h .map) r
   F = held S .says
 
@@ -41,7 +43,8 @@ module _ {al A P : ℕ} {h : Heap} {r : Plain} (L : Aligned al) (S : Sound al A 
     -- every pool is in use: its arena is open, and has no free pool
     all-used : (p : ℕ) → p < A * P → 1 ≤ count r p
     all-used p l =
-        let e : not (inUse r (p / P * P + p % P)) ≡ false = none-many (λ i. not (inUse r (p / P * P + i))) P no-free (p % P) (mod-lt p (omega (arith, pools-low))) in
+        let e : not (inUse r (p / P * P + p % P)) ≡ false =
+        none-many (λ i. not (inUse r (p / P * P + i))) P no-free (p % P) (mod-lt p (omega (arith, pools-low))) in
         ltb-true 0 (count r p) (not-false (inUse r p) (rw (div-add-mod' p P) at e))
       where
         la : p / P < A
@@ -52,7 +55,8 @@ module _ {al A P : ℕ} {h : Heap} {r : Plain} (L : Aligned al) (S : Sound al A 
 
         no-free : free P r (p / P) ≡ 0
         no-free =
-            let d : ¬ (1 ≤ free P r (p / P)) = (λ q. rw (none .usable) at (S .rule6 .arenas .all 2 (omega arith) (p / P) la (base-usable P r (p / P) marked (omega arith)))) in
+            let d : ¬ (1 ≤ free P r (p / P)) =
+            (λ q. rw (none .usable) at (S .rule6 .arenas .all 2 (omega arith) (p / P) la (base-usable P r (p / P) marked (omega arith)))) in
             omega arith
 
     is-full : Full al A P h (classOf al n)
@@ -77,7 +81,9 @@ module _ {al A P : ℕ} {h : Heap} {r : Plain} (L : Aligned al) (S : Sound al A 
             I = in-class L F p (t .number) l (t .yes)
 
             less : count r p < capacity (sizeOf al (r .class p)) → ⊥
-            less z = rw (none .listed) at (S .rule6 .listed .all (classOf al n) (class-low L (classOf al n) (has-class L n high)) p l (home-listed al P r p (all-used p l) z ∙ ap classHead e))
+            less z =
+                rw (none .listed) at (S .rule6 .listed .all (classOf al n)
+                (class-low L (classOf al n) (has-class L n high)) p l (home-listed al P r p (all-used p l) z ∙ ap classHead e))
 
             rooms : count r p + length (r .chain p) ≡ r .virgin p
             rooms = room (I .blocks) (omega (arith, capacity-high L (r .class p) (I .class-low)))
@@ -89,7 +95,8 @@ module _ {al A P : ℕ} {h : Heap} {r : Plain} (L : Aligned al) (S : Sound al A 
             all-live = let d : ¬ (count r p < capacity (sizeOf al (r .class p))) = less in omega arith
 
             on : r .live p k ≡ true
-            on = I .blocks .either k (omega (arith, rooms, all-live, I .blocks .fits, u′)) ∙ empty (r .chain p) (omega (arith, rooms, all-live, I .blocks .fits))
+            on =
+                I .blocks .either k (omega (arith, rooms, all-live, I .blocks .fits, u′)) ∙ empty (r .chain p) (omega (arith, rooms, all-live, I .blocks .fits))
               where
                 empty : (ks : List ℕ) → length ks ≡ 0 → not (among k ks) ≡ true
                 empty [] z = refl
@@ -103,7 +110,8 @@ module _ {al A P : ℕ} {h : Heap} {r : Plain} (L : Aligned al) (S : Sound al A 
       go (inr e) = e .plan-is
       go (inl e) = absurd (none (H .kind))
         where
-          H : Hand al A P r (plainAfterAsk al P r (classOf al n) (plainAsk al P r (classOf al n))) (classOf al n) (askAnswer (plainAsk al P r (classOf al n)) .offset)
+          H : Hand al A P r (plainAfterAsk al P r (classOf al n) (plainAsk al P r (classOf al n)))
+              (classOf al n) (askAnswer (plainAsk al P r (classOf al n)) .offset)
           H = ask-done L S n low high .hand e
 
           none : (r .class (H .pool) ≡ classOf al n) ⊎ ((j : ℕ) → r .live (H .pool) j ≡ false) → ⊥

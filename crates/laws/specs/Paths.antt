@@ -1,5 +1,6 @@
--- What is to be shown of each path: the rules decide what the plain heap decides, what they write holds the plain heap after,
--- and no byte of a live block nor of a pool's first 48 is touched. And a step inside a pool that is in use before and after.
+-- What is to be shown of each path: the rules decide what the plain heap decides, what they write holds the plain
+-- heap after, and no byte of a live block nor of a pool's first 48 is touched. And a step inside a pool that is in
+-- use before and after.
 -- Assumes nothing.
 use mathlib.Core.Path.{_≡_, refl, sym, ap, ap₂, _∙_}
 use mathlib.Core.Logic.{_≢_, _⊎_, inl}
@@ -20,7 +21,17 @@ use Rattle.rules.specs.Ask.{planAsk, afterAsk, askAnswer}
 use Rattle.rules.specs.GiveBack.{planBack, afterBack}
 use Rattle.books.specs.Known.{in-range}
 use Rattle.laws.specs.Update.{to, to-same, to-other}
-use Rattle.laws.specs.Plain.{Plain, count, inUse, free, setLive, planAsk as plainAsk, afterAsk as plainAfterAsk, planBack as plainBack, afterBack as plainAfterBack}
+use Rattle.laws.specs.Plain.{
+  Plain,
+  count,
+  inUse,
+  free,
+  setLive,
+  planAsk as plainAsk,
+  afterAsk as plainAfterAsk,
+  planBack as plainBack,
+  afterBack as plainAfterBack,
+}
 use Rattle.laws.specs.Counting.{many-same, many-more}
 use Rattle.laws.specs.Sizes.{Aligned, size-low}
 use Rattle.laws.specs.Bytes.{outside-less}
@@ -35,19 +46,24 @@ pub record Quiet (al A P : ℕ) (m m′ : List ℕ) (r : Plain) : Type 0 where
   pub same-length : length m′ ≡ length m
   pub first-bytes : (i : ℕ) → i % 4096 < 48 → at m′ i ≡ at m i
   pub live-bytes : (n j d : ℕ) → n < A * P → r .live n j ≡ true → d < sizeOf al (r .class n)
-      → at m′ (offsetOf n (startOf (sizeOf al (r .class n)) j) + d) ≡ at m (offsetOf n (startOf (sizeOf al (r .class n)) j) + d)
+      → at m′ (offsetOf n (startOf (sizeOf al (r .class n)) j) + d)
+      ≡ at m (offsetOf n (startOf (sizeOf al (r .class n)) j) + d)
 
 pub quiet-same : {al A P : ℕ} {m : List ℕ} {r : Plain} → Quiet al A P m m r
 quiet-same = record { same-length = refl; first-bytes = λ i l. refl; live-bytes = λ n j d l o u. refl }
 
 -- a link is written in a block that is not live
-pub quiet-link : {al A P : ℕ} {U : View} {m m₀ k : List ℕ} {r : Plain} → Aligned al → Says al A P U m₀ k r → (p j v : ℕ) → r .class p ≤ lastClass al
-    → j < capacity (sizeOf al (r .class p)) → r .live p j ≡ false → Quiet al A P m (putLink (offsetOf p (startOf (sizeOf al (r .class p)) j)) v m) r
+pub quiet-link : {al A P : ℕ} {U : View} {m m₀ k : List ℕ} {r : Plain} → Aligned al → Says al A P U m₀ k r → (p j v : ℕ)
+    → r .class p ≤ lastClass al
+    → j < capacity (sizeOf al (r .class p)) → r .live p j ≡ false
+    → Quiet al A P m (putLink (offsetOf p (startOf (sizeOf al (r .class p)) j)) v m) r
 quiet-link {al} {A} {P} {U} {m} {m₀} {k} {r} L F p j v c l dead =
     record {
       same-length = length-link m _ v;
-      first-bytes = λ i u. put-link-other m _ v i (outside-less four (first-outside p (startOf (sizeOf al (r .class p)) j) (sizeOf al (r .class p)) i (omega arith) ends u));
-      live-bytes = λ n i d ln on u. put-link-other m _ v _ (outside-less four (block-outside (λ y. sizeOf al (r .class y)) p j n i (other n i on) ends (live-ends n i ln on) d u));
+      first-bytes = λ i u. put-link-other m _ v i
+          (outside-less four (first-outside p (startOf (sizeOf al (r .class p)) j) (sizeOf al (r .class p)) i (omega arith) ends u));
+      live-bytes = λ n i d ln on u. put-link-other m _ v _
+          (outside-less four (block-outside (λ y. sizeOf al (r .class y)) p j n i (other n i on) ends (live-ends n i ln on) d u));
     }
   where
     four : 4 ≤ sizeOf al (r .class p)
@@ -56,13 +72,15 @@ quiet-link {al} {A} {P} {U} {m} {m₀} {k} {r} L F p j v c l dead =
     ends : startOf (sizeOf al (r .class p)) j + sizeOf al (r .class p) ≤ 4096
     ends = block-ends (sizeOf al (r .class p)) j (suc j) (omega arith) l
 
-    live-ends : (n i : ℕ) → n < A * P → r .live n i ≡ true → startOf (sizeOf al (r .class n)) i + sizeOf al (r .class n) ≤ 4096
+    live-ends : (n i : ℕ) → n < A * P → r .live n i ≡ true
+        → startOf (sizeOf al (r .class n)) i + sizeOf al (r .class n) ≤ 4096
     live-ends n i ln on = let I = in-class L F n i ln on in block-ends (sizeOf al (r .class n)) i (r .virgin n) (live-below (I .blocks) i on) (I .blocks .fits)
 
     other : (n i : ℕ) → r .live n i ≡ true → p ≡ n → j ≢ i
     other n i on q t = true≢false (sym on ∙ ap₂ (r .live) (sym q) (sym t) ∙ dead)
 
--- ---- the block that an ask for class c hands out at offset o: block k of pool p. The pool is of the class, or had no live block and is set to it
+-- ---- the block that an ask for class c hands out at offset o: block k of pool p. The pool is of the class, or had
+-- no live block and is set to it
 pub record Hand (al A P : ℕ) (r r′ : Plain) (c o : ℕ) : Type 0 where
   pub pool : ℕ
   pub block : ℕ
@@ -76,8 +94,10 @@ pub record Hand (al A P : ℕ) (r r′ : Plain) (c o : ℕ) : Type 0 where
   pub kind : (r .class pool ≡ c) ⊎ ((j : ℕ) → r .live pool j ≡ false)
 
 -- a block of a pool of the class
-pub hand-out : {al A P c : ℕ} {r r′ : Plain} (p k : ℕ) → p < A * P → k < capacity (sizeOf al c) → r .class p ≡ c → r .live p k ≡ false
-    → r′ .class ≡ r .class → r′ .live ≡ to p (to k true (r .live p)) (r .live) → Hand al A P r r′ c (offsetOf p (startOf (sizeOf al c) k))
+pub hand-out : {al A P c : ℕ} {r r′ : Plain} (p k : ℕ) → p < A * P → k < capacity (sizeOf al c) → r .class p ≡ c
+    → r .live p k ≡ false
+    → r′ .class ≡ r .class → r′ .live ≡ to p (to k true (r .live p)) (r .live)
+    → Hand al A P r r′ c (offsetOf p (startOf (sizeOf al c) k))
 hand-out p k l u cls dead e f =
     record {
       pool = p;
@@ -96,10 +116,13 @@ hand-out p k l u cls dead e f =
 pub record Asked (al A P : ℕ) (h : Heap) (r : Plain) (c : ℕ) : Type 0 where
   pub plan-is : planAsk al A P h c ≡ plainAsk al P r c
   pub sound : Sound al A P (afterAsk al A P c (plainAsk al P r c) h) (plainAfterAsk al P r c (plainAsk al P r c))
-  pub quiet : Quiet al A P (h .memory) (afterAsk al A P c (plainAsk al P r c) h .memory) (plainAfterAsk al P r c (plainAsk al P r c))
-  pub hand : askAnswer (plainAsk al P r c) .number ≡ 0 → Hand al A P r (plainAfterAsk al P r c (plainAsk al P r c)) c (askAnswer (plainAsk al P r c) .offset)
+  pub quiet : Quiet al A P (h .memory) (afterAsk al A P c (plainAsk al P r c) h .memory)
+      (plainAfterAsk al P r c (plainAsk al P r c))
+  pub hand : askAnswer (plainAsk al P r c) .number ≡ 0
+      → Hand al A P r (plainAfterAsk al P r c (plainAsk al P r c)) c (askAnswer (plainAsk al P r c) .offset)
 
-pub asked : {al A P : ℕ} {h : Heap} {r : Plain} {c : ℕ} (q : AskPlan) (r′ : Plain) → planAsk al A P h c ≡ q → plainAsk al P r c ≡ q → plainAfterAsk al P r c q ≡ r′
+pub asked : {al A P : ℕ} {h : Heap} {r : Plain} {c : ℕ} (q : AskPlan) (r′ : Plain) → planAsk al A P h c ≡ q
+    → plainAsk al P r c ≡ q → plainAfterAsk al P r c q ≡ r′
     → Sound al A P (afterAsk al A P c q h) r′ → Quiet al A P (h .memory) (afterAsk al A P c q h .memory) r′
     → (askAnswer q .number ≡ 0 → Hand al A P r r′ c (askAnswer q .offset)) → Asked al A P h r c
 asked q r′ e f g S Q H = record { plan-is = e ∙ sym f; sound = rw (f, g) S; quiet = rw (f, g) Q; hand = rw (f, g) H }
@@ -107,12 +130,17 @@ asked q r′ e f g S Q H = record { plan-is = e ∙ sym f; sound = rw (f, g) S; 
 -- ---- give back, of block j of pool p
 pub record Backed (al A P : ℕ) (h : Heap) (r : Plain) (p j : ℕ) : Type 0 where
   pub plan-is : planBack al A P (h .books) (r .class p) p ≡ plainBack P r p j
-  pub sound : Sound al A P (afterBack al A P (r .class p) p (startOf (sizeOf al (r .class p)) j) (plainBack P r p j) h) (plainAfterBack P r p j (plainBack P r p j))
-  pub quiet : Quiet al A P (h .memory) (afterBack al A P (r .class p) p (startOf (sizeOf al (r .class p)) j) (plainBack P r p j) h .memory) (plainAfterBack P r p j (plainBack P r p j))
+  pub sound : Sound al A P (afterBack al A P (r .class p) p (startOf (sizeOf al (r .class p)) j) (plainBack P r p j) h)
+      (plainAfterBack P r p j (plainBack P r p j))
+  pub quiet : Quiet al A P (h .memory)
+      (afterBack al A P (r .class p) p (startOf (sizeOf al (r .class p)) j) (plainBack P r p j) h .memory)
+      (plainAfterBack P r p j (plainBack P r p j))
 
-pub backed : {al A P : ℕ} {h : Heap} {r : Plain} {p j : ℕ} (q : BackPlan) (r′ : Plain) → planBack al A P (h .books) (r .class p) p ≡ q → plainBack P r p j ≡ q → plainAfterBack P r p j q ≡ r′
+pub backed : {al A P : ℕ} {h : Heap} {r : Plain} {p j : ℕ} (q : BackPlan) (r′ : Plain)
+    → planBack al A P (h .books) (r .class p) p ≡ q → plainBack P r p j ≡ q → plainAfterBack P r p j q ≡ r′
     → Sound al A P (afterBack al A P (r .class p) p (startOf (sizeOf al (r .class p)) j) q h) r′
-    → Quiet al A P (h .memory) (afterBack al A P (r .class p) p (startOf (sizeOf al (r .class p)) j) q h .memory) r′ → Backed al A P h r p j
+    → Quiet al A P (h .memory) (afterBack al A P (r .class p) p (startOf (sizeOf al (r .class p)) j) q h .memory) r′
+    → Backed al A P h r p j
 backed q r′ e f g S Q = record { plan-is = e ∙ sym f; sound = rw (f, g) S; quiet = rw (f, g) Q }
 
 -- ---- a pool's count, where one block becomes live or dead
@@ -143,9 +171,20 @@ insideRows p j d ks virgins listed r =
     }
 
 abbrev pub insideView : (ℕ → ℕ → ℕ) → (ℕ → ℕ) → (ℕ → List ℕ) → View → View
-insideView pools homes listed U = record { head = U .head; pool = pools; arena = U .arena; home = homes; base = U .base; listed = listed; freed = U .freed; arenas = U .arenas }
+insideView pools homes listed U =
+    record {
+      head = U .head;
+      pool = pools;
+      arena = U .arena;
+      home = homes;
+      base = U .base;
+      listed = listed;
+      freed = U .freed;
+      arenas = U .arenas;
+    }
 
-module _ {al A P p : ℕ} {U : View} {m k : List ℕ} {r : Plain} (L : Aligned al) (F : Says al A P U m k r) (lp : p < A * P) (j d : ℕ) (lj : j < 512) (ld : d < 2)
+module _ {al A P p : ℕ} {U : View} {m k : List ℕ} {r : Plain} (L : Aligned al)
+    (F : Says al A P U m k r) (lp : p < A * P) (j d : ℕ) (lj : j < 512) (ld : d < 2)
     (before : 1 ≤ count r p) (after : 1 ≤ count (r ▷ setLive p j (eqb d 1)) p) where
   -- the same pools are in use, so each arena has the same free pools
   in-use : (y : ℕ) → inUse (r ▷ setLive p j (eqb d 1)) y ≡ inUse r y
@@ -159,8 +198,10 @@ module _ {al A P p : ℕ} {U : View} {m k : List ℕ} {r : Plain} (L : Aligned a
   free-still x = many-same (λ i. not (inUse r (x * P + i))) (λ i. not (inUse (r ▷ setLive p j (eqb d 1)) (x * P + i))) P (λ i l. ap not (in-use (x * P + i)))
 
   -- ks is the pool's chain then, virgins and listed are the plain heap's, and pools, homes and lists the view's
-  pub inner : (ks : List ℕ) (virgins : ℕ → ℕ) (listed : ℕ → List ℕ) (pools : ℕ → ℕ → ℕ) (homes : ℕ → ℕ) (lists : ℕ → List ℕ) {m′ : List ℕ}
-      → ((y : ℕ) → y ≢ p → virgins y ≡ r .virgin y) → ((w y : ℕ) → y ≢ p → pools w y ≡ U .pool w y) → pools 7 p ≡ U .pool 7 p → ((y : ℕ) → y ≢ p → homes y ≡ U .home y)
+  pub inner : (ks : List ℕ) (virgins : ℕ → ℕ) (listed : ℕ → List ℕ)
+      (pools : ℕ → ℕ → ℕ) (homes : ℕ → ℕ) (lists : ℕ → List ℕ) {m′ : List ℕ}
+      → ((y : ℕ) → y ≢ p → virgins y ≡ r .virgin y) → ((w y : ℕ) → y ≢ p → pools w y ≡ U .pool w y)
+      → pools 7 p ≡ U .pool 7 p → ((y : ℕ) → y ≢ p → homes y ≡ U .home y)
       → ((c : ℕ) → c < 64 → lists c ≡ listed c) → BytesAfter p m m′
       → PoolSays al P (insideView pools homes lists U) m′ (insideRows p j d ks virgins listed r) p
       → Says al A P (insideView pools homes lists U) m′ (putMapBit p j d k) (insideRows p j d ks virgins listed r)

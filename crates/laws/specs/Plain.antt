@@ -1,4 +1,5 @@
--- The plain heap: sequences instead of links, and no bytes. Blocks go by their number in the pool. Its steps decide the same paths as 01's, and none of them is damage.
+-- The plain heap: sequences instead of links, and no bytes. Blocks go by their number in the pool. Its steps decide
+-- the same paths as 01's, and none of them is damage.
 -- Assumes nothing.
 use mathlib.Core.Bool.{Bool, true, false, not}
 use mathlib.Core.List.{List, [], _∷_}
@@ -67,39 +68,129 @@ rest (x ∷ xs) = xs
 -- ---- changes
 abbrev pub setUsable : List ℕ → Plain → Plain
 setUsable xs r =
-    record { usable = xs; unused = r .unused; mark = r .mark; freed = r .freed; listed = r .listed; class = r .class; chain = r .chain; virgin = r .virgin; live = r .live }
+    record {
+      usable = xs;
+      unused = r .unused;
+      mark = r .mark;
+      freed = r .freed;
+      listed = r .listed;
+      class = r .class;
+      chain = r .chain;
+      virgin = r .virgin;
+      live = r .live;
+    }
 
 abbrev pub setUnused : List ℕ → Plain → Plain
 setUnused xs r =
-    record { usable = r .usable; unused = xs; mark = r .mark; freed = r .freed; listed = r .listed; class = r .class; chain = r .chain; virgin = r .virgin; live = r .live }
+    record {
+      usable = r .usable;
+      unused = xs;
+      mark = r .mark;
+      freed = r .freed;
+      listed = r .listed;
+      class = r .class;
+      chain = r .chain;
+      virgin = r .virgin;
+      live = r .live;
+    }
 
 abbrev pub setMark : ℕ → ℕ → Plain → Plain
 setMark a v r =
-    record { usable = r .usable; unused = r .unused; mark = to a v (r .mark); freed = r .freed; listed = r .listed; class = r .class; chain = r .chain; virgin = r .virgin; live = r .live }
+    record {
+      usable = r .usable;
+      unused = r .unused;
+      mark = to a v (r .mark);
+      freed = r .freed;
+      listed = r .listed;
+      class = r .class;
+      chain = r .chain;
+      virgin = r .virgin;
+      live = r .live;
+    }
 
 abbrev pub setFreed : ℕ → List ℕ → Plain → Plain
 setFreed a xs r =
-    record { usable = r .usable; unused = r .unused; mark = r .mark; freed = to a xs (r .freed); listed = r .listed; class = r .class; chain = r .chain; virgin = r .virgin; live = r .live }
+    record {
+      usable = r .usable;
+      unused = r .unused;
+      mark = r .mark;
+      freed = to a xs (r .freed);
+      listed = r .listed;
+      class = r .class;
+      chain = r .chain;
+      virgin = r .virgin;
+      live = r .live;
+    }
 
 abbrev pub setListed : ℕ → List ℕ → Plain → Plain
 setListed c xs r =
-    record { usable = r .usable; unused = r .unused; mark = r .mark; freed = r .freed; listed = to c xs (r .listed); class = r .class; chain = r .chain; virgin = r .virgin; live = r .live }
+    record {
+      usable = r .usable;
+      unused = r .unused;
+      mark = r .mark;
+      freed = r .freed;
+      listed = to c xs (r .listed);
+      class = r .class;
+      chain = r .chain;
+      virgin = r .virgin;
+      live = r .live;
+    }
 
 abbrev pub setClass : ℕ → ℕ → Plain → Plain
 setClass p v r =
-    record { usable = r .usable; unused = r .unused; mark = r .mark; freed = r .freed; listed = r .listed; class = to p v (r .class); chain = r .chain; virgin = r .virgin; live = r .live }
+    record {
+      usable = r .usable;
+      unused = r .unused;
+      mark = r .mark;
+      freed = r .freed;
+      listed = r .listed;
+      class = to p v (r .class);
+      chain = r .chain;
+      virgin = r .virgin;
+      live = r .live;
+    }
 
 abbrev pub setChain : ℕ → List ℕ → Plain → Plain
 setChain p xs r =
-    record { usable = r .usable; unused = r .unused; mark = r .mark; freed = r .freed; listed = r .listed; class = r .class; chain = to p xs (r .chain); virgin = r .virgin; live = r .live }
+    record {
+      usable = r .usable;
+      unused = r .unused;
+      mark = r .mark;
+      freed = r .freed;
+      listed = r .listed;
+      class = r .class;
+      chain = to p xs (r .chain);
+      virgin = r .virgin;
+      live = r .live;
+    }
 
 abbrev pub setVirgin : ℕ → ℕ → Plain → Plain
 setVirgin p v r =
-    record { usable = r .usable; unused = r .unused; mark = r .mark; freed = r .freed; listed = r .listed; class = r .class; chain = r .chain; virgin = to p v (r .virgin); live = r .live }
+    record {
+      usable = r .usable;
+      unused = r .unused;
+      mark = r .mark;
+      freed = r .freed;
+      listed = r .listed;
+      class = r .class;
+      chain = r .chain;
+      virgin = to p v (r .virgin);
+      live = r .live;
+    }
 
 abbrev pub setLive : ℕ → ℕ → Bool → Plain → Plain
 setLive p k d r =
-    record { usable = r .usable; unused = r .unused; mark = r .mark; freed = r .freed; listed = r .listed; class = r .class; chain = r .chain; virgin = r .virgin; live = to p (to k d (r .live p)) (r .live) }
+    record {
+      usable = r .usable;
+      unused = r .unused;
+      mark = r .mark;
+      freed = r .freed;
+      listed = r .listed;
+      class = r .class;
+      chain = r .chain;
+      virgin = r .virgin;
+      live = to p (to k d (r .live p)) (r .live);
+    }
 
 -- ---- format: every arena is closed and unused, in rising order
 -- k numbers from i on
@@ -108,7 +199,18 @@ from i zero = []
 from i (suc k) = i ∷ from (suc i) k
 
 abbrev pub fresh : ℕ → Plain
-fresh A = record { usable = []; unused = from 0 A; mark = λ a. 0; freed = λ a. []; listed = λ c. []; class = λ p. noClass; chain = λ p. []; virgin = λ p. 0; live = λ p k. false }
+fresh A =
+    record {
+      usable = [];
+      unused = from 0 A;
+      mark = λ a. 0;
+      freed = λ a. [];
+      listed = λ c. [];
+      class = λ p. noClass;
+      chain = λ p. [];
+      virgin = λ p. 0;
+      live = λ p k. false;
+    }
 
 -- ---- ask, for a block of class c
 module _ (al P : ℕ) (r : Plain) (c : ℕ) where
@@ -119,11 +221,15 @@ module _ (al P : ℕ) (r : Plain) (c : ℕ) where
   -- the front pool p of the class gives the block k; ks is the chain behind it
   abbrev pub fromListed : ℕ → ℕ → List ℕ → AskPlan
   fromListed p k (j ∷ js) = Follow p (begins k) (begins j)
-  fromListed p k [] = if ltb (r .virgin p) (capacity (sizeOf al c)) then Ready p (begins k) (begins (r .virgin p)) else Last p (begins k)
+  fromListed p k [] =
+      if ltb (r .virgin p) (capacity (sizeOf al c)) then Ready p (begins k) (begins (r .virgin p))
+      else Last p (begins k)
 
   -- arena a, with its freed pools
   abbrev pub fromArena : ℕ → List ℕ → AskPlan
-  fromArena a (p ∷ ps) = if eqb (r .class p) c then Again a p (begins (front (r .chain p))) (begins (front (rest (r .chain p)))) else Anew (Freed a) p
+  fromArena a (p ∷ ps) =
+      if eqb (r .class p) c then Again a p (begins (front (r .chain p))) (begins (front (rest (r .chain p))))
+      else Anew (Freed a) p
   fromArena a [] = Anew (Carved a) (a * P + r .mark a)
 
   abbrev pub fromUnused : List ℕ → AskPlan
@@ -161,7 +267,8 @@ module _ (al P : ℕ) (r : Plain) (c : ℕ) where
   afterAsk (Ready p f m) = r ▷ handOut p (r .virgin p ∷ []) ▷ setVirgin p (r .virgin p + 1)
   afterAsk (Last p f) = r ▷ handOut p [] ▷ setListed c (erase p (r .listed c))
   afterAsk (Again a p f l) = r ▷ takeFrom (Freed a) ▷ setListed c (p ∷ []) ▷ handOut p (rest (r .chain p))
-  afterAsk (Anew s p) = r ▷ takeFrom s ▷ setListed c (p ∷ []) ▷ setClass p c ▷ setVirgin p 2 ▷ setChain p (1 ∷ []) ▷ setLive p 0 true
+  afterAsk (Anew s p) =
+      r ▷ takeFrom s ▷ setListed c (p ∷ []) ▷ setClass p c ▷ setVirgin p 2 ▷ setChain p (1 ∷ []) ▷ setLive p 0 true
 
 -- ---- give back block k of pool p
 module _ (P : ℕ) (r : Plain) (p k : ℕ) where
@@ -193,7 +300,8 @@ module _ (P : ℕ) (r : Plain) (p k : ℕ) where
   afterBack Stays = r ▷ takeBack
   afterBack Empties = r ▷ takeBack ▷ empty
   afterBack Returns = r ▷ takeBack ▷ empty ▷ setUsable (a ∷ r .usable)
-  afterBack Releases = r ▷ takeBack ▷ empty ▷ setUsable (erase a (r .usable)) ▷ setUnused (a ∷ r .unused) ▷ setMark a 0 ▷ setFreed a []
+  afterBack Releases =
+      r ▷ takeBack ▷ empty ▷ setUsable (erase a (r .usable)) ▷ setUnused (a ∷ r .unused) ▷ setMark a 0 ▷ setFreed a []
 
 -- ---- the steps: ask for n bytes; give back a block; resize a block to n bytes
 abbrev pub askPlain : ℕ → ℕ → Plain → ℕ → Plain
@@ -213,4 +321,5 @@ resizePlain al P r p k n =
 
 -- what resize answers, the block being at offset o: a refused ask is its answer
 abbrev pub resizeAnswer : ℕ → ℕ → Plain → ℕ → ℕ → ℕ → Answer
-resizeAnswer al P r o p n = if keeps (sizeOf al (r .class p)) n then answerOf 0 o else askAnswer (planAsk al P r (classOf al n))
+resizeAnswer al P r o p n =
+    if keeps (sizeOf al (r .class p)) n then answerOf 0 o else askAnswer (planAsk al P r (classOf al n))

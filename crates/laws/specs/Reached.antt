@@ -1,5 +1,5 @@
--- Small histories, computed by `run` itself, that reach each path of ask and give back, a refusal with 4, a moved resize
--- and a second arena: the theorems are not empty.
+-- Small histories, computed by `run` itself, that reach each path of ask and give back, a refusal with 4, a moved
+-- resize and a second arena: the theorems are not empty.
 -- Assumes nothing.
 use mathlib.Core.Path.{_≡_}
 use mathlib.Core.Bool.{Bool, true, _&&_}
@@ -17,7 +17,23 @@ use Rattle.rules.specs.Books.{Heap, memoryLength, booksLength, mapLength, bit, 
 use Rattle.rules.specs.Blocks.{classOf, classAt, isStart, linkAt, putLink, live, liveNumber}
 use Rattle.rules.specs.Lists.{leaveBy, joinBy}
 use Rattle.rules.specs.Format.{freshBooks}
-use Rattle.rules.specs.Ask.{noLink, fromFreeblock, fromListed, setAnew, sameClass, takeAgain, fromMark, fromFreed, fromUsable, fromUnused, planAsk, takeFrom, afterAsk, askAnswer, askStep}
+use Rattle.rules.specs.Ask.{
+  noLink,
+  fromFreeblock,
+  fromListed,
+  setAnew,
+  sameClass,
+  takeAgain,
+  fromMark,
+  fromFreed,
+  fromUsable,
+  fromUnused,
+  planAsk,
+  takeFrom,
+  afterAsk,
+  askAnswer,
+  askStep,
+}
 use Rattle.rules.specs.GiveBack.{emptying, planBack, afterBack, backAnswer, backStep}
 use Rattle.rules.specs.Resize.{giveOld, moved, resizeStep}
 use Rattle.rules.specs.Outcome.{heapOf}
@@ -53,8 +69,9 @@ use Rattle.laws.specs.History.{
 }
 use Rattle.laws.specs.Theorems.{begun}
 
--- the paths by number: of an ask 0 no room, 1 by link, 2 by a block set ready, 3 as the last spare block, 4 freed of the same class, 5 freed of another,
--- 6 carved, 7 opened; of a give-back 1 joins, 2 stays, 3 empties, 4 the arena newly usable, 5 released
+-- the paths by number: of an ask 0 no room, 1 by link, 2 by a block set ready, 3 as the last spare block, 4 freed of
+-- the same class, 5 freed of another, 6 carved, 7 opened; of a give-back 1 joins, 2 stays, 3 empties, 4 the arena
+-- newly usable, 5 released
 abbrev sourceNo : Source → ℕ
 sourceNo (Freed a) = 5
 sourceNo (Carved a) = 6
@@ -77,8 +94,8 @@ backNo Empties = 3
 backNo Returns = 4
 backNo Releases = 5
 
--- the path that an event's call takes on a heap of A arenas with P pools; of a resize the offset that it answers, of the
--- others nothing
+-- the path that an event's call takes on a heap of A arenas with P pools; of a resize the offset that it answers, of
+-- the others nothing
 abbrev pathOf : ℕ → ℕ → Heap → Event → ℕ
 pathOf A P h (formats A′ P′) = 0
 pathOf A P h (asks n) = askNo (planAsk 8 A P h (classOf 8 n))
@@ -100,7 +117,10 @@ events (t ∷ ts) = t .0 ∷ events ts
 
 -- every turn takes its path, each in the state that those before it leave
 unfoldable pub reaches : ℕ → ℕ → List Turn → State → Bool
-unfolding inRange exact bit putBit isStart linkAt putLink live liveNumber leaveBy joinBy freshBooks noLink fromFreeblock fromListed setAnew sameClass takeAgain fromMark fromFreed fromUsable fromUnused planAsk takeFrom afterAsk askAnswer askStep emptying planBack afterBack backAnswer backStep giveOld moved resizeStep fitNumber shapeNumber sizeNumber roomNumber format ask giveBack resize write after
+unfolding inRange exact bit putBit isStart linkAt putLink live liveNumber leaveBy joinBy freshBooks noLink
+    fromFreeblock fromListed setAnew sameClass takeAgain fromMark fromFreed fromUsable fromUnused planAsk takeFrom
+    afterAsk askAnswer askStep emptying planBack afterBack backAnswer backStep giveOld moved resizeStep fitNumber
+    shapeNumber sizeNumber roomNumber format ask giveBack resize write after
 reaches A P [] x = true
 reaches A P (t ∷ ts) x = eqb (pathOf A P (x .heap) (t .0)) (t .1) && reaches A P ts (after 8 x (t .0))
 
@@ -180,15 +200,18 @@ two-arenas = record {
   bytes = 111 ∷ 119 ∷ 101 ∷ 100 ∷ 0 ∷ 0 ∷ 0 ∷ 33 ∷ [];
 }
 
-computed-two : (f g k : ℕ → ℕ) → Holds two-pools (tab (memoryLength 1 2) 0 f) (tab (booksLength 1 2) 0 g) (tab (mapLength 1 2) 0 k)
+computed-two : (f g k : ℕ → ℕ)
+    → Holds two-pools (tab (memoryLength 1 2) 0 f) (tab (booksLength 1 2) 0 g) (tab (mapLength 1 2) 0 k)
 unfolding ends events
 computed-two f g k = tt
 
-computed-three : (f g k : ℕ → ℕ) → Holds three-pools (tab (memoryLength 1 3) 0 f) (tab (booksLength 1 3) 0 g) (tab (mapLength 1 3) 0 k)
+computed-three : (f g k : ℕ → ℕ)
+    → Holds three-pools (tab (memoryLength 1 3) 0 f) (tab (booksLength 1 3) 0 g) (tab (mapLength 1 3) 0 k)
 unfolding ends events
 computed-three f g k = tt
 
-computed-arenas : (f g k : ℕ → ℕ) → Holds two-arenas (tab (memoryLength 2 2) 0 f) (tab (booksLength 2 2) 0 g) (tab (mapLength 2 2) 0 k)
+computed-arenas : (f g k : ℕ → ℕ)
+    → Holds two-arenas (tab (memoryLength 2 2) 0 f) (tab (booksLength 2 2) 0 g) (tab (mapLength 2 2) 0 k)
 unfolding ends events
 computed-arenas f g k = tt
 

@@ -1,5 +1,6 @@
--- Demand 1, over any heap at all: a call that is refused changes nothing, but for the half-done resize; and which calls never give 6.
--- It holds because a test that fails answers its number over the heap as it was, and so does a path that ends at a broken rule.
+-- Demand 1, over any heap at all: a call that is refused changes nothing, but for the half-done resize; and which
+-- calls never give 6. It holds because a test that fails answers its number over the heap as it was, and so does a
+-- path that ends at a broken rule.
 -- Assumes nothing.
 use mathlib.Core.Path.{_≡_, refl, sym, ap, _∙_}
 use mathlib.Core.Logic.{_≢_, _⊎_, inl, inr}
@@ -21,7 +22,27 @@ use Rattle.rules.specs.Outcome.{Outcome, outcome, answerOf, done, refused, pass
 use Rattle.rules.specs.Ask.{askAnswer, afterAsk, asked, askStep}
 use Rattle.rules.specs.GiveBack.{backAnswer, afterBack, givenBack, backStep}
 use Rattle.rules.specs.Resize.{keeps, copy, giveOld, halfDone, moved, resizeStep}
-use Rattle.rules.specs.Numbers.{RollOutcome, fitNumber, shapeNumber, sizeNumber, roomNumber, _before_, inOrder, offsetNumber, blockSize, rollOf, rollOutcome, sizedOf, format, ask, giveBack, resize, viewSize, write, rollCall}
+use Rattle.rules.specs.Numbers.{
+  RollOutcome,
+  fitNumber,
+  shapeNumber,
+  sizeNumber,
+  roomNumber,
+  _before_,
+  inOrder,
+  offsetNumber,
+  blockSize,
+  rollOf,
+  rollOutcome,
+  sizedOf,
+  format,
+  ask,
+  giveBack,
+  resize,
+  viewSize,
+  write,
+  rollCall,
+}
 use Rattle.books.specs.Tests.{either}
 
 -- ---- a refusal leaves the heap h as it was
@@ -29,7 +50,8 @@ abbrev pub Unchanged : Heap → Outcome → Type 0
 Unchanged h x = x .answer .number ≢ 0 → x ≡ refused (x .answer .number) h
 
 -- what holds of every refusal over h, and of what comes after the tests
-pub tested : (F : Outcome → Type 0) (h : Heap) (k : ℕ) (x : Outcome) → ((j : ℕ) → F (refused j h)) → (k ≡ 0 → F x) → F (passing k (λ j. refused j h) x)
+pub tested : (F : Outcome → Type 0) (h : Heap) (k : ℕ) (x : Outcome) → ((j : ℕ) → F (refused j h)) → (k ≡ 0 → F x)
+    → F (passing k (λ j. refused j h) x)
 tested F h zero x f g = g refl
 tested F h (suc k) x f g = f (suc k)
 
@@ -108,14 +130,16 @@ module _ (al : ℕ) (h : Heap) where
   write-refused o text = after-tests h (inOrder (shapeNumber h) 0 (offsetNumber al h o) (roomNumber (length text) (blockSize al h o))) _ (was-done refl)
 
   -- roll call leaves the lent words
-  pub roll-refused : (words : List ℕ) → rollCall al h words .answer .number ≢ 0 → rollCall al h words ≡ rollOutcome (rollCall al h words .answer .number) 0 words
+  pub roll-refused : (words : List ℕ) → rollCall al h words .answer .number ≢ 0
+      → rollCall al h words ≡ rollOutcome (rollCall al h words .answer .number) 0 words
   unfolding rollCall
   roll-refused words = go (inOrder (shapeNumber h) 0 0 (roomNumber (length (rollOf al h)) (length words))) _
     where
       Q : RollOutcome → Type 0
       Q x = x .answer .number ≢ 0 → x ≡ rollOutcome (x .answer .number) 0 words
 
-      go : (k : ℕ) (v : List ℕ) → Q (passing k (λ j. rollOutcome j 0 words) (rollOutcome 0 (length (rollOf al h) / 2) v))
+      go : (k : ℕ) (v : List ℕ)
+          → Q (passing k (λ j. rollOutcome j 0 words) (rollOutcome 0 (length (rollOf al h) / 2) v))
       go zero v n = absurd (n refl)
       go (suc k) v n = refl
 
@@ -153,14 +177,16 @@ module _ (al : ℕ) (h : Heap) where
     Fair x = x .answer .number ≢ 0 → (x ≡ refused (x .answer .number) h) ⊎ HalfDone o n x
 
     by-back : asked-new .answer .number ≡ 0 → (i : ℕ) → back .answer .number ≡ i
-        → Fair (passing i (λ k. outcome (answerOf 6 (asked-new .answer .offset)) (back .heap)) (done (asked-new .answer .offset) (back .heap)))
+        → Fair (passing i (λ k. outcome (answerOf 6 (asked-new .answer .offset)) (back .heap))
+        (done (asked-new .answer .offset) (back .heap)))
     by-back e zero f d = absurd (d refl)
     by-back e (suc i) f d =
         let not-done : back .answer .number ≢ 0 = λ z. absurd (omega (arith, f, z)) in
         let stands = ap (λ (x : Outcome). x .heap) (back-unchanged not-done) in
         inr (record { handed-out = e; answers = refl; stands = stands; meets = rw stands (old-meets al A P copied o not-done) })
 
-    by-ask : (j : ℕ) → asked-new .answer .number ≡ j → Fair (passing j (λ number. asked-new) (halfDone al A P (asked-new .answer .offset) back))
+    by-ask : (j : ℕ) → asked-new .answer .number ≡ j
+        → Fair (passing j (λ number. asked-new) (halfDone al A P (asked-new .answer .offset) back))
     by-ask zero e d = by-back e (back .answer .number) refl d
     by-ask (suc j) e d = inl (ask-step al A P h n d)
 
@@ -175,7 +201,8 @@ module _ (al : ℕ) (h : Heap) where
     by-tests (suc k) d = inl refl
 
     -- a resize that is refused changed nothing, or is half done
-    pub resize-refused : resize al h o n .answer .number ≢ 0 → (resize al h o n ≡ refused (resize al h o n .answer .number) h) ⊎ HalfDone o n (resize al h o n)
+    pub resize-refused : resize al h o n .answer .number ≢ 0
+        → (resize al h o n ≡ refused (resize al h o n .answer .number) h) ⊎ HalfDone o n (resize al h o n)
     unfolding resize
     resize-refused = by-tests (inOrder (shapeNumber h) (sizeNumber n) (offsetNumber al h o) 0)
 
@@ -204,7 +231,8 @@ unfolding roomNumber
 room-six wanted room = not-six (ltb room wanted) 7 0 (omega arith) (omega arith)
 
 -- the number of a call that answers its tests' number, or 0
-module _ {X : Type 0} (number : X → ℕ) (refusal : ℕ → X) (is : (k : ℕ) → number (refusal k) ≡ k) (rest : X) (done-is : number rest ≡ 0) where
+module _ {X : Type 0} (number : X → ℕ) (refusal : ℕ → X)
+    (is : (k : ℕ) → number (refusal k) ≡ k) (rest : X) (done-is : number rest ≡ 0) where
   call-six : (k : ℕ) → k ≢ 6 → number (passing k refusal rest) ≢ 6
   call-six zero d = λ e. absurd (omega (arith, e, done-is))
   call-six (suc k) d = λ e. d (sym (is (suc k)) ∙ e)
@@ -224,7 +252,8 @@ module _ (al : ℕ) (h : Heap) where
 
   pub write-six : (o : ℕ) (text : List ℕ) → write al h o text .answer .number ≢ 6
   unfolding write
-  write-six o text = call-six (λ (x : Outcome). x .answer .number) (λ k. refused k h) (λ k. refl) _ refl _ (offset-six o _ (room-six (length text) (blockSize al h o)))
+  write-six o text =
+      call-six (λ (x : Outcome). x .answer .number) (λ k. refused k h) (λ k. refl) _ refl _ (offset-six o _ (room-six (length text) (blockSize al h o)))
 
   pub roll-six : (words : List ℕ) → rollCall al h words .answer .number ≢ 6
   unfolding rollCall

@@ -1,5 +1,6 @@
--- Resize over a sound heap: it answers as the plain heap does, and what it leaves holds what the plain heap leaves. It is an ask, a copy into the block handed out, which
--- keeps the plain heap, and a give-back of the old block, which is still the block that it was.
+-- Resize over a sound heap: it answers as the plain heap does, and what it leaves holds what the plain heap leaves.
+-- It is an ask, a copy into the block handed out, which keeps the plain heap, and a give-back of the old block, which
+-- is still the block that it was.
 -- Assumes nothing.
 use mathlib.Core.Path.{_≡_, refl, sym, ap, ap₂, _∙_, subst}
 use mathlib.Core.Logic.{_≢_, inl, inr}
@@ -26,7 +27,26 @@ use Rattle.laws.specs.Sizes.{Aligned, has-class, class-fits}
 use Rattle.laws.specs.Sound.{Sound}
 use Rattle.laws.specs.Paths.{Hand, Asked}
 use Rattle.laws.specs.Bytes.{outside-less, sets-off, text-part}
-use Rattle.laws.specs.Holding.{LiveAt, liveSize, holding, live-rows, class-is, rows-live, in-memory, one-pool, one-block, at-block, at-class, holding-live, holding-long, holding-more, holding-some, holding-none, holding-others, Leaves}
+use Rattle.laws.specs.Holding.{
+  LiveAt,
+  liveSize,
+  holding,
+  live-rows,
+  class-is,
+  rows-live,
+  in-memory,
+  one-pool,
+  one-block,
+  at-block,
+  at-class,
+  holding-live,
+  holding-long,
+  holding-more,
+  holding-some,
+  holding-none,
+  holding-others,
+  Leaves,
+}
 use Rattle.laws.specs.Calls.{shape-zero, DoneOrNot, done-or-not, ask-done, block-of, back-is, back-leaves}
 use Rattle.laws.specs.Written.{written-leaves}
 use Rattle.laws.specs.History.{carried}
@@ -55,7 +75,8 @@ module _ {al A P : ℕ} {h : Heap} {r : Plain} (L : Aligned al) (S : Sound al A 
       unfolding resize resizeStep sizeNumber liveNumber
       resize-keeps q = rw (shape-zero S, le-leb 1 n lo, le-leb n 512 hi, S .rule1 .arenas-are, S .rule1 .pools-are, e, size-is, q)
 
-      pub resize-none : keeps (liveSize t) n ≡ false → plainAsk al P r (classOf al n) ≡ NoRoom → resize al h o n ≡ refused 4 h
+      pub resize-none : keeps (liveSize t) n ≡ false → plainAsk al P r (classOf al n) ≡ NoRoom
+          → resize al h o n ≡ refused 4 h
       unfolding resize resizeStep moved askStep askAnswer afterAsk sizeNumber liveNumber
       resize-none q z = rw (shape-zero S, le-leb 1 n lo, le-leb n 512 hi, S .rule1 .arenas-are, S .rule1 .pools-are, e, size-is, q, D .plan-is, z)
 
@@ -72,7 +93,8 @@ module _ {al A P : ℕ} {h : Heap} {r : Plain} (L : Aligned al) (S : Sound al A 
 
         -- the block handed out is another one, and the old block is what it was
         pub differ : o ≢ new
-        differ q = absurd (omega (arith, holding-more L S o t, ap length (ap (holding al A P h) q ∙ holding-none L S (D .sound) (D .quiet) (has-class L n hi) H)))
+        differ q =
+            absurd (omega (arith, holding-more L S o t, ap length (ap (holding al A P h) q ∙ holding-none L S (D .sound) (D .quiet) (has-class L n hi) H)))
 
         old-stays : holding al A P asked o ≡ holding al A P h o
         old-stays = holding-others L S (D .sound) (D .quiet) (has-class L n hi) H o differ
@@ -105,8 +127,11 @@ module _ {al A P : ℕ} {h : Heap} {r : Plain} (L : Aligned al) (S : Sound al A 
         text-fits : length text ≤ liveSize new-at
         text-fits = omega (arith, text-long, new-size, min-le-left n (sizeAt al A (h .books) o), class-fits L n)
 
-        copy : Leaves al A P asked copied (askPlain al P r n) (to new (part new (liveSize new-at) (copied .memory)) (holding al A P asked))
-        copy = written-leaves L (D .sound) new new-at (copied .memory) (length-sets (asked .memory) new text) (λ i f. sets-off (asked .memory) new text i (outside-less text-fits f))
+        copy : Leaves al A P asked copied (askPlain al P r n)
+            (to new (part new (liveSize new-at) (copied .memory)) (holding al A P asked))
+        copy =
+            written-leaves L (D .sound) new new-at (copied .memory) (length-sets (asked .memory) new text)
+            (λ i f. sets-off (asked .memory) new text i (outside-less text-fits f))
 
         copied-sound : Sound al A P copied (askPlain al P r n)
         copied-sound = copy .sound
@@ -125,7 +150,21 @@ module _ {al A P : ℕ} {h : Heap} {r : Plain} (L : Aligned al) (S : Sound al A 
         pub resize-moves : keeps (liveSize t) n ≡ false → resize al h o n ≡ done new (giveBack al copied o .heap)
         unfolding resize resizeStep moved askStep sizeNumber liveNumber
         resize-moves q =
-            rw (shape-zero S, le-leb 1 n lo, le-leb n 512 hi, S .rule1 .arenas-are, S .rule1 .pools-are, e, size-is, q, D .plan-is, z, ← size-is, give-old-is, given)
+            rw (
+              shape-zero S,
+              le-leb 1 n lo,
+              le-leb n 512 hi,
+              S .rule1 .arenas-are,
+              S .rule1 .pools-are,
+              e,
+              size-is,
+              q,
+              D .plan-is,
+              z,
+              ← size-is,
+              give-old-is,
+              given,
+            )
 
         moved-sound : Sound al A P (giveBack al copied o .heap) (backPlain P (askPlain al P r n) (t .pool) (t .block))
         moved-sound =
@@ -139,7 +178,8 @@ module _ {al A P : ℕ} {h : Heap} {r : Plain} (L : Aligned al) (S : Sound al A 
             same-pool = one-pool L S copied-sound o t v
 
             same-block : v .block ≡ t .block
-            same-block = one-block L S copied-sound o t v (ap (λ (p : ℕ). sizeOf al (askPlain al P r n .class p)) (one-pool L (D .sound) copied-sound o u v) ∙ same-size)
+            same-block =
+                one-block L S copied-sound o t v (ap (λ (p : ℕ). sizeOf al (askPlain al P r n .class p)) (one-pool L (D .sound) copied-sound o u v) ∙ same-size)
 
         -- ---- what is held then: the copied bytes are the old block's, and the block at o is gone
         abbrev size : ℕ
@@ -154,11 +194,14 @@ module _ {al A P : ℕ} {h : Heap} {r : Plain} (L : Aligned al) (S : Sound al A 
             ∙ ap (λ (s : ℕ). to new (part new s (copied .memory)) (holding al A P asked) y) new-size
             ∙ go (ℕ-discrete y new)
           where
-            go : Dec (y ≡ new) → to new (part new size (copied .memory)) (holding al A P asked) y ≡ to new (part new size (copied .memory)) (holding al A P h) y
+            go : Dec (y ≡ new)
+                → to new (part new size (copied .memory)) (holding al A P asked) y
+                ≡ to new (part new size (copied .memory)) (holding al A P h) y
             go (yes q) = rw (eq-eqb y new q)
             go (no q) = rw (ne-eqb y new q) (holding-others L S (D .sound) (D .quiet) (has-class L n hi) H y q)
 
-        moved-holds : (y : ℕ) → holding al A P (giveBack al copied o .heap) y ≡ to o [] (to new (part new size (copied .memory)) (holding al A P h)) y
+        moved-holds : (y : ℕ) → holding al A P (giveBack al copied o .heap) y
+            ≡ to o [] (to new (part new size (copied .memory)) (holding al A P h)) y
         moved-holds y =
             back-leaves L copied-sound o still-live .holds y
             ∙ to-cong o (holding al A P copied) (to new (part new size (copied .memory)) (holding al A P h)) refl y (copied-holds y)
@@ -171,13 +214,15 @@ module _ {al A P : ℕ} {h : Heap} {r : Plain} (L : Aligned al) (S : Sound al A 
             sym (take-take k (liveSize u) (drop o (asked .memory)) (omega (arith, same-size, size-is, min-le-right n (sizeAt al A (h .books) o))))
             ∙ ap (take k) (sym (holding-live L (D .sound) o u) ∙ old-stays)
 
-        new-bytes : part new size (copied .memory) ≡ take k (holding al A P h o) ++ drop k (part new size (asked .memory))
+        new-bytes : part new size (copied .memory)
+            ≡ take k (holding al A P h o) ++ drop k (part new size (asked .memory))
         new-bytes =
             text-part (asked .memory) text new size (omega (arith, text-fits, new-size)) new-fits
             ∙ ap₂ (λ (b : List ℕ) (i : ℕ). b ++ drop i (part new size (asked .memory))) text-is text-long
 
         -- a moving resize carries the first bytes of the old block over to the new one
-        pub moved-leaves : Leaves al A P h (giveBack al copied o .heap) (backPlain P (askPlain al P r n) (t .pool) (t .block))
+        pub moved-leaves : Leaves al A P h (giveBack al copied o .heap)
+            (backPlain P (askPlain al P r n) (t .pool) (t .block))
             (carried al n o new (asked .memory) (holding al A P h))
         moved-leaves =
             record {
@@ -193,14 +238,16 @@ module _ {al A P : ℕ} {h : Heap} {r : Plain} (L : Aligned al) (S : Sound al A 
             length-is = ap (min n) (size-is ∙ sym (holding-long L S o t))
 
             go : (y : ℕ) → Dec (y ≡ new) → Dec (y ≡ o)
-                → to o [] (to new (part new size (copied .memory)) (holding al A P h)) y ≡ carried al n o new (asked .memory) (holding al A P h) y
+                → to o [] (to new (part new size (copied .memory)) (holding al A P h)) y
+                ≡ carried al n o new (asked .memory) (holding al A P h) y
             go y (yes q) d = rw (ne-eqb y o (λ v. differ (sym v ∙ q)), eq-eqb y new q, ← length-is) new-bytes
             go y (no q) (yes d) = rw (ne-eqb y new q, eq-eqb y o d)
             go y (no q) (no d) = rw (ne-eqb y new q, ne-eqb y o d)
 
     -- ---- the whole call: number and offset are the plain heap's, and the heap after it holds the plain heap after it
     pub resize-done : (e : live al A P (h .books) (h .map) o ≡ true)
-        → (resize al h o n .answer ≡ resizeAnswer al P r o (t e .pool) n) × Sound al A P (resize al h o n .heap) (resizePlain al P r (t e .pool) (t e .block) n)
+        → (resize al h o n .answer ≡ resizeAnswer al P r o (t e .pool) n)
+        × Sound al A P (resize al h o n .heap) (resizePlain al P r (t e .pool) (t e .block) n)
     unfolding askAnswer
     resize-done e = by-keep (keeps (liveSize (t e)) n) refl
       where

@@ -1,5 +1,5 @@
--- The roll, of any books and map: offset and size of what the live test finds at each offset, by rising offset. Roll call goes from pool to pool and block to block, and between the
--- blocks the live test finds nothing.
+-- The roll, of any books and map: offset and size of what the live test finds at each offset, by rising offset. Roll
+-- call goes from pool to pool and block to block, and between the blocks the live test finds nothing.
 -- Assumes nothing.
 use mathlib.Core.Path.{_≡_, refl, sym, ap, ap₂, _∙_}
 use mathlib.Core.Logic.{_≢_}
@@ -46,7 +46,8 @@ listing-add g o (suc m) n =
     let q : suc m + n ≡ suc (m + n) = omega arith in
     let t : suc o + m ≡ o + suc m = omega arith in
     ap (listing g o) q
-    ∙ ap (λ (l : List ℕ). (if eqb (g o) 0 then [] else (o ∷ g o ∷ [])) ++ l) (listing-add g (suc o) m n ∙ ap (λ (x : ℕ). listing g (suc o) m ++ listing g x n) t)
+    ∙ ap (λ (l : List ℕ). (if eqb (g o) 0 then [] else (o ∷ g o ∷ [])) ++ l)
+    (listing-add g (suc o) m n ∙ ap (λ (x : ℕ). listing g (suc o) m ++ listing g x n) t)
     ∙ sym (append-assoc (if eqb (g o) 0 then [] else (o ∷ g o ∷ [])) (listing g (suc o) m) (listing g (o + suc m) n))
 
 -- the list is as long as what is held, and has it in its place: after what is held below it
@@ -62,11 +63,13 @@ listing-count g (suc n) =
     ∙ ap (λ (k : ℕ). k + length (listing g n 1)) (listing-count g n)
     ∙ go (eqb (g n) 0)
   where
-    go : (b : Bool) → 2 * heldBelow g n + length ((if b then [] else (n ∷ g n ∷ [])) ++ []) ≡ 2 * ((if not b then 1 else 0) + heldBelow g n)
+    go : (b : Bool) → 2 * heldBelow g n + length ((if b then [] else (n ∷ g n ∷ [])) ++ [])
+        ≡ 2 * ((if not b then 1 else 0) + heldBelow g n)
     go true = omega arith
     go false = omega arith
 
-pub listing-place : (g : ℕ → ℕ) (o n : ℕ) → o < n → g o ≢ 0 → (at (listing g 0 n) (2 * heldBelow g o) ≡ o) × (at (listing g 0 n) (2 * heldBelow g o + 1) ≡ g o)
+pub listing-place : (g : ℕ → ℕ) (o n : ℕ) → o < n → g o ≢ 0
+    → (at (listing g 0 n) (2 * heldBelow g o) ≡ o) × (at (listing g 0 n) (2 * heldBelow g o + 1) ≡ g o)
 unfolding listing
 listing-place g o n l some =
     let e : n ≡ o + suc (n - suc o) = omega arith in
@@ -91,7 +94,8 @@ record Holds (g : ℕ → ℕ) (p s : ℕ) (set : ℕ → Bool) : Type 0 where
 
 module _ {g : ℕ → ℕ} {p s : ℕ} (m : List ℕ) (H : Holds g p s (λ k. isSet m p k)) where
   -- the bytes of one block are listed as the block, if its bit is set
-  one-block : (k : ℕ) → k < capacity s → listing g (4096 * p + 48 + k * s) s ≡ (if isSet m p k then offsetOf p (startOf s k) ∷ s ∷ [] else [])
+  one-block : (k : ℕ) → k < capacity s
+      → listing g (4096 * p + 48 + k * s) s ≡ (if isSet m p k then offsetOf p (startOf s k) ∷ s ∷ [] else [])
   unfolding listing
   one-block k l =
       let e : s ≡ suc (s - 1) = omega (arith, H .some) in
@@ -99,10 +103,13 @@ module _ {g : ℕ → ℕ} {p s : ℕ} (m : List ℕ) (H : Holds g p s (λ k. is
       ap (listing g (4096 * p + 48 + k * s)) e
       ∙ ap (λ (t : List ℕ). (if eqb (g (4096 * p + 48 + k * s)) 0 then [] else ((4096 * p + 48 + k * s) ∷ g (4096 * p + 48 + k * s) ∷ [])) ++ t)
       (listing-none g (suc (4096 * p + 48 + k * s)) (s - 1)
-      (λ i u. let w : suc (4096 * p + 48 + k * s) + i ≡ 4096 * p + 48 + k * s + suc i = omega arith in ap g w ∙ H .other k (suc i) l (omega arith) (omega arith)))
+      (λ i u. let w : suc (4096 * p + 48 + k * s) + i ≡ 4096 * p + 48 + k * s + suc i = omega arith in
+      ap g w ∙ H .other k (suc i) l (omega arith) (omega arith)))
       ∙ rw (H .first k l, q) (go (isSet m p k))
     where
-      go : (t : Bool) → (if eqb (if t then s else 0) 0 then [] else (offsetOf p (startOf s k) ∷ (if t then s else 0) ∷ [])) ++ [] ≡ (if t then offsetOf p (startOf s k) ∷ s ∷ [] else [])
+      go : (t : Bool)
+          → (if eqb (if t then s else 0) 0 then [] else (offsetOf p (startOf s k) ∷ (if t then s else 0) ∷ [])) ++ []
+          ≡ (if t then offsetOf p (startOf s k) ∷ s ∷ [] else [])
       go true = rw (ne-eqb s 0 (omega (arith, H .some)))
       go false = refl
 
@@ -129,7 +136,8 @@ module _ {g : ℕ → ℕ} {p s : ℕ} (m : List ℕ) (H : Holds g p s (λ k. is
       ∙ listing-add g (4096 * p) 48 (4048 / s * s + (4048 - 4048 / s * s))
       ∙ rw (listing-none g (4096 * p) 48 (λ i u. H .low i u)) (listing-add g (4096 * p + 48) (4048 / s * s) (4048 - 4048 / s * s)
       ∙ rw (listing-none g (4096 * p + 48 + 4048 / s * s) (4048 - 4048 / s * s)
-      (λ i u. let w : 4096 * p + 48 + 4048 / s * s + i ≡ 4096 * p + (48 + 4048 / s * s + i) = omega arith in ap g w ∙ H .high (48 + 4048 / s * s + i) (omega arith) (omega arith)))
+      (λ i u. let w : 4096 * p + 48 + 4048 / s * s + i ≡ 4096 * p + (48 + 4048 / s * s + i) = omega arith in
+      ap g w ∙ H .high (48 + 4048 / s * s + i) (omega arith) (omega arith)))
       (append-nil (listing g (4096 * p + 48) (4048 / s * s)))))
 
 -- ---- by the live test
@@ -145,7 +153,8 @@ module _ {al : ℕ} (L : Aligned al) (A P : ℕ) (b m : List ℕ) where
     abbrev s : ℕ
     s = sizeOf al (pool A b class p)
 
-    at-pool : (x : ℕ) → x < 4096 → sizeHeld (4096 * p + x) ≡ (if leb c (lastClass al) && isStart s x && isSet m p (blockNo s x) then s else 0)
+    at-pool : (x : ℕ) → x < 4096
+        → sizeHeld (4096 * p + x) ≡ (if leb c (lastClass al) && isStart s x && isSet m p (blockNo s x) then s else 0)
     unfolding sizeHeld live
     at-pool x u =
         let d : (4096 * p + x) / 4096 ≡ p = omega arith in
@@ -179,7 +188,8 @@ module _ {al : ℕ} (L : Aligned al) (A P : ℕ) (b m : List ℕ) where
     unfolding rollPool
     pool-roll = go (leb c (lastClass al)) refl
       where
-        go : (t : Bool) → leb c (lastClass al) ≡ t → (if t then rollBlocks m p s 0 (capacity s) else []) ≡ listing sizeHeld (4096 * p) 4096
+        go : (t : Bool) → leb c (lastClass al) ≡ t
+            → (if t then rollBlocks m p s 0 (capacity s) else []) ≡ listing sizeHeld (4096 * p) 4096
         go true e = pool-is m (holds e (size-low L c (leb-true c (lastClass al) e)))
         go false e = sym (no-class e)
 

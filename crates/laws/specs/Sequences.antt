@@ -1,4 +1,5 @@
--- Sequences: plain lists of numbers without repetition, and doubly linked lists read from the front over abstract links. A link to n is suc n; 0 is none.
+-- Sequences: plain lists of numbers without repetition, and doubly linked lists read from the front over abstract
+-- links. A link to n is suc n; 0 is none.
 -- Assumes nothing.
 use mathlib.Core.Path.{_≡_, refl, sym, ap, _∙_}
 use mathlib.Core.Logic.{_≢_, Ne·symm as flip, _⊎_, inl, inr}
@@ -151,7 +152,8 @@ module _ (next prev next′ prev′ : ℕ → ℕ) where
     ),
   )
 
-pub row-same : {next prev next′ prev′ : ℕ → ℕ} {h : ℕ} {xs : List ℕ} → All (λ y. next′ y ≡ next y) xs → All (λ y. prev′ y ≡ prev y) xs
+pub row-same : {next prev next′ prev′ : ℕ → ℕ} {h : ℕ} {xs : List ℕ} → All (λ y. next′ y ≡ next y) xs
+    → All (λ y. prev′ y ≡ prev y) xs
     → Row next prev h xs → Row next′ prev′ h xs
 row-same {next} {prev} {next′} {prev′} {h} {xs} a b r =
     record { walk = seg-same next prev next′ prev′ h 0 xs a b (r .walk); once = r .once }
@@ -194,13 +196,16 @@ module _ (Q : ℕ → Type 0) (next prev : ℕ → ℕ) where
 
 module _ (next prev : ℕ → ℕ) (x : ℕ) (post : List ℕ) where
   -- the link behind x is the link behind the whole, or that of a member before x
-  seg-prev : (pre : List ℕ) (k q p : ℕ) → All (λ y. p ≢ suc y) (pre ++ x ∷ post) → p ≢ q → Seg next prev k q (pre ++ x ∷ post)
+  seg-prev : (pre : List ℕ) (k q p : ℕ) → All (λ y. p ≢ suc y) (pre ++ x ∷ post) → p ≢ q
+      → Seg next prev k q (pre ++ x ∷ post)
       → prev x ≢ p
   seg-prev [] k q p a n s = λ e. n (sym e ∙ s .1 .0)
   seg-prev (b ∷ pre) k q p a n s = seg-prev pre (next b) (suc b) p (a .1) (a .0) (s .1 .1)
 
-module _ {next prev next′ prev′ : ℕ → ℕ} {x h h′ : ℕ} (l : Left x (prev x) (next x) next prev h next′ prev′ h′) (post : List ℕ) where
-  leave-seg : (pre : List ℕ) (k k′ p : ℕ) → (prev x ≡ p → k′ ≡ next x) → (prev x ≢ p → k′ ≡ k) → All (λ y. p ≢ suc y) (pre ++ x ∷ post)
+module _ {next prev next′ prev′ : ℕ → ℕ} {x h h′ : ℕ}
+    (l : Left x (prev x) (next x) next prev h next′ prev′ h′) (post : List ℕ) where
+  leave-seg : (pre : List ℕ) (k k′ p : ℕ) → (prev x ≡ p → k′ ≡ next x) → (prev x ≢ p → k′ ≡ k)
+      → All (λ y. p ≢ suc y) (pre ++ x ∷ post)
       → Once (pre ++ x ∷ post) → Seg next prev k p (pre ++ x ∷ post) → Seg next′ prev′ k′ p (pre ++ post)
   leave-seg [] k k′ p f g a o s =
       rw (f (s .1 .0)) (seg-behind next prev next′ prev′ (next x) (suc x) p post
@@ -219,7 +224,8 @@ module _ {next prev next′ prev′ : ℕ → ℕ} {x h h′ : ℕ} (l : Left x 
       )
 
 -- a member leaves
-pub row-leaves : {next prev next′ prev′ : ℕ → ℕ} {x h h′ : ℕ} (pre post : List ℕ) → Left x (prev x) (next x) next prev h next′ prev′ h′
+pub row-leaves : {next prev next′ prev′ : ℕ → ℕ} {x h h′ : ℕ} (pre post : List ℕ)
+    → Left x (prev x) (next x) next prev h next′ prev′ h′
     → Row next prev h (pre ++ x ∷ post) → Row next′ prev′ h′ (pre ++ post)
 row-leaves {next} {prev} {next′} {prev′} {x} {h} {h′} pre post l r =
     record {

@@ -1,7 +1,17 @@
 -- What the laws know of the alignment, and of block sizes and capacities at it: 01 has 8, W-211 brings 16.
 -- Assumes nothing.
 use Prim.Native.Nat.{ℕ, _-_, _≤_, _<_}
-use native.Mathlib.Nat.{div-add-mod, mod-lt, mul-add, mul-one, mul-le-mul-left, mul-div-le, div-lt-iff-lt-mul, le-div-iff-mul-le, div-mul-le-self}
+use native.Mathlib.Nat.{
+  div-add-mod,
+  mod-lt,
+  mul-add,
+  mul-one,
+  mul-le-mul-left,
+  mul-div-le,
+  div-lt-iff-lt-mul,
+  le-div-iff-mul-le,
+  div-mul-le-self,
+}
 use native.Mathlib.Omega.{arith}
 use Rattle.rules.specs.Blocks.{classOf, sizeOf, lastClass, capacity}
 use Rattle.books.specs.Starts.{capacity-le}

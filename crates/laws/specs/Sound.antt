@@ -1,4 +1,5 @@
--- The heap h holds the plain heap r, soundly: W-201's rules 1 to 8, each as a part of its own, in that order, at the alignment al.
+-- The heap h holds the plain heap r, soundly: W-201's rules 1 to 8, each as a part of its own, in that order, at the
+-- alignment al.
 -- Assumes nothing.
 use mathlib.Core.Path.{_≡_}
 use mathlib.Core.Logic.{_⊎_}
@@ -8,7 +9,36 @@ use Prim.Native.Nat.{ℕ, _*_, _/_, _%_, _≤_, _<_}
 use lib.Dec.{ltb, eqb}
 use lib.ListN.{length}
 use Rattle.rules.specs.Say.{if_then_else_}
-use Rattle.rules.specs.Books.{Heap, at, inRange, exact, isSet, arenas, pools, usableHead, unusedHead, classHead, openWord, carveMark, freePools, freedHead, arenaNext, arenaPrevious, arenaWord, arena, count, freeblock, poolNext, poolPrevious, class, nextoffset, maxnextoffset, noClass, poolWord, pool}
+use Rattle.rules.specs.Books.{
+  Heap,
+  at,
+  inRange,
+  exact,
+  isSet,
+  arenas,
+  pools,
+  usableHead,
+  unusedHead,
+  classHead,
+  openWord,
+  carveMark,
+  freePools,
+  freedHead,
+  arenaNext,
+  arenaPrevious,
+  arenaWord,
+  arena,
+  count,
+  freeblock,
+  poolNext,
+  poolPrevious,
+  class,
+  nextoffset,
+  maxnextoffset,
+  noClass,
+  poolWord,
+  pool,
+}
 use Rattle.rules.specs.Blocks.{sizeOf, lastClass, lastStart, capacity}
 use Rattle.laws.specs.Plain.{Plain, count as live-blocks, inUse, carved, free}
 use Rattle.laws.specs.Linked.{Doubly, Singly}
@@ -16,16 +46,17 @@ use Rattle.laws.specs.Families.{Family}
 use Rattle.laws.specs.Chains.{Blocks}
 
 -- ---- where a pool and an arena belong, by the plain heap
--- "each class list its pools with live and spare blocks", "freed-pool lists the own arena's carved pools not in use": the head of a pool's list. A full
--- pool is at 0, on no list and with both links 0; a pool not carved is at 1, on no list
+-- "each class list its pools with live and spare blocks", "freed-pool lists the own arena's carved pools not in use":
+-- the head of a pool's list. A full pool is at 0, on no list and with both links 0; a pool not carved is at 1, on no
+-- list
 unfoldable pub home : ℕ → ℕ → Plain → ℕ → ℕ
 home al P r n =
     if inUse r n then (if ltb (live-blocks r n) (capacity (sizeOf al (r .class n))) then classHead (r .class n) else 0)
     else if carved P r n then arenaWord freedHead (n / P)
     else 1
 
--- "the usable list the open arenas with free pools; the unused list the closed arenas": the head of an arena's list. An open arena without free pools
--- is at 0, on no list and with both links 0
+-- "the usable list the open arenas with free pools; the unused list the closed arenas": the head of an arena's list.
+-- An open arena without free pools is at 0, on no list and with both links 0
 unfoldable pub base : ℕ → Plain → ℕ → ℕ
 base P r a = if eqb (r .mark a) 0 then unusedHead else if eqb (free P r a) 0 then 0 else usableHead
 
@@ -71,15 +102,20 @@ pub record BitSet (al A P : ℕ) (b : List ℕ) (n k : ℕ) : Type 0 where
   pub in-class : pool A b class n ≤ lastClass al
   pub at-block : k < capacity (sizeOf al (pool A b class n))
 
--- "(6) each list holding just its members, once, doubly linked ones matching both ways: .. with previous 0; .. having both links 0"
+-- "(6) each list holding just its members, once, doubly linked ones matching both ways: .. with previous 0; .. having
+-- both links 0"
 pub record Lists (al A P : ℕ) (b : List ℕ) (r : Plain) : Type 0 where
-  pub listed : Family (Doubly (poolWord A poolNext) (poolWord A poolPrevious) b) (λ c. c < 64) classHead (A * P) (home al P r) (r .listed)
-  pub freed : Family (Singly (poolWord A poolNext) (poolWord A poolPrevious) b) (λ a. a < A) (arenaWord freedHead) (A * P) (home al P r) (r .freed)
-  pub arenas : Family (Doubly (arenaWord arenaNext) (arenaWord arenaPrevious) b) (λ i. (2 ≤ i) × (i < 4)) (λ i. i) A (base P r) (arenaRows r)
+  pub listed : Family (Doubly (poolWord A poolNext) (poolWord A poolPrevious) b)
+      (λ c. c < 64) classHead (A * P) (home al P r) (r .listed)
+  pub freed : Family (Singly (poolWord A poolNext) (poolWord A poolPrevious) b)
+      (λ a. a < A) (arenaWord freedHead) (A * P) (home al P r) (r .freed)
+  pub arenas : Family (Doubly (arenaWord arenaNext) (arenaWord arenaPrevious) b)
+      (λ i. (2 ≤ i) × (i < 4)) (λ i. i) A (base P r) (arenaRows r)
   pub full : (n : ℕ) → n < A * P → home al P r n ≡ 0 → (pool A b poolNext n ≡ 0) × (pool A b poolPrevious n ≡ 0)
   pub spent : (a : ℕ) → a < A → base P r a ≡ 0 → (arena b arenaNext a ≡ 0) × (arena b arenaPrevious a ≡ 0)
 
--- "(8) each freed pool of class at most 63, or 65,535 with all else but next 0": the words of a pool's record, but for its links
+-- "(8) each freed pool of class at most 63, or 65,535 with all else but next 0": the words of a pool's record, but
+-- for its links
 pub record Unset (count freeblock class nextoffset maxnextoffset : ℕ) : Type 0 where
   pub count-is : count ≡ 0
   pub class-is : class ≡ noClass
@@ -87,8 +123,10 @@ pub record Unset (count freeblock class nextoffset maxnextoffset : ℕ) : Type 0
   pub nextoffset-is : nextoffset ≡ 0
   pub maxnextoffset-is : maxnextoffset ≡ 0
 
--- ".. in each other carved pool maxnextoffset right, .. with two at least on the chain if the pool is freed, one unless it is full"
-pub record InClass (al n : ℕ) (m : List ℕ) (count freeblock class nextoffset maxnextoffset : ℕ) (live : ℕ → Bool) (chain : List ℕ) (virgin : ℕ) : Type 0 where
+-- ".. in each other carved pool maxnextoffset right, .. with two at least on the chain if the pool is freed, one
+-- unless it is full"
+pub record InClass (al n : ℕ) (m : List ℕ) (count freeblock class nextoffset maxnextoffset : ℕ)
+    (live : ℕ → Bool) (chain : List ℕ) (virgin : ℕ) : Type 0 where
   pub class-low : class ≤ lastClass al
   pub maxnextoffset-is : maxnextoffset ≡ lastStart (sizeOf al class)
   pub blocks : Blocks (sizeOf al class) n m freeblock nextoffset live chain virgin
@@ -98,7 +136,8 @@ pub record InClass (al n : ℕ) (m : List ℕ) (count freeblock class nextoffset
 -- a carved pool is the one or the other
 abbrev pub PoolRule : ℕ → ℕ → List ℕ → ℕ → ℕ → ℕ → ℕ → ℕ → (ℕ → Bool) → List ℕ → ℕ → Type 0
 PoolRule al n m count freeblock class nextoffset maxnextoffset live chain virgin =
-    Unset count freeblock class nextoffset maxnextoffset ⊎ InClass al n m count freeblock class nextoffset maxnextoffset live chain virgin
+    Unset count freeblock class nextoffset maxnextoffset
+    ⊎ InClass al n m count freeblock class nextoffset maxnextoffset live chain virgin
 
 -- ---- the heap h of A arenas with P pools each holds the plain heap r
 pub record Sound (al A P : ℕ) (h : Heap) (r : Plain) : Type 0 where
@@ -116,5 +155,6 @@ pub record Sound (al A P : ℕ) (h : Heap) (r : Plain) : Type 0 where
   pub rule6 : Lists al A P (h .books) r
   pub rule7 : (n : ℕ) → n < A * P → pool A (h .books) count n ≡ live-blocks r n
   pub rule8 : (n : ℕ) → n < A * P → Carved P (h .books) n
-      → PoolRule al n (h .memory) (pool A (h .books) count n) (pool A (h .books) freeblock n) (pool A (h .books) class n) (pool A (h .books) nextoffset n) (pool A (h .books) maxnextoffset n)
+      → PoolRule al n (h .memory) (pool A (h .books) count n) (pool A (h .books) freeblock n)
+      (pool A (h .books) class n) (pool A (h .books) nextoffset n) (pool A (h .books) maxnextoffset n)
       (r .live n) (r .chain n) (r .virgin n)

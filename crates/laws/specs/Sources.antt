@@ -1,4 +1,5 @@
--- The sources of a pool, one by one: a freed pool, the pool at the mark, the first pool of an unused arena; so every ask is the plain heap's.
+-- The sources of a pool, one by one: a freed pool, the pool at the mark, the first pool of an unused arena; so every
+-- ask is the plain heap's.
 -- Assumes nothing.
 use mathlib.Core.Path.{_≡_, refl, sym, ap, ap₂, _∙_, subst}
 use mathlib.Core.Logic.{_≢_, inr}
@@ -17,19 +18,79 @@ use Rattle.rules.specs.declared.Source.the-variants.{Freed, Carved, Opened}
 use Rattle.rules.specs.declared.AskPlan.{AskPlan}
 use Rattle.rules.specs.declared.AskPlan.the-variants.{NoRoom, Again, Anew}
 use Rattle.rules.specs.Say.{_▷_}
-use Rattle.rules.specs.Books.{Heap, at, put, usableHead, unusedHead, classHead, carveMark, freePools, freedHead, arenaWord, arena, noClass, poolWord, pool, offsetOf}
+use Rattle.rules.specs.Books.{
+  Heap,
+  at,
+  put,
+  usableHead,
+  unusedHead,
+  classHead,
+  carveMark,
+  freePools,
+  freedHead,
+  arenaWord,
+  arena,
+  noClass,
+  poolWord,
+  pool,
+  offsetOf,
+}
 use Rattle.rules.specs.Blocks.{sizeOf, lastClass, startOf, linkAt}
 use Rattle.rules.specs.Lists.{leave, join, arenaLinks}
 use Rattle.rules.specs.Outcome.{heapOf}
-use Rattle.rules.specs.Ask.{planAsk, spare, fromUsable, fromFreed, fromMark, fromUnused, counted, setAnew, takeAgain, sameClass, takeFrom, arenaOf, spend, afterAsk, askAnswer}
+use Rattle.rules.specs.Ask.{
+  planAsk,
+  spare,
+  fromUsable,
+  fromFreed,
+  fromMark,
+  fromUnused,
+  counted,
+  setAnew,
+  takeAgain,
+  sameClass,
+  takeFrom,
+  arenaOf,
+  spend,
+  afterAsk,
+  askAnswer,
+}
 use Rattle.books.specs.Starts.{start-is, number-is, first-block, second-block}
 use Rattle.books.specs.Known.{in-range}
 use Rattle.laws.specs.Update.{is-false, to, to-same, to-other, to-cong}
 use Rattle.laws.specs.Sequences.{All, erase, erase-front}
 use Rattle.laws.specs.Linked.{Stack}
 use Rattle.laws.specs.Families.{At, inside}
-use Rattle.laws.specs.Books.{View, Books, put-pool, put-arena, freed-goes, arena-may-leave, arena-leaves, arena-joins, poolTo, arenaTo, homeTo, baseTo, freedTo, arenasTo}
-use Rattle.laws.specs.Plain.{Plain, count, inUse, carved, free, setChain, setLive, setListed, setFreed, setMark, planAsk as plainAsk, afterAsk as plainAfterAsk}
+use Rattle.laws.specs.Books.{
+  View,
+  Books,
+  put-pool,
+  put-arena,
+  freed-goes,
+  arena-may-leave,
+  arena-leaves,
+  arena-joins,
+  poolTo,
+  arenaTo,
+  homeTo,
+  baseTo,
+  freedTo,
+  arenasTo,
+}
+use Rattle.laws.specs.Plain.{
+  Plain,
+  count,
+  inUse,
+  carved,
+  free,
+  setChain,
+  setLive,
+  setListed,
+  setFreed,
+  setMark,
+  planAsk as plainAsk,
+  afterAsk as plainAfterAsk,
+}
 use Rattle.laws.specs.Counting.{many-none, many-all, many-le}
 use Rattle.laws.specs.Sizes.{Aligned, size-low, size-high, capacity-high, capacity-low, class-low}
 use Rattle.laws.specs.Chains.{Blocks}
@@ -41,7 +102,8 @@ use Rattle.laws.specs.AskListed.{front-of, ask-listed}
 use Rattle.laws.specs.Taken.{no-live, spentBooks, spend-is, spentUsable, spend-rows, withArenas, From, newRows, set-anew, taken-again}
 
 -- ---- a heap, and the wanted class c, whose list is empty
-module _ {al A P c : ℕ} {h : Heap} {r : Plain} (L : Aligned al) (H : Held al A P h r) (lc : c ≤ lastClass al) (lst : r .listed c ≡ []) where
+module _ {al A P c : ℕ} {h : Heap} {r : Plain} (L : Aligned al)
+    (H : Held al A P h r) (lc : c ≤ lastClass al) (lst : r .listed c ≡ []) where
   open Held H using (view as U, books as K, says as F)
 
   abbrev s : ℕ
@@ -64,14 +126,16 @@ module _ {al A P c : ℕ} {h : Heap} {r : Plain} (L : Aligned al) (H : Held al A
   idle-away p l e = many-none (r .live p) 512 (λ j _. is-false (r .live p j) (λ o. true≢false (sym (F .pools p l .used j o .0) ∙ e)))
 
   -- blocks 0 and 1 of a pool with no live block are spare
-  spare-two : (p : ℕ) → p < A * P → count r p ≡ 0 → (spare al A P h c p 48 ≡ true) × (spare al A P h c p (48 + s) ≡ true)
+  spare-two : (p : ℕ) → p < A * P → count r p ≡ 0
+      → (spare al A P h c p 48 ≡ true) × (spare al A P h c p (48 + s) ≡ true)
   spare-two p l z =
       let e = first-block s (omega (arith, size-low L c lc)) (omega (arith, size-high L c lc)) in
       let f = second-block s (omega (arith, size-low L c lc)) (omega (arith, size-high L c lc)) in
       (rw (e .0, e .1, F .bits p 0 l (omega arith), no-live L F p l z 0), rw (f .0, f .1, F .bits p 1 l (omega arith), no-live L F p l z 1))
 
   -- ---- an ask that takes pool p from its source and sets it to the class
-  module _ {p a : ℕ} {b₁ us un : List ℕ} {U₁ : View} {mark : ℕ → ℕ} {freed : ℕ → List ℕ} (O : From al A P p a b₁ U U₁ r us un mark freed) where
+  module _ {p a : ℕ} {b₁ us un : List ℕ} {U₁ : View} {mark : ℕ → ℕ}
+      {freed : ℕ → List ℕ} (O : From al A P p a b₁ U U₁ r us un mark freed) where
     -- its block 0 is handed out
     new-hand : (ys : List ℕ) → Hand al A P r (newRows c p (withArenas ys un mark freed r)) c (offsetOf p 48)
     new-hand ys =
@@ -90,8 +154,10 @@ module _ {al A P c : ℕ} {h : Heap} {r : Plain} (L : Aligned al) (H : Held al A
 
     -- q is the source by name, and the last two are what the plain heap and the rules make of it
     ask-anew : (q : Source) → planAsk al A P h c ≡ Anew q p → plainAsk al P r c ≡ Anew q p
-        → plainAfterAsk al P r c (Anew q p) ≡ newRows c p (withArenas (spentUsable (eqb (free P r a) 1) a us) un mark freed r)
-        → spend al A P c (arenaOf al A P c q) (takeFrom al A P c q p h) ≡ heapOf (h .memory) (spentBooks a b₁) (h .map) → Asked al A P h r c
+        → plainAfterAsk al P r c (Anew q p)
+        ≡ newRows c p (withArenas (spentUsable (eqb (free P r a) 1) a us) un mark freed r)
+        → spend al A P c (arenaOf al A P c q) (takeFrom al A P c q p h) ≡ heapOf (h .memory) (spentBooks a b₁) (h .map)
+        → Asked al A P h r c
     unfolding afterAsk askAnswer
     ask-anew q plan plain rows books =
         let t = set-anew L F O lc lst in
@@ -142,7 +208,8 @@ module _ {al A P c : ℕ} {h : Heap} {r : Plain} (L : Aligned al) (H : Held al A
       was : (count r p ≡ 0) × (carved P r p ≡ true) × (p / P ≡ a)
       was = freed-is al P r p a (sym (F .pools p lp .home-is) ∙ member .is) (use-class L K F p lp)
 
-      from-freed : From al A P p a (put (arenaWord freedHead a) (pool A b 2 p) b) U (U ▷ homeTo p 1 ▷ freedTo a ps) r (r .usable) (r .unused) (r .mark) (to a ps (r .freed))
+      from-freed : From al A P p a (put (arenaWord freedHead a) (pool A b 2 p) b) U
+          (U ▷ homeTo p 1 ▷ freedTo a ps) r (r .usable) (r .unused) (r .mark) (to a ps (r .freed))
       from-freed =
           record {
             books = freed-goes K a la p lp ps row-is;
@@ -179,7 +246,8 @@ module _ {al A P c : ℕ} {h : Heap} {r : Plain} (L : Aligned al) (H : Held al A
           let n : pool A b 2 p ≤ A * P = next-low ps (rw row-is at (K .freed .row a la .walk)) (rw row-is at (inside (K .freed) a la)) in
           usable-first q (front-of hd lp (fromFreed al A P h c a) _ ∙ rw (le-leb (pool A b 2 p) (A * P) n) (counted-is (takeAgain al A P h c a p) ∙ e))
         where
-          next-low : (xs : List ℕ) → Stack (λ n. at b (poolWord A 2 n)) (arena b freedHead a) (p ∷ xs) → All (λ y. y < A * P) (p ∷ xs) → pool A b 2 p ≤ A * P
+          next-low : (xs : List ℕ) → Stack (λ n. at b (poolWord A 2 n)) (arena b freedHead a) (p ∷ xs)
+              → All (λ y. y < A * P) (p ∷ xs) → pool A b 2 p ≤ A * P
           next-low [] w i = omega (arith, w .1)
           next-low (x ∷ xs) w i = omega (arith, w .1 .0, i .1 .0)
 
@@ -191,7 +259,8 @@ module _ {al A P c : ℕ} {h : Heap} {r : Plain} (L : Aligned al) (H : Held al A
       unfolding takeFrom takeAgain setAnew
       ask-other d =
           let t = spare-two p lp (was .0) in
-          ask-anew from-freed (Freed a) (freed-first (Anew (Freed a) p) (rw (class-is, ne-eqb (r .class p) c d, t .0, t .1))) (rw (lst, us, fr, ne-eqb (r .class p) c d))
+          ask-anew from-freed (Freed a) (freed-first (Anew (Freed a) p) (rw (class-is, ne-eqb (r .class p) c d, t .0, t .1)))
+          (rw (lst, us, fr, ne-eqb (r .class p) c d))
           (rw fr (ap (newRows c p) (spend-rows (eqb (free P r a) 1) a (r ▷ setFreed a ps)))) (spend-is al A P c a (takeFrom al A P c (Freed a) p h))
 
       -- of the wanted class
@@ -208,12 +277,15 @@ module _ {al A P c : ℕ} {h : Heap} {r : Plain} (L : Aligned al) (H : Held al A
           by-chain (k ∷ j ∷ js) e =
               let z = spend-is al A P c a (takeFrom al A P c (Freed a) p h) in
               asked (Again a p (startOf s k) (startOf s j)) r′ plan (rw (lst, us, fr, eq-eqb (r .class p) c cls, e))
-              (rw (fr, e) (ap (λ (x : Plain). x ▷ setListed c (p ∷ []) ▷ setChain p (j ∷ js) ▷ setLive p k true) (spend-rows (eqb (free P r a) 1) a (r ▷ setFreed a ps))))
+              (rw (fr, e)
+              (ap (λ (x : Plain). x ▷ setListed c (p ∷ []) ▷ setChain p (j ∷ js) ▷ setLive p k true) (spend-rows (eqb (free P r a) 1) a (r ▷ setFreed a ps))))
               (rw z (taken-again L F from-freed lc lst k j js cls B (rw cls at (J .maxnextoffset-is)) (λ w. refl))) (rw z (quiet-same {r = r′}))
               (λ _. hand-out p k lp (omega (arith, B .below .0, B .fits)) cls (no-live L F p lp (was .0) k) refl refl)
             where
               r′ : Plain
-              r′ = withArenas (spentUsable (eqb (free P r a) 1) a (r .usable)) (r .unused) (r .mark) (to a ps (r .freed)) r ▷ setListed c (p ∷ []) ▷ setChain p (j ∷ js) ▷ setLive p k true
+              r′ =
+                  withArenas (spentUsable (eqb (free P r a) 1) a (r .usable)) (r .unused) (r .mark) (to a ps (r .freed)) r ▷ setListed c (p ∷ [])
+                  ▷ setChain p (j ∷ js) ▷ setLive p k true
 
               B : Blocks s p (h .memory) (U .pool 1 p) (U .pool 5 p) (r .live p) (k ∷ j ∷ js) (r .virgin p)
               B = rw (cls, e) at (J .blocks)
@@ -236,7 +308,16 @@ module _ {al A P c : ℕ} {h : Heap} {r : Plain} (L : Aligned al) (H : Held al A
               plan : planAsk al A P h c ≡ Again a p (startOf s k) (startOf s j)
               plan =
                   freed-first (Again a p (startOf s k) (startOf s j))
-                  (rw (class-is, cls, eq-eqb c c refl, free-is, spare-block k (B .below .0), link, ne-eqb (startOf s j) 0 (omega arith), spare-block j (B .below .1 .0)))
+                  (rw (
+                    class-is,
+                    cls,
+                    eq-eqb c c refl,
+                    free-is,
+                    spare-block k (B .below .0),
+                    link,
+                    ne-eqb (startOf s j) 0 (omega arith),
+                    spare-block j (B .below .1 .0),
+                  ))
 
     -- ---- "else carve the pool at the mark"
     module _ (fr : r .freed a ≡ []) where
@@ -287,7 +368,8 @@ module _ {al A P c : ℕ} {h : Heap} {r : Plain} (L : Aligned al) (H : Held al A
       up-is : up ≡ r .mark a + 1
       up-is = ap (λ (x : ℕ). x + 1) (put-pool K 4 markPool noClass (omega arith) mark-inside .arenas 1 a (omega arith) la ∙ F .arenas a la .mark-is)
 
-      from-mark : From al A P markPool a (put (arenaWord carveMark a) up (put (poolWord A 4 markPool) noClass b)) U (U ▷ poolTo 4 markPool noClass ▷ arenaTo 1 a up) r
+      from-mark : From al A P markPool a (put (arenaWord carveMark a) up (put (poolWord A 4 markPool) noClass b)) U
+          (U ▷ poolTo 4 markPool noClass ▷ arenaTo 1 a up) r
           (r .usable) (r .unused) (to a (r .mark a + 1) (r .mark)) (r .freed)
       from-mark =
           record {
@@ -322,7 +404,8 @@ module _ {al A P c : ℕ} {h : Heap} {r : Plain} (L : Aligned al) (H : Held al A
           marked′ : to a (r .mark a + 1) (r .mark) a ≢ 0
           marked′ = rw (eq-eqb a a refl) (omega arith)
 
-          others-carved : (y : ℕ) → y ≢ markPool → Dec (y / P ≡ a) → carved P (r ▷ setMark a (r .mark a + 1)) y ≡ carved P r y
+          others-carved : (y : ℕ) → y ≢ markPool → Dec (y / P ≡ a)
+              → carved P (r ▷ setMark a (r .mark a + 1)) y ≡ carved P r y
           others-carved y d (no q) = rw (ne-eqb (y / P) a q)
           others-carved y d (yes q) = rw (q, eq-eqb a a refl) (near (decLt (y % P) (r .mark a)))
             where
@@ -337,8 +420,10 @@ module _ {al A P c : ℕ} {h : Heap} {r : Plain} (L : Aligned al) (H : Held al A
       unfolding takeFrom setAnew fromUsable fromMark
       ask-carve =
           let t = spare-two markPool mark-inside (idle-away markPool mark-inside uncarved) in
-          ask-anew from-mark (Carved a) (usable-first (Anew (Carved a) markPool) (rw (freed-empty, mark-word, lt-ltb (r .mark a) P mark-room, t .0, t .1) (counted-is (Anew (Carved a) markPool))))
-          (rw (lst, us, fr)) (ap (newRows c markPool) (spend-rows (eqb (free P r a) 1) a (r ▷ setMark a (r .mark a + 1)))) (spend-is al A P c a (takeFrom al A P c (Carved a) markPool h))
+          ask-anew from-mark (Carved a) (usable-first (Anew (Carved a) markPool)
+          (rw (freed-empty, mark-word, lt-ltb (r .mark a) P mark-room, t .0, t .1) (counted-is (Anew (Carved a) markPool))))
+          (rw (lst, us, fr)) (ap (newRows c markPool) (spend-rows (eqb (free P r a) 1) a (r ▷ setMark a (r .mark a + 1))))
+          (spend-is al A P c a (takeFrom al A P c (Carved a) markPool h))
 
     -- one of the three
     ask-usable : Asked al A P h r c
@@ -401,7 +486,8 @@ module _ {al A P c : ℕ} {h : Heap} {r : Plain} (L : Aligned al) (H : Held al A
       first-idle : count r firstPool ≡ 0
       first-idle = idle-away firstPool first-inside (away firstPool first-of)
 
-      -- ---- the books, write by write: b₂ once the arena is on the usable list, b₄ with its first two words, b₇ with all of them and the pool's class; U₂ and U₇ are what they say
+      -- ---- the books, write by write: b₂ once the arena is on the usable list, b₄ with its first two words, b₇ with
+      -- all of them and the pool's class; U₂ and U₇ are what they say
       abbrev b₂ : List ℕ
       b₂ = join arenaLinks usableHead a (leave arenaLinks unusedHead a b)
 
@@ -413,7 +499,8 @@ module _ {al A P c : ℕ} {h : Heap} {r : Plain} (L : Aligned al) (H : Held al A
 
       K₄ : Books A (A * P) b₄ (U₂ ▷ arenaTo 0 a 1 ▷ arenaTo 1 a 0)
       K₄ =
-          put-arena (put-arena (arena-joins (arena-leaves K 3 a (omega arith) la′ (first .is)) 2 a (omega arith) la′ (to-same a 0 (U .base) a refl)) 0 a 1 (omega arith) la′) 1 a 0 (omega arith) la′
+          put-arena (put-arena (arena-joins (arena-leaves K 3 a (omega arith) la′ (first .is)) 2 a (omega arith) la′ (to-same a 0 (U .base) a refl)) 0 a 1
+          (omega arith) la′) 1 a 0 (omega arith) la′
 
       -- its freed-pool head is 0 already
       head-zero : put (arenaWord freedHead a) 0 b₄ ≡ b₄
@@ -436,7 +523,8 @@ module _ {al A P c : ℕ} {h : Heap} {r : Plain} (L : Aligned al) (H : Held al A
       mark-one : mark₁ ≡ 1
       mark-one = let e : at b₇ (arenaWord 1 a) ≡ 0 = K₇ .arenas 1 a (omega arith) la′ ∙ rw (eq-eqb a a refl) in omega arith
 
-      from-unused : From al A P firstPool a (put (arenaWord carveMark a) mark₁ b₇) U (U₇ ▷ arenaTo 1 a mark₁) r (a ∷ []) others (to a 1 (r .mark)) (r .freed)
+      from-unused : From al A P firstPool a (put (arenaWord carveMark a) mark₁ b₇) U
+          (U₇ ▷ arenaTo 1 a mark₁) r (a ∷ []) others (to a 1 (r .mark)) (r .freed)
       from-unused =
           record {
             books = put-arena K₇ 1 a mark₁ (omega arith) la′;
@@ -459,7 +547,8 @@ module _ {al A P c : ℕ} {h : Heap} {r : Plain} (L : Aligned al) (H : Held al A
               mark-high = rw (eq-eqb a a refl) (omega (arith, pools-low));
               free-is = rw (eq-eqb a a refl) (sym all-free);
               base-is = to-same a 2 (to a 0 (U .base)) a refl
-                  ∙ sym (base-usable P (withArenas (a ∷ []) others (to a 1 (r .mark)) (r .freed) r) a marked′ (λ z. absurd (omega (arith, all-free, pools-low))));
+                  ∙ sym (base-usable P (withArenas (a ∷ []) others (to a 1 (r .mark)) (r .freed) r) a marked′
+                  (λ z. absurd (omega (arith, all-free, pools-low))));
             };
             lists = record {
               listed = F .lists .listed;
@@ -490,10 +579,12 @@ module _ {al A P c : ℕ} {h : Heap} {r : Plain} (L : Aligned al) (H : Held al A
           let u = spare-two firstPool first-inside first-idle in
           ask-anew from-unused (Opened a)
           (rw (class-empty, no-usable) (front-of hd la′ (fromUnused al A P h c) _ ∙ rw (arena-may-leave K 3 a (omega arith) la′ (first .is), u .0, u .1)))
-          (rw (lst, none, un)) (rw (un, ne-eqb (free P r a) 1 (omega (arith, all-free, pools-low)))) (spend-is al A P c a (takeFrom al A P c (Opened a) firstPool h))
+          (rw (lst, none, un)) (rw (un, ne-eqb (free P r a) 1 (omega (arith, all-free, pools-low))))
+          (spend-is al A P c a (takeFrom al A P c (Opened a) firstPool h))
 
 -- ---- every ask for a class
-pub ask-any : {al A P : ℕ} {h : Heap} {r : Plain} → Aligned al → Sound al A P h r → (c : ℕ) → c ≤ lastClass al → Asked al A P h r c
+pub ask-any : {al A P : ℕ} {h : Heap} {r : Plain} → Aligned al → Sound al A P h r → (c : ℕ) → c ≤ lastClass al
+    → Asked al A P h r c
 ask-any {al} {A} {P} {h} {r} L S c lc = by-class (r .listed c) refl
   where
     by-unused : r .listed c ≡ [] → r .usable ≡ [] → (xs : List ℕ) → r .unused ≡ xs → Asked al A P h r c

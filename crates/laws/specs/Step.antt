@@ -1,5 +1,6 @@
--- A step that changes pool p of its arena a, and the bit of one block of p: what it has to show, and that the view after it says the plain heap after it. What the view says of the others it
--- said before, for their words, sequences and bytes stand.
+-- A step that changes pool p of its arena a, and the bit of one block of p: what it has to show, and that the view
+-- after it says the plain heap after it. What the view says of the others it said before, for their words, sequences
+-- and bytes stand.
 -- Assumes nothing.
 use mathlib.Core.Path.{_≡_, refl, sym, ap, ap₂, _∙_}
 use mathlib.Core.Logic.{_≢_, inl, inr}
@@ -62,7 +63,10 @@ no-bytes p m = record { same-length = refl; others = λ i d. refl }
 -- a link is written at f in pool p
 pub link-after : (m : List ℕ) (p f v : ℕ) → f + 4 ≤ 4096 → BytesAfter p m (putLink (offsetOf p f) v m)
 link-after m p f v l =
-    record { same-length = length-link m (offsetOf p f) v; others = λ i d. put-link-other m (offsetOf p f) v i (off i d (decLe (offsetOf p f) i) (decLe (offsetOf p f + 4) i)) }
+    record {
+      same-length = length-link m (offsetOf p f) v;
+      others = λ i d. put-link-other m (offsetOf p f) v i (off i d (decLe (offsetOf p f) i) (decLe (offsetOf p f + 4) i));
+    }
   where
     off : (i : ℕ) → i / 4096 ≢ p → Dec (offsetOf p f ≤ i) → Dec (offsetOf p f + 4 ≤ i) → Outside (offsetOf p f) 4 i
     off i d (no q) t = inl (omega arith)
@@ -85,12 +89,14 @@ unfolding base
 base-same r r′ P x e f = rw (e, f)
 
 -- and a pool where its live blocks, its class and its being carved say
-pub home-same : (r r′ : Plain) (al P y : ℕ) → r′ .live y ≡ r .live y → r′ .class y ≡ r .class y → carved P r′ y ≡ carved P r y → home al P r′ y ≡ home al P r y
+pub home-same : (r r′ : Plain) (al P y : ℕ) → r′ .live y ≡ r .live y → r′ .class y ≡ r .class y
+    → carved P r′ y ≡ carved P r y → home al P r′ y ≡ home al P r y
 unfolding home
 home-same r r′ al P y e f g = rw (count-same r r′ y e, f, g)
 
 -- the homes of the other pools stand where the same pools are carved
-pub homes-same : {al A P p a : ℕ} {U′ : View} {r r′ : Plain} → Aside p a r r′ → ((y : ℕ) → y < A * P → y ≢ p → carved P r′ y ≡ carved P r y)
+pub homes-same : {al A P p a : ℕ} {U′ : View} {r r′ : Plain} → Aside p a r r′
+    → ((y : ℕ) → y < A * P → y ≢ p → carved P r′ y ≡ carved P r y)
     → ((y : ℕ) → y < A * P → y ≢ p → U′ .home y ≡ home al P r y) → HomesAfter al A P p U′ r r′
 homes-same {al = al} {P = P} {r = r} {r′ = r′} T c h =
     record {
@@ -100,20 +106,26 @@ homes-same {al = al} {P = P} {r = r} {r′ = r′} T c h =
     }
 
 -- the map, where the bit of block j of pool p is put to d
-bits-after : {al A P : ℕ} {U : View} {m k : List ℕ} {r : Plain} → Says al A P U m k r → (p j d : ℕ) → p < A * P → j < 512 → d < 2
+bits-after : {al A P : ℕ} {U : View} {m k : List ℕ} {r : Plain} → Says al A P U m k r → (p j d : ℕ) → p < A * P
+    → j < 512 → d < 2
     → (n i : ℕ) → n < A * P → i < 512 → isSet (putMapBit p j d k) n i ≡ to p (to j (eqb d 1) (r .live p)) (r .live) n i
 bits-after {al} {A} {P} {U} {m} {k} {r} F p j d l u v n i ln li =
     put-block k p j d n i v u li (omega (arith, F .maps)) ∙ go (ℕ-discrete n p)
   where
-    go : Dec (n ≡ p) → (if eqb n p then (if eqb i j then eqb d 1 else isSet k n i) else isSet k n i) ≡ to p (to j (eqb d 1) (r .live p)) (r .live) n i
+    go : Dec (n ≡ p)
+        → (if eqb n p then (if eqb i j then eqb d 1 else isSet k n i) else isSet k n i)
+        ≡ to p (to j (eqb d 1) (r .live p)) (r .live) n i
     go (yes q) = rw (eq-eqb n p q, F .bits n i ln li, q)
     go (no q) = rw (ne-eqb n p q, F .bits n i ln li)
 
 -- ---- the step: what is said of pool p, of arena a and of the lists is shown of the path, and all else stands
-module _ {al A P p a : ℕ} {U U′ : View} {m m′ k : List ℕ} {r r′ : Plain} (L : Aligned al) (F : Says al A P U m k r) (lp : p < A * P) (of : p / P ≡ a) (T : Aside p a r r′)
-    (W : Still p a U U′) (Q : PoolSays al P U′ m′ r′ p) (R : ArenaSays P U′ r′ a) (X : ListsSay A U′ r′) (H : HomesAfter al A P p U′ r r′) (M : BytesAfter p m m′) where
+module _ {al A P p a : ℕ} {U U′ : View} {m m′ k : List ℕ} {r r′ : Plain} (L : Aligned al)
+    (F : Says al A P U m k r) (lp : p < A * P) (of : p / P ≡ a) (T : Aside p a r r′)
+    (W : Still p a U U′) (Q : PoolSays al P U′ m′ r′ p) (R : ArenaSays P U′ r′ a)
+    (X : ListsSay A U′ r′) (H : HomesAfter al A P p U′ r r′) (M : BytesAfter p m m′) where
   -- the links of another pool's chain stand
-  blocks-still : (s y v : ℕ) {free next : ℕ} {live : ℕ → Bool} {chain : List ℕ} → 4 ≤ s → y ≢ p → Blocks s y m free next live chain v → Blocks s y m′ free next live chain v
+  blocks-still : (s y v : ℕ) {free next : ℕ} {live : ℕ → Bool} {chain : List ℕ} → 4 ≤ s → y ≢ p
+      → Blocks s y m free next live chain v → Blocks s y m′ free next live chain v
   blocks-still s y v {free} {next} {live} {chain} l d B =
       framed B m′ (all-map {R = λ j. linkAt m′ (offsetOf y (startOf s j)) ≡ linkAt m (offsetOf y (startOf s j))}
       (λ j (u : j < v). link-bytes m m′ (offsetOf y (startOf s j))
@@ -124,7 +136,8 @@ module _ {al A P p a : ℕ} {U U′ : View} {m m′ k : List ℕ} {r r′ : Plai
       rw (count-same r r′ y (T .lives y d), T .classes y d, T .lives y d, T .chains y d, T .virgins y d, W .pools 1 y d, W .pools 5 y d, W .pools 6 y d)
       (rule-memory (λ low. blocks-still (sizeOf al (r .class y)) y (r .virgin y) (omega (arith, size-low L (r .class y) low)) d) (F .pools y l .rule c))
 
-  pub stepped : (j d : ℕ) → j < 512 → d < 2 → r′ .live ≡ to p (to j (eqb d 1) (r .live p)) (r .live) → Says al A P U′ m′ (putMapBit p j d k) r′
+  pub stepped : (j d : ℕ) → j < 512 → d < 2 → r′ .live ≡ to p (to j (eqb d 1) (r .live p)) (r .live)
+      → Says al A P U′ m′ (putMapBit p j d k) r′
   stepped j d lj ld live-is =
       record {
         range = F .range;

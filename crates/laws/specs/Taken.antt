@@ -1,4 +1,5 @@
--- Ask, where the class list is empty: once a pool is taken from its source, its arena has one free pool fewer, and the pool is set to the class, or taken again for its own.
+-- Ask, where the class list is empty: once a pool is taken from its source, its arena has one free pool fewer, and
+-- the pool is set to the class, or taken again for its own.
 -- Assumes nothing.
 use mathlib.Core.Path.{_≡_, refl, sym, ap, _∙_, subst}
 use mathlib.Core.Logic.{_≢_, inr}
@@ -11,7 +12,25 @@ use native.Mathlib.Omega.{arith}
 use lib.Dec.{eqb}
 use borrow.Author.Tests.{eq-eqb, ne-eqb, lt-ltb, le-ltb}
 use Rattle.rules.specs.Say.{if_then_else_, _▷_, only}
-use Rattle.rules.specs.Books.{Heap, at, put, putWord, putMapBit, usableHead, classHead, freePools, arenaWord, freeblock, class as classWord, nextoffset, maxnextoffset, poolWord, none?, linkTo, offsetOf}
+use Rattle.rules.specs.Books.{
+  Heap,
+  at,
+  put,
+  putWord,
+  putMapBit,
+  usableHead,
+  classHead,
+  freePools,
+  arenaWord,
+  freeblock,
+  class as classWord,
+  nextoffset,
+  maxnextoffset,
+  poolWord,
+  none?,
+  linkTo,
+  offsetOf,
+}
 use Rattle.rules.specs.Blocks.{sizeOf, lastClass, startOf, lastStart, putLink}
 use Rattle.rules.specs.Lists.{leave, arenaLinks, arenaLeaves}
 use Rattle.rules.specs.Outcome.{heapOf}
@@ -31,7 +50,8 @@ use Rattle.laws.specs.Step.{Aside, Still, BytesAfter, homes-same, steppe
 use Rattle.laws.specs.Paths.{Quiet, quiet-link, count-on}
 
 -- ---- no block of a pool with no live blocks is live, however high its number
-pub no-live : {al A P : ℕ} {U : View} {m k : List ℕ} {r : Plain} → Aligned al → Says al A P U m k r → (p : ℕ) → p < A * P → count r p ≡ 0 → (j : ℕ) → r .live p j ≡ false
+pub no-live : {al A P : ℕ} {U : View} {m k : List ℕ} {r : Plain} → Aligned al → Says al A P U m k r → (p : ℕ)
+    → p < A * P → count r p ≡ 0 → (j : ℕ) → r .live p j ≡ false
 no-live {r = r} L F p l z j = is-false (r .live p j) (λ e. true≢false (sym e ∙ none-many (r .live p) 512 z j (low e)))
   where
     low : r .live p j ≡ true → j < 512
@@ -46,8 +66,13 @@ spentBooks a b =
 pub spend-is : (al A P c a : ℕ) (x : Heap) → spend al A P c a x ≡ heapOf (x .memory) (spentBooks a (x .books)) (x .map)
 spend-is al A P c a x = go (none? (at (put (arenaWord freePools a) (at (x .books) (arenaWord freePools a) - 1) (x .books)) (arenaWord freePools a)))
   where
-    go : (t : Bool) → only t (arenaLeaves usableHead a) (heapOf (x .memory) (put (arenaWord freePools a) (at (x .books) (arenaWord freePools a) - 1) (x .books)) (x .map))
-        ≡ heapOf (x .memory) (only t (leave arenaLinks usableHead a) (put (arenaWord freePools a) (at (x .books) (arenaWord freePools a) - 1) (x .books))) (x .map)
+    go : (t : Bool)
+        → only t (arenaLeaves usableHead a)
+        (heapOf (x .memory) (put (arenaWord freePools a) (at (x .books) (arenaWord freePools a) - 1) (x .books)) (x .map))
+        ≡ heapOf (x .memory)
+        (only t (leave arenaLinks usableHead a)
+        (put (arenaWord freePools a) (at (x .books) (arenaWord freePools a) - 1) (x .books)))
+        (x .map)
     go true = refl
     go false = refl
 
@@ -55,7 +80,8 @@ spend-is al A P c a x = go (none? (at (put (arenaWord freePools a) (at (x .books
 abbrev pub spentUsable : Bool → ℕ → List ℕ → List ℕ
 spentUsable t a us = if t then erase a us else us
 
-pub spend-rows : (t : Bool) (a : ℕ) (x : Plain) → (if t then x ▷ setUsable (erase a (x .usable)) else x) ≡ (x ▷ setUsable (spentUsable t a (x .usable)))
+pub spend-rows : (t : Bool) (a : ℕ) (x : Plain)
+    → (if t then x ▷ setUsable (erase a (x .usable)) else x) ≡ (x ▷ setUsable (spentUsable t a (x .usable)))
 spend-rows true a x = refl
 spend-rows false a x = refl
 
@@ -63,10 +89,22 @@ spend-rows false a x = refl
 -- the plain heap with other arenas
 abbrev pub withArenas : List ℕ → List ℕ → (ℕ → ℕ) → (ℕ → List ℕ) → Plain → Plain
 withArenas usable unused mark freed r =
-    record { usable = usable; unused = unused; mark = mark; freed = freed; listed = r .listed; class = r .class; chain = r .chain; virgin = r .virgin; live = r .live }
+    record {
+      usable = usable;
+      unused = unused;
+      mark = mark;
+      freed = freed;
+      listed = r .listed;
+      class = r .class;
+      chain = r .chain;
+      virgin = r .virgin;
+      live = r .live;
+    }
 
--- the books b say U₁ then, and the plain heap's arenas are us, un, mark and freed. Pool p, which has no live block, is on no list; all else is as the view U and the plain heap r have it
-pub record From (al A P p a : ℕ) (b : List ℕ) (U U₁ : View) (r : Plain) (us un : List ℕ) (mark : ℕ → ℕ) (freed : ℕ → List ℕ) : Type 0 where
+-- the books b say U₁ then, and the plain heap's arenas are us, un, mark and freed. Pool p, which has no live block,
+-- is on no list; all else is as the view U and the plain heap r have it
+pub record From (al A P p a : ℕ) (b : List ℕ) (U U₁ : View) (r : Plain)
+    (us un : List ℕ) (mark : ℕ → ℕ) (freed : ℕ → List ℕ) : Type 0 where
   pub books : Books A (A * P) b U₁
   pub inside : p < A * P
   pub of : p / P ≡ a
@@ -87,7 +125,8 @@ newRows c p x = x ▷ setListed c (p ∷ []) ▷ setClass p c ▷ setVirgin p 2 
 
 -- ---- its arena spends it, and it is set to the class, or taken again for its own
 module _ {al A P p a c : ℕ} {b m q us un : List ℕ} {U U₁ : View} {r : Plain} {mark : ℕ → ℕ} {freed : ℕ → List ℕ}
-    (L : Aligned al) (F : Says al A P U m q r) (O : From al A P p a b U U₁ r us un mark freed) (lc : c ≤ lastClass al) (lst : r .listed c ≡ []) where
+    (L : Aligned al) (F : Says al A P U m q r) (O : From al A P p a b U U₁ r us un mark freed)
+    (lc : c ≤ lastClass al) (lst : r .listed c ≡ []) where
   abbrev s : ℕ
   s = sizeOf al c
 
@@ -141,10 +180,12 @@ module _ {al A P p a c : ℕ} {b m q us un : List ℕ} {U U₁ : View} {r : Plai
   spent-books : Books A (A * P) (spentBooks a b) spentView
   spent-books = go (ℕ-discrete (free P r a) 1)
     where
-      fewer : Books A (A * P) (put (arenaWord freePools a) (at b (arenaWord freePools a) - 1) b) (U₁ ▷ arenaTo 2 a (at b (arenaWord freePools a) - 1))
+      fewer : Books A (A * P) (put (arenaWord freePools a) (at b (arenaWord freePools a) - 1) b)
+          (U₁ ▷ arenaTo 2 a (at b (arenaWord freePools a) - 1))
       fewer = put-arena (O .books) 2 a (at b (arenaWord freePools a) - 1) (omega arith) la
 
-      fewer-is : at (put (arenaWord freePools a) (at b (arenaWord freePools a) - 1) b) (arenaWord freePools a) ≡ free P r a - 1
+      fewer-is : at (put (arenaWord freePools a) (at b (arenaWord freePools a) - 1) b) (arenaWord freePools a)
+          ≡ free P r a - 1
       fewer-is = fewer .arenas 2 a (omega arith) la ∙ rw (eq-eqb a a refl) (ap (λ (x : ℕ). x - 1) free-word)
 
       go : Dec (free P r a ≡ 1) → Books A (A * P) (spentBooks a b) spentView
@@ -152,7 +193,8 @@ module _ {al A P p a c : ℕ} {b m q us un : List ℕ} {U U₁ : View} {r : Plai
       go (no z) = rw (fewer-is, ne-eqb (free P r a) 1 z, ne-eqb (free P r a - 1) 0 (omega (arith, one-less 0 (omega arith)))) fewer
 
   -- "The pool goes alone on the class list with count 1."
-  alone-books : Books A (A * P) (spentBooks a b ▷ put (classHead c) (linkTo p) ▷ put (poolWord A 2 p) 0 ▷ put (poolWord A 3 p) 0 ▷ put (poolWord A 0 p) 1)
+  alone-books : Books A (A * P) (spentBooks a b ▷ put (classHead c) (linkTo p) ▷ put (poolWord A 2 p) 0
+      ▷ put (poolWord A 3 p) 0 ▷ put (poolWord A 0 p) 1)
       (spentView ▷ homeTo p (classHead c) ▷ listedTo c (p ∷ []) ▷ poolTo 0 p 1)
   alone-books = put-pool (pool-alone spent-books c p c-low lp (omega (arith, O .home-p)) (O .lists .listed c c-low ∙ lst)) 0 p 1 (omega arith) lp
 
@@ -233,7 +275,9 @@ module _ {al A P p a c : ℕ} {b m q us un : List ℕ} {U U₁ : View} {r : Plai
 
       base-now : Dec (free P r a ≡ 1) → newView pools .base a ≡ base P r′ a
       base-now (yes z) = let e : newView pools .base a ≡ 0 = rw (z, eq-eqb a a refl) in e ∙ sym (base-spent P r′ a (O .marked) (omega (arith, one-less k lk)))
-      base-now (no z) = let e : newView pools .base a ≡ 2 = rw (ne-eqb (free P r a) 1 z) base-a in e ∙ sym (base-usable P r′ a (O .marked) (λ u. z (omega (arith, one-less k lk))))
+      base-now (no z) =
+          let e : newView pools .base a ≡ 2 = rw (ne-eqb (free P r a) 1 z) base-a in
+          e ∙ sym (base-usable P r′ a (O .marked) (λ u. z (omega (arith, one-less k lk))))
 
       usable-now : (t : Bool) → (if t && true then erase a (U₁ .arenas 2) else U₁ .arenas 2) ≡ spentUsable t a us
       usable-now true = ap (erase a) (O .lists .usable)
@@ -251,9 +295,15 @@ module _ {al A P p a c : ℕ} {b m q us un : List ℕ} {U U₁ : View} {r : Plai
       ▷ noLinkAt al A P c p (48 + sizeOf al c)
       ▷ handOut al A P c p 48
 
-  pub set-anew : Sound al A P (setTo (heapOf m (spentBooks a b) q)) (newRows c p (withArenas (spentUsable (eqb (free P r a) 1) a us) un mark freed r))
-      × Quiet al A P m (setTo (heapOf m (spentBooks a b) q) .memory) (newRows c p (withArenas (spentUsable (eqb (free P r a) 1) a us) un mark freed r))
-  set-anew = (sound {h = h′} L K′ F′, subst (λ (o : ℕ). Quiet al A P m (putLink o 0 m) r′) place (quiet-link L F′ p 1 0 (rw class′ lc) (rw class′ (omega (arith, capacity-low L c lc))) dead₁))
+  pub set-anew : Sound al A P (setTo (heapOf m (spentBooks a b) q))
+      (newRows c p (withArenas (spentUsable (eqb (free P r a) 1) a us) un mark freed r))
+      × Quiet al A P m (setTo (heapOf m (spentBooks a b) q) .memory)
+      (newRows c p (withArenas (spentUsable (eqb (free P r a) 1) a us) un mark freed r))
+  set-anew = (
+    sound {h = h′} L K′ F′,
+    subst (λ (o : ℕ). Quiet al A P m (putLink o 0 m) r′) place
+        (quiet-link L F′ p 1 0 (rw class′ lc) (rw class′ (omega (arith, capacity-low L c lc))) dead₁),
+  )
     where
       r′ : Plain
       r′ = newRows c p (withArenas (spentUsable (eqb (free P r a) 1) a us) un mark freed r)
@@ -271,18 +321,22 @@ module _ {al A P p a c : ℕ} {b m q us un : List ℕ} {U U₁ : View} {r : Plai
       dead₁ = rw (eq-eqb p p refl) (dead 1)
 
       U′ : View
-      U′ = spentView ▷ homeTo p (classHead c) ▷ listedTo c (p ∷ []) ▷ poolTo 0 p 1 ▷ poolTo 4 p c ▷ poolTo 5 p (48 + 2 * s) ▷ poolTo 6 p (lastStart s) ▷ poolTo 1 p (48 + s)
+      U′ =
+          spentView ▷ homeTo p (classHead c) ▷ listedTo c (p ∷ []) ▷ poolTo 0 p 1 ▷ poolTo 4 p c ▷ poolTo 5 p (48 + 2 * s) ▷ poolTo 6 p (lastStart s)
+          ▷ poolTo 1 p (48 + s)
 
       K′ : Books A (A * P) (h′ .books) U′
       K′ =
-          put-pool (put-pool (put-pool (put-pool alone-books 4 p c (omega arith) lp) 5 p (48 + 2 * s) (omega arith) lp) 6 p (lastStart s) (omega arith) lp) 1 p (48 + s) (omega arith) lp
+          put-pool (put-pool (put-pool (put-pool alone-books 4 p c (omega arith) lp) 5 p (48 + 2 * s) (omega arith) lp) 6 p (lastStart s) (omega arith) lp) 1 p
+          (48 + s) (omega arith) lp
 
       I : InClassOf al U′ (h′ .memory) r′ p
       I =
           record {
             class-low = rw class′ lc;
             maxnextoffset-is = rw (eq-eqb p p refl);
-            blocks = rw (eq-eqb p p refl) (anew s p m (r .live p) (omega (arith, size-low L c lc)) (omega (arith, size-high L c lc)) (omega (arith, F .bytes, lp)) dead);
+            blocks = rw (eq-eqb p p refl)
+                (anew s p m (r .live p) (omega (arith, size-low L c lc)) (omega (arith, size-high L c lc)) (omega (arith, F .bytes, lp)) dead);
             two = λ z. absurd (omega (arith, z, one-live 0 (omega arith)));
             one = λ _. rw (eq-eqb p p refl) (omega arith);
           }
@@ -290,17 +344,20 @@ module _ {al A P p a c : ℕ} {b m q us un : List ℕ} {U U₁ : View} {r : Plai
       F′ : Says al A P U′ (h′ .memory) (h′ .map) r′
       F′ =
           rw (first-block s (omega (arith, size-low L c lc)) (omega (arith, size-high L c lc)) .1)
-          (settled 0 (omega arith) (1 ∷ []) (r′ .class) (r′ .virgin) (U′ .pool) class′ (λ y d. rw (ne-eqb y p d)) (λ y d. rw (ne-eqb y p d)) (λ w y d. rw (ne-eqb y p d))
+          (settled 0 (omega arith) (1 ∷ []) (r′ .class) (r′ .virgin) (U′ .pool) class′
+          (λ y d. rw (ne-eqb y p d)) (λ y d. rw (ne-eqb y p d)) (λ w y d. rw (ne-eqb y p d))
           (rw (eq-eqb p p refl) (refl, refl, refl)) (link-after m p (48 + s) 0 (omega (arith, size-high L c lc))) I)
 
   -- ---- "If its class is already the wanted one, the answer is its freeblock, which becomes that block's link."
   abbrev takeFor : ℕ → ℕ → Heap → Heap
   takeFor f l x = x ▷ alone al A P c p ▷ putWord (poolWord A freeblock p) l ▷ handOut al A P c p f
 
-  pub taken-again : (k j : ℕ) (js : List ℕ) → r .class p ≡ c → Blocks s p m (U .pool 1 p) (U .pool 5 p) (r .live p) (k ∷ j ∷ js) (r .virgin p) → U .pool 6 p ≡ lastStart s
+  pub taken-again : (k j : ℕ) (js : List ℕ) → r .class p ≡ c
+      → Blocks s p m (U .pool 1 p) (U .pool 5 p) (r .live p) (k ∷ j ∷ js) (r .virgin p) → U .pool 6 p ≡ lastStart s
       → ((w : ℕ) → U₁ .pool w p ≡ U .pool w p)
       → Sound al A P (takeFor (startOf s k) (startOf s j) (heapOf m (spentBooks a b) q))
-      (withArenas (spentUsable (eqb (free P r a) 1) a us) un mark freed r ▷ setListed c (p ∷ []) ▷ setChain p (j ∷ js) ▷ setLive p k true)
+      (withArenas (spentUsable (eqb (free P r a) 1) a us) un mark freed r ▷ setListed c (p ∷ []) ▷ setChain p (j ∷ js)
+      ▷ setLive p k true)
   taken-again k j js cls B max words = sound {h = h′} L K′ F′
     where
       r′ : Plain

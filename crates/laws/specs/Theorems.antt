@@ -1,5 +1,5 @@
--- What holds after every history of calls from a format that is done: the demands, as theorems. Each is read off what holds of the heap at the end (Tied): it is sound, and the ledger has
--- what it holds.
+-- What holds after every history of calls from a format that is done: the demands, as theorems. Each is read off what
+-- holds of the heap at the end (Tied): it is sound, and the ledger has what it holds.
 -- Assumes nothing.
 use mathlib.Core.Path.{_≡_, refl, sym, ap, ap₂, _∙_}
 use mathlib.Core.Logic.{_≢_, _⊎_}
@@ -30,7 +30,18 @@ use Rattle.rules.specs.Numbers.{
 use Rattle.laws.specs.Update.{is-false}
 use Rattle.laws.specs.Sizes.{Aligned, size-low}
 use Rattle.laws.specs.Held.{held}
-use Rattle.laws.specs.Holding.{LiveAt, liveSize, live-ends, live-rows, class-is, in-memory, holding-live, holding-long, holding-some, dead-holding}
+use Rattle.laws.specs.Holding.{
+  LiveAt,
+  liveSize,
+  live-ends,
+  live-rows,
+  class-is,
+  in-memory,
+  holding-live,
+  holding-long,
+  holding-some,
+  dead-holding,
+}
 use Rattle.laws.specs.Written.{apart}
 use Rattle.laws.specs.Calls.{shape-zero, view-is, view-size-is, back-dead, back-is}
 use Rattle.laws.specs.Free.{live-held, ask-free, ask-bytes, resize-free}
@@ -55,10 +66,13 @@ module _ {al : ℕ} (L : Aligned al) (h : Heap) (A P : ℕ) (ok : format h A P .
   pub no-six : NoSix al (begun h A P) es
   no-six = tied L (h .memory) (first-format L h A P ok) es .0
 
-  -- for 1 ≤ n ≤ 512, ask n is refused with 4 exactly if every pool holds a live block and every pool of that class is full of live ones
+  -- for 1 ≤ n ≤ 512, ask n is refused with 4 exactly if every pool holds a live block and every pool of that class is
+  -- full of live ones
   pub four-means : (n : ℕ) → 1 ≤ n → n ≤ 512
-      → (ask al (end .heap) n .answer .number ≡ 4 → Full al (arenas (end .heap)) (pools (end .heap)) (end .heap) (classOf al n))
-      × (Full al (arenas (end .heap)) (pools (end .heap)) (end .heap) (classOf al n) → ask al (end .heap) n .answer .number ≡ 4)
+      → (ask al (end .heap) n .answer .number ≡ 4
+      → Full al (arenas (end .heap)) (pools (end .heap)) (end .heap) (classOf al n))
+      × (Full al (arenas (end .heap)) (pools (end .heap)) (end .heap) (classOf al n)
+      → ask al (end .heap) n .answer .number ≡ 4)
   four-means n low high = rw (T .sound .rule1 .arenas-are, T .sound .rule1 .pools-are) (four-full L (T .sound) n low high, full-four L (T .sound) n low high)
 
   -- ---- the entries of the ledger
@@ -77,21 +91,27 @@ module _ {al : ℕ} (L : Aligned al) (h : Heap) (A P : ℕ) (ok : format h A P .
   entry-size o t = ap length (T .tie o) ∙ holding-long L (T .sound) o t
 
   -- and of the size that the books have for it
-  size-is : (o : ℕ) → live al (T .A) (T .P) (end .heap .books) (end .heap .map) o ≡ true → sizeAt al (T .A) (end .heap .books) o ≡ length (end .ledger o)
+  size-is : (o : ℕ) → live al (T .A) (T .P) (end .heap .books) (end .heap .map) o ≡ true
+      → sizeAt al (T .A) (end .heap .books) o ≡ length (end .ledger o)
   size-is o e = let t = live-rows L (T .sound) o e in ap (sizeOf al) (class-is L (T .sound) o t) ∙ sym (entry-size o t)
 
   -- an offset is live exactly if a block is held there
-  pub live-means : (o : ℕ) → (live al (arenas (end .heap)) (pools (end .heap)) (end .heap .books) (end .heap .map) o ≡ true → end .ledger o ≢ [])
-      × (end .ledger o ≢ [] → live al (arenas (end .heap)) (pools (end .heap)) (end .heap .books) (end .heap .map) o ≡ true)
+  pub live-means : (o : ℕ)
+      → (live al (arenas (end .heap)) (pools (end .heap)) (end .heap .books) (end .heap .map) o ≡ true
+      → end .ledger o ≢ [])
+      × (end .ledger o ≢ []
+      → live al (arenas (end .heap)) (pools (end .heap)) (end .heap .books) (end .heap .map) o ≡ true)
   live-means o =
       rw (T .sound .rule1 .arenas-are, T .sound .rule1 .pools-are)
       (λ e q. live-held L (T .sound) o e (sym (T .tie o) ∙ q), some-live o)
 
   -- ---- a block that is held is never handed out: nobody holds what an ask hands out, nor what a resize moves to
-  pub asked-free : (n : ℕ) → ask al (end .heap) n .answer .number ≡ 0 → end .ledger (ask al (end .heap) n .answer .offset) ≡ []
+  pub asked-free : (n : ℕ) → ask al (end .heap) n .answer .number ≡ 0
+      → end .ledger (ask al (end .heap) n .answer .offset) ≡ []
   asked-free n z = T .tie _ ∙ ask-free L (T .sound) n z
 
-  pub moved-free : (o n : ℕ) → resize al (end .heap) o n .answer .number ≡ 0 → resize al (end .heap) o n .answer .offset ≢ o
+  pub moved-free : (o n : ℕ) → resize al (end .heap) o n .answer .number ≡ 0
+      → resize al (end .heap) o n .answer .offset ≢ o
       → end .ledger (resize al (end .heap) o n .answer .offset) ≡ []
   moved-free o n z d = T .tie _ ∙ resize-free L (T .sound) o n z d
 
@@ -102,7 +122,9 @@ module _ {al : ℕ} (L : Aligned al) (h : Heap) (A P : ℕ) (ok : format h A P .
   asked-bytes = ask-bytes L (T .sound)
 
   -- a give-back is done exactly where a block is held; elsewhere it is refused with 5, and nothing changes
-  pub back-means : (o : ℕ) → (end .ledger o ≢ [] → giveBack al (end .heap) o .answer ≡ answerOf 0 o) × (end .ledger o ≡ [] → giveBack al (end .heap) o ≡ refused 5 (end .heap))
+  pub back-means : (o : ℕ)
+      → (end .ledger o ≢ [] → giveBack al (end .heap) o .answer ≡ answerOf 0 o)
+      × (end .ledger o ≡ [] → giveBack al (end .heap) o ≡ refused 5 (end .heap))
   back-means o = (
     λ some. ap (λ (x : Outcome). x .answer) (back-is L (T .sound) o (some-live o some)),
     λ none. back-dead L (T .sound) o (none-dead o none),
@@ -123,7 +145,8 @@ module _ {al : ℕ} (L : Aligned al) (h : Heap) (A P : ℕ) (ok : format h A P .
   )
 
   -- no two entries overlap
-  pub entries-apart : (o x : ℕ) → end .ledger o ≢ [] → end .ledger x ≢ [] → x ≢ o → (o + length (end .ledger o) ≤ x) ⊎ (x + length (end .ledger x) ≤ o)
+  pub entries-apart : (o x : ℕ) → end .ledger o ≢ [] → end .ledger x ≢ [] → x ≢ o
+      → (o + length (end .ledger o) ≤ x) ⊎ (x + length (end .ledger x) ≤ o)
   entries-apart o x a b d =
       let t = entry-live o a in
       let u = entry-live x b in
@@ -162,7 +185,9 @@ module _ {al : ℕ} (L : Aligned al) (h : Heap) (A P : ℕ) (ok : format h A P .
   entryCount = heldBelow sizeIn (length (end .heap .memory))
 
   -- each entry is listed once, in its place: after the entries at lower offsets, and there is nothing else in the list
-  pub entry-listed : (o : ℕ) → end .ledger o ≢ [] → (at entries (2 * heldBelow sizeIn o) ≡ o) × (at entries (2 * heldBelow sizeIn o + 1) ≡ length (end .ledger o))
+  pub entry-listed : (o : ℕ) → end .ledger o ≢ []
+      → (at entries (2 * heldBelow sizeIn o) ≡ o)
+      × (at entries (2 * heldBelow sizeIn o + 1) ≡ length (end .ledger o))
   entry-listed o some =
       let t = entry-live o some in
       let l = size-low L (T .rows .class (t .pool)) (t .class) in
@@ -175,7 +200,8 @@ module _ {al : ℕ} (L : Aligned al) (h : Heap) (A P : ℕ) (ok : format h A P .
   unfolding sizeHeld
   held-size o = go (live al (T .A) (T .P) (end .heap .books) (end .heap .map) o) refl
     where
-      go : (b : Bool) → live al (T .A) (T .P) (end .heap .books) (end .heap .map) o ≡ b → (if b then sizeAt al (T .A) (end .heap .books) o else 0) ≡ length (end .ledger o)
+      go : (b : Bool) → live al (T .A) (T .P) (end .heap .books) (end .heap .map) o ≡ b
+          → (if b then sizeAt al (T .A) (end .heap .books) o else 0) ≡ length (end .ledger o)
       go false e = sym (ap length (T .tie o ∙ dead-holding al (T .A) (T .P) (end .heap) o e))
       go true e = size-is o e
 
@@ -187,12 +213,15 @@ module _ {al : ℕ} (L : Aligned al) (h : Heap) (A P : ℕ) (ok : format h A P .
       ∙ ap (listing sizeIn 0) (sym (held (T .sound) .says .bytes))
 
   -- roll call with room gives 0, the number of entries, and offset and size of each, and leaves the words after them
-  pub roll-with-room : (words : List ℕ) → length entries ≤ length words → rollCall al (end .heap) words ≡ rollOutcome 0 entryCount (entries ++ drop (length entries) words)
+  pub roll-with-room : (words : List ℕ) → length entries ≤ length words
+      → rollCall al (end .heap) words ≡ rollOutcome 0 entryCount (entries ++ drop (length entries) words)
   unfolding rollCall roomNumber
   roll-with-room words l =
-      rw (shape-zero (T .sound), roll-entries, le-ltb (length words) (length entries) l) (ap (λ (k : ℕ). rollOutcome 0 k (entries ++ drop (length entries) words)) (omega (arith, entries-long)))
+      rw (shape-zero (T .sound), roll-entries, le-ltb (length words) (length entries) l)
+      (ap (λ (k : ℕ). rollOutcome 0 k (entries ++ drop (length entries) words)) (omega (arith, entries-long)))
 
   -- with less room it gives 7 and writes nothing
-  pub roll-without : (words : List ℕ) → length words < length entries → rollCall al (end .heap) words ≡ rollOutcome 7 0 words
+  pub roll-without : (words : List ℕ) → length words < length entries
+      → rollCall al (end .heap) words ≡ rollOutcome 7 0 words
   unfolding rollCall roomNumber
   roll-without words l = rw (shape-zero (T .sound), roll-entries, lt-ltb (length words) (length entries) l)

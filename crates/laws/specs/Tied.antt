@@ -1,4 +1,5 @@
--- What holds after every history, shown event by event: the heap is sound, the ledger has what the heap holds, and the first 48 bytes of each pool stand.
+-- What holds after every history, shown event by event: the heap is sound, the ledger has what the heap holds, and
+-- the first 48 bytes of each pool stand.
 -- Assumes nothing.
 use mathlib.Core.Path.{_≡_, refl, sym, ap, _∙_, subst}
 use mathlib.Core.Logic.{_≢_, _⊎_, inl, inr}
@@ -52,7 +53,8 @@ use Rattle.laws.specs.History.{
   NoSix,
 }
 
--- ---- what holds after a history, m₀ being memory before it: the heap is sound, the ledger has what the heap holds, the first 48 bytes of each pool stand
+-- ---- what holds after a history, m₀ being memory before it: the heap is sound, the ledger has what the heap holds,
+-- the first 48 bytes of each pool stand
 pub record Tied (al : ℕ) (m₀ : List ℕ) (x : State) : Type 0 where
   pub A : ℕ
   pub P : ℕ
@@ -64,10 +66,18 @@ pub record Tied (al : ℕ) (m₀ : List ℕ) (x : State) : Type 0 where
 -- ---- format
 module _ {al : ℕ} (L : Aligned al) where
   -- a fresh heap is tied to the empty ledger
-  fresh-tied : (m m₁ : List ℕ) (A P : ℕ) → inRange A P ≡ true → length m ≡ memoryLength A P → ((i : ℕ) → i % 4096 < 48 → at m i ≡ at m₁ i)
+  fresh-tied : (m m₁ : List ℕ) (A P : ℕ) → inRange A P ≡ true → length m ≡ memoryLength A P
+      → ((i : ℕ) → i % 4096 < 48 → at m i ≡ at m₁ i)
       → Tied al m₁ (record { heap = heapOf m (freshBooks A P) (replicate (mapLength A P) 0); ledger = λ o. [] })
   fresh-tied m m₁ A P e l f =
-      record { A = A; P = P; rows = fresh A; sound = S; tie = λ o. sym (dead-holding al A P (heapOf m (freshBooks A P) (replicate (mapLength A P) 0)) o (dark o)); first = f }
+      record {
+        A = A;
+        P = P;
+        rows = fresh A;
+        sound = S;
+        tie = λ o. sym (dead-holding al A P (heapOf m (freshBooks A P) (replicate (mapLength A P) 0)) o (dark o));
+        first = f;
+      }
     where
       S : Sound al A P (heapOf m (freshBooks A P) (replicate (mapLength A P) 0)) (fresh A)
       S = fresh-sound al A P L m e l
@@ -76,7 +86,8 @@ module _ {al : ℕ} (L : Aligned al) where
       dark o = is-false (live al A P (freshBooks A P) (replicate (mapLength A P) 0) o) (λ z. false≢true (live-rows L S o z .on))
 
   -- a first format that is done, over any buffers
-  pub first-format : (h : Heap) (A P : ℕ) → format h A P .answer .number ≡ 0 → Tied al (h .memory) (record { heap = format h A P .heap; ledger = λ o. [] })
+  pub first-format : (h : Heap) (A P : ℕ) → format h A P .answer .number ≡ 0
+      → Tied al (h .memory) (record { heap = format h A P .heap; ledger = λ o. [] })
   unfolding format fitNumber
   first-format h A P ok = go (inRange A P) (exact A P h) refl refl ok
     where
@@ -84,7 +95,8 @@ module _ {al : ℕ} (L : Aligned al) where
       Q y = y .answer .number ≡ 0 → Tied al (h .memory) (record { heap = y .heap; ledger = λ o. [] })
 
       go : (t u : Bool) → inRange A P ≡ t → exact A P h ≡ u
-          → Q (passing (if not t then 1 else if not u then 2 else 0) (λ k. refused k h) (done 0 (heapOf (h .memory) (freshBooks A P) (replicate (mapLength A P) 0))))
+          → Q (passing (if not t then 1 else if not u then 2 else 0) (λ k. refused k h)
+          (done 0 (heapOf (h .memory) (freshBooks A P) (replicate (mapLength A P) 0))))
       go false u e f z = absurd (omega arith)
       go true false e f z = absurd (omega arith)
       go true true e f z = fresh-tied (h .memory) (h .memory) A P e (shaped h A P e f .memory) (λ i u. refl)
@@ -96,13 +108,16 @@ Good al m₀ number x = (number ≢ 6) × Tied al m₀ x
 
 module _ {al : ℕ} (L : Aligned al) (m₀ : List ℕ) where
   -- a refusal that changes nothing
-  same : {x : State} → Tied al m₀ x → (k : ℕ) → eqb k 0 ≡ false → k ≢ 6 → (new : Ledger) → Good al m₀ k (noted k (x .heap) (x .ledger) new)
+  same : {x : State} → Tied al m₀ x → (k : ℕ) → eqb k 0 ≡ false → k ≢ 6 → (new : Ledger)
+      → Good al m₀ k (noted k (x .heap) (x .ledger) new)
   same {x} T k e d new = (d, rw e (record { A = T .A; P = T .P; rows = T .rows; sound = T .sound; tie = T .tie; first = T .first }))
 
   -- a step that leaves what the ledger then says
-  leaves : {x : State} {h : Heap} {r : Plain} {g : ℕ → List ℕ} (T : Tied al m₀ x) → Leaves al (T .A) (T .P) (x .heap) h r g → (l : Ledger) → ((o : ℕ) → l o ≡ g o)
+  leaves : {x : State} {h : Heap} {r : Plain} {g : ℕ → List ℕ} (T : Tied al m₀ x)
+      → Leaves al (T .A) (T .P) (x .heap) h r g → (l : Ledger) → ((o : ℕ) → l o ≡ g o)
       → Tied al m₀ (record { heap = h; ledger = l })
-  leaves {r = r} T W l e = record { A = T .A; P = T .P; rows = r; sound = W .sound; tie = λ o. e o ∙ sym (W .holds o); first = λ i u. W .first i u ∙ T .first i u }
+  leaves {r = r} T W l e =
+      record { A = T .A; P = T .P; rows = r; sound = W .sound; tie = λ o. e o ∙ sym (W .holds o); first = λ i u. W .first i u ∙ T .first i u }
 
   step-ask : {x : State} → Tied al m₀ x → (n : ℕ) → Good al m₀ (numberOf al x (asks n)) (after al x (asks n))
   unfolding numberOf after askAnswer afterAsk
@@ -150,7 +165,8 @@ module _ {al : ℕ} (L : Aligned al) (m₀ : List ℕ) where
     bytes-are : x .ledger o ≡ part o (liveSize t) (x .heap .memory)
     bytes-are = T .tie o ∙ holding-live L (T .sound) o t
 
-    held-bytes : (m bytes : List ℕ) → length m ≡ length (x .heap .memory) → ((i : ℕ) → Outside o (liveSize t) i → at m i ≡ at (x .heap .memory) i) → bytes ≡ part o (liveSize t) m
+    held-bytes : (m bytes : List ℕ) → length m ≡ length (x .heap .memory)
+        → ((i : ℕ) → Outside o (liveSize t) i → at m i ≡ at (x .heap .memory) i) → bytes ≡ part o (liveSize t) m
         → Tied al m₀ (record { heap = heapOf m (x .heap .books) (x .heap .map); ledger = to o bytes (x .ledger) })
     held-bytes m bytes len off new =
         leaves T (written-leaves L (T .sound) o t m len off) (to o bytes (x .ledger))
@@ -158,12 +174,14 @@ module _ {al : ℕ} (L : Aligned al) (m₀ : List ℕ) where
 
   write-is : {x : State} (T : Tied al m₀ x) (o : ℕ) (text : List ℕ)
       → write al (x .heap) o text
-      ≡ passing (passing (if live al (T .A) (T .P) (x .heap .books) (x .heap .map) o then 0 else 5) (λ k. k) (if ltb (sizeAt al (T .A) (x .heap .books) o) (length text) then 7 else 0))
+      ≡ passing (passing (if live al (T .A) (T .P) (x .heap .books) (x .heap .map) o then 0 else 5)
+      (λ k. k) (if ltb (sizeAt al (T .A) (x .heap .books) o) (length text) then 7 else 0))
       (λ k. refused k (x .heap)) (done o (heapOf (sets (x .heap .memory) o text) (x .heap .books) (x .heap .map)))
   unfolding write liveNumber roomNumber
   write-is T o text = rw (shape-zero (T .sound), T .sound .rule1 .arenas-are, T .sound .rule1 .pools-are)
 
-  step-write : {x : State} → Tied al m₀ x → (o : ℕ) (text : List ℕ) → Good al m₀ (numberOf al x (writes o text)) (after al x (writes o text))
+  step-write : {x : State} → Tied al m₀ x → (o : ℕ) (text : List ℕ)
+      → Good al m₀ (numberOf al x (writes o text)) (after al x (writes o text))
   unfolding numberOf after
   step-write {x} T o text = subst Q (sym (write-is T o text)) (go (live al (T .A) (T .P) (x .heap .books) (x .heap .map) o) refl)
     where
@@ -173,19 +191,24 @@ module _ {al : ℕ} (L : Aligned al) (m₀ : List ℕ) where
       m′ : List ℕ
       m′ = sets (x .heap .memory) o text
 
-      fits : (t : LiveAt al (T .A) (T .P) (T .rows) o) (b : Bool) → ltb (sizeAt al (T .A) (x .heap .books) o) (length text) ≡ b
-          → Q (passing (if b then 7 else 0) (λ k. refused k (x .heap)) (done o (heapOf m′ (x .heap .books) (x .heap .map))))
+      fits : (t : LiveAt al (T .A) (T .P) (T .rows) o) (b : Bool)
+          → ltb (sizeAt al (T .A) (x .heap .books) o) (length text) ≡ b
+          → Q (passing (if b then 7 else 0) (λ k. refused k (x .heap))
+          (done o (heapOf m′ (x .heap .books) (x .heap .map))))
       fits t true e = same T 7 refl (omega arith) (x .ledger)
       fits t false e =
-          let l : length text ≤ liveSize t = rw (ap (sizeOf al) (class-is L (T .sound) o t)) at (ltb-false (sizeAt al (T .A) (x .heap .books) o) (length text) e) in (
+          let l : length text ≤ liveSize t =
+          rw (ap (sizeOf al) (class-is L (T .sound) o t)) at (ltb-false (sizeAt al (T .A) (x .heap .books) o) (length text) e) in (
             (omega arith),
             held-bytes T o t m′ (text ++ drop (length text) (x .ledger o)) (length-sets (x .heap .memory) o text)
                 (λ i f. sets-off (x .heap .memory) o text i (outside-less l f))
-                (ap (λ (b : List ℕ). text ++ drop (length text) b) (bytes-are T o t) ∙ sym (text-part (x .heap .memory) text o (liveSize t) l (in-memory L (T .sound) o t))),
+                (ap (λ (b : List ℕ). text ++ drop (length text) b) (bytes-are T o t)
+                ∙ sym (text-part (x .heap .memory) text o (liveSize t) l (in-memory L (T .sound) o t))),
           )
 
       go : (b : Bool) → live al (T .A) (T .P) (x .heap .books) (x .heap .map) o ≡ b
-          → Q (passing (passing (if b then 0 else 5) (λ k. k) (if ltb (sizeAt al (T .A) (x .heap .books) o) (length text) then 7 else 0))
+          → Q (passing (passing (if b then 0 else 5) (λ k. k)
+          (if ltb (sizeAt al (T .A) (x .heap .books) o) (length text) then 7 else 0))
           (λ k. refused k (x .heap)) (done o (heapOf m′ (x .heap .books) (x .heap .map))))
       go false e = same T 5 refl (omega arith) (x .ledger)
       go true e = fits (live-rows L (T .sound) o e) (ltb (sizeAt al (T .A) (x .heap .books) o) (length text)) refl
@@ -198,7 +221,10 @@ module _ {al : ℕ} (L : Aligned al) (m₀ : List ℕ) where
       m′ = set (x .heap .memory) (o + d) v
 
       go : (b : Bool) → ltb d (length (x .ledger o)) ≡ b
-          → Good al m₀ 0 (if b then record { heap = heapOf m′ (x .heap .books) (x .heap .map); ledger = to o (set (x .ledger o) d v) (x .ledger) } else x)
+          → Good al m₀ 0 (if b then record {
+            heap = heapOf m′ (x .heap .books) (x .heap .map);
+            ledger = to o (set (x .ledger o) d v) (x .ledger);
+          } else x)
       go false e = ((omega arith), T)
       go true e = (
         (omega arith),
@@ -219,7 +245,8 @@ module _ {al : ℕ} (L : Aligned al) (m₀ : List ℕ) where
           away i (inl a) = getD-set-other (x .heap .memory) (o + d) i v 0 (λ q. absurd (omega arith))
           away i (inr a) = getD-set-other (x .heap .memory) (o + d) i v 0 (λ q. absurd (omega (arith, inside)))
 
-  step-resize : {x : State} → Tied al m₀ x → (o n : ℕ) → Good al m₀ (numberOf al x (resizes o n)) (after al x (resizes o n))
+  step-resize : {x : State} → Tied al m₀ x → (o n : ℕ)
+      → Good al m₀ (numberOf al x (resizes o n)) (after al x (resizes o n))
   unfolding numberOf after
   step-resize {x} T o n = by-size (size-number n)
     where
@@ -232,16 +259,19 @@ module _ {al : ℕ} (L : Aligned al) (m₀ : List ℕ) where
       Q : Outcome → Type 0
       Q y =
           Good al m₀ (y .answer .number)
-          (noted (y .answer .number) (y .heap) (x .ledger) (if eqb (y .answer .offset) o then x .ledger else carried al n o (y .answer .offset) (ask al h n .heap .memory) (x .ledger)))
+          (noted (y .answer .number) (y .heap) (x .ledger)
+          (if eqb (y .answer .offset) o then x .ledger else carried al n o (y .answer .offset) (ask al h n .heap .memory) (x .ledger)))
 
       -- the ledger carries what the heap does
-      same-carried : (o₁ : ℕ) (m : List ℕ) (y : ℕ) → carried al n o o₁ m (x .ledger) y ≡ carried al n o o₁ m (holding al (T .A) (T .P) h) y
+      same-carried : (o₁ : ℕ) (m : List ℕ) (y : ℕ)
+          → carried al n o o₁ m (x .ledger) y ≡ carried al n o o₁ m (holding al (T .A) (T .P) h) y
       same-carried o₁ m y =
           to-cong o₁ (to o [] (x .ledger)) (to o [] (holding al (T .A) (T .P) h))
           (ap (λ (b : List ℕ). take (min n (length b)) b ++ drop (min n (length b)) (part o₁ (sizeOf al (classOf al n)) m)) (T .tie o)) y
           (to-cong o (x .ledger) (holding al (T .A) (T .P) h) refl y (T .tie y))
 
-      by-room : (lo : 1 ≤ n) (hi : n ≤ 512) (e : live al (T .A) (T .P) (h .books) (h .map) o ≡ true) → keeps (liveSize (block-of L S o e)) n ≡ false
+      by-room : (lo : 1 ≤ n) (hi : n ≤ 512) (e : live al (T .A) (T .P) (h .books) (h .map) o ≡ true)
+          → keeps (liveSize (block-of L S o e)) n ≡ false
           → DoneOrNot al (T .P) (T .rows) (classOf al n) → Q (resize al h o n)
       by-room lo hi e q (inl z) =
           rw (
@@ -254,11 +284,13 @@ module _ {al : ℕ} (L : Aligned al) (m₀ : List ℕ) where
           )
       by-room lo hi e q (inr z) = rw (resize-none L S o n lo hi e q (z .plan-is)) (same T 4 refl (omega arith) (x .ledger))
 
-      by-keep : (lo : 1 ≤ n) (hi : n ≤ 512) (e : live al (T .A) (T .P) (h .books) (h .map) o ≡ true) (b : Bool) → keeps (liveSize (block-of L S o e)) n ≡ b → Q (resize al h o n)
+      by-keep : (lo : 1 ≤ n) (hi : n ≤ 512) (e : live al (T .A) (T .P) (h .books) (h .map) o ≡ true) (b : Bool)
+          → keeps (liveSize (block-of L S o e)) n ≡ b → Q (resize al h o n)
       by-keep lo hi e true q = rw (resize-keeps L S o n lo hi e q, eq-eqb o o refl) ((omega arith), T)
       by-keep lo hi e false q = by-room lo hi e q (done-or-not al (T .P) (T .rows) (classOf al n))
 
-      by-live : (lo : 1 ≤ n) (hi : n ≤ 512) (b : Bool) → live al (T .A) (T .P) (h .books) (h .map) o ≡ b → Q (resize al h o n)
+      by-live : (lo : 1 ≤ n) (hi : n ≤ 512) (b : Bool) → live al (T .A) (T .P) (h .books) (h .map) o ≡ b
+          → Q (resize al h o n)
       by-live lo hi false e = rw (resize-dead L S o n lo hi e) (same T 5 refl (omega arith) (x .ledger))
       by-live lo hi true e = by-keep lo hi e (keeps (liveSize (block-of L S o e)) n) refl
 
@@ -267,7 +299,8 @@ module _ {al : ℕ} (L : Aligned al) (m₀ : List ℕ) where
       by-size (inl t) = by-live (t .0) (t .1) (live al (T .A) (T .P) (h .books) (h .map) o) refl
 
   -- a format that is done leaves a fresh heap, and an empty ledger
-  step-format : {x : State} → Tied al m₀ x → (A P : ℕ) → Good al m₀ (numberOf al x (formats A P)) (after al x (formats A P))
+  step-format : {x : State} → Tied al m₀ x → (A P : ℕ)
+      → Good al m₀ (numberOf al x (formats A P)) (after al x (formats A P))
   unfolding numberOf after format fitNumber
   step-format {x} T A P = go (inRange A P) (exact A P (x .heap)) refl refl
     where
@@ -275,7 +308,8 @@ module _ {al : ℕ} (L : Aligned al) (m₀ : List ℕ) where
       Q y = Good al m₀ (y .answer .number) (noted (y .answer .number) (y .heap) (x .ledger) (λ o. []))
 
       go : (t u : Bool) → inRange A P ≡ t → exact A P (x .heap) ≡ u
-          → Q (passing (if not t then 1 else if not u then 2 else 0) (λ k. refused k (x .heap)) (done 0 (heapOf (x .heap .memory) (freshBooks A P) (replicate (mapLength A P) 0))))
+          → Q (passing (if not t then 1 else if not u then 2 else 0) (λ k. refused k (x .heap))
+          (done 0 (heapOf (x .heap .memory) (freshBooks A P) (replicate (mapLength A P) 0))))
       go false u e f = same T 1 refl (omega arith) (x .ledger)
       go true false e f = same T 2 refl (omega arith) (x .ledger)
       go true true e f = ((omega arith), fresh-tied L (x .heap .memory) m₀ A P e (shaped (x .heap) A P e f .memory) (T .first))

@@ -26,7 +26,8 @@ recordOf x y = 0 ∷ 0 ∷ 0 ∷ 0 ∷ x ∷ y ∷ 0 ∷ 0 ∷ []
 pub zero-parts : (n : ℕ) → Parts (replicate n 0) n (λ i. replicate (n - i) 0) (λ i. 0 ∷ [])
 zero-parts = counted (λ i k. replicate k 0) (λ i k. 0 ∷ []) (λ i. refl) (λ i k. refl)
 
-pub arena-parts : (n : ℕ) → Parts (freshArenas 0 n) n (λ i. freshArenas i (n - i)) (λ i. recordOf (nextOf i (n - (i + 1))) i)
+pub arena-parts : (n : ℕ)
+    → Parts (freshArenas 0 n) n (λ i. freshArenas i (n - i)) (λ i. recordOf (nextOf i (n - (i + 1))) i)
 arena-parts = counted freshArenas (λ i k. recordOf (nextOf i k) i) (λ i. refl) (λ i k. refl)
 
 pub pool-parts : (n : ℕ) → Parts (freshPools n) n (λ i. freshPools (n - i)) (λ i. recordOf noClass 0)
@@ -34,7 +35,8 @@ pool-parts = counted (λ i. freshPools) (λ i k. recordOf noClass 0) (λ i. refl
 
 -- the heads, the arena records and the pool records, stored one after the other, are the books
 pub fresh-whole : (b : List ℕ) (A P : ℕ) → length b ≡ booksLength A P
-    → sets (sets (sets b 0 (A ∷ P ∷ 0 ∷ 1 ∷ replicate 68 0)) 72 (freshArenas 0 A)) (72 + 8 * A) (freshPools (A * P)) ≡ freshBooks A P
+    → sets (sets (sets b 0 (A ∷ P ∷ 0 ∷ 1 ∷ replicate 68 0)) 72 (freshArenas 0 A)) (72 + 8 * A) (freshPools (A * P))
+    ≡ freshBooks A P
 unfolding freshBooks
 fresh-whole b A P h =
     let heads = A ∷ P ∷ 0 ∷ 1 ∷ replicate 68 0 in

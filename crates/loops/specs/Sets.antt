@@ -31,7 +31,8 @@ sets-all l vs e =
     ∙ append-nil vs
 
 -- a place outside the run holds what it held
-pub sets-other : (l : List ℕ) (i : ℕ) (vs : List ℕ) (k : ℕ) → (k < i) ⊎ (i + length vs ≤ k) → getD (sets l i vs) k 0 ≡ getD l k 0
+pub sets-other : (l : List ℕ) (i : ℕ) (vs : List ℕ) (k : ℕ) → (k < i) ⊎ (i + length vs ≤ k)
+    → getD (sets l i vs) k 0 ≡ getD l k 0
 sets-other l i [] k h = refl
 sets-other l i (v ∷ vs) k h = sets-other (set l i v) (suc i) vs k (later h) ∙ getD-set-other l i k v 0 (λ e. apart h e)
   where

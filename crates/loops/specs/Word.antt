@@ -18,7 +18,8 @@ use Rattle.rules.specs.View.{rollBlocks}
 use Rattle.bits.specs.Halves.{parity, first-odd, first-even, withoutFirst, without-odd, without-even}
 use Rattle.loops.specs.Left.{Parts}
 
--- offset and size of each live block among the first n of a word, whose first block is at offset o; the blocks have size s
+-- offset and size of each live block among the first n of a word, whose first block is at offset o; the blocks have
+-- size s
 unfoldable pub rollWord : ℕ → ℕ → ℕ → ℕ → List ℕ
 rollWord w o s zero = []
 rollWord w o s (suc n) = (if eqb (w % 2) 1 then o ∷ s ∷ [] else []) ++ rollWord (w / 2) (o + s) s n
@@ -107,7 +108,8 @@ module _ (m : List ℕ) (p s : ℕ) where
       rw (word, place, next, from-bit i (suc j) n (omega arith), half, start)
 
   -- its first n blocks
-  from-first : (i n : ℕ) → n ≤ 64 → rollBlocks m p s (64 * i) n ≡ rollWord (at m (8 * p + i)) (offsetOf p (startOf s (64 * i))) s n
+  from-first : (i n : ℕ) → n ≤ 64
+      → rollBlocks m p s (64 * i) n ≡ rollWord (at m (8 * p + i)) (offsetOf p (startOf s (64 * i))) s n
   from-first i n h =
       let none : 64 * i + 0 ≡ 64 * i = omega arith in
       let whole : at m (8 * p + i) / 2 ^ 0 ≡ at m (8 * p + i) = omega arith in
@@ -135,7 +137,8 @@ module _ (m : List ℕ) (p s : ℕ) where
   }
     where
       -- where r blocks come after those of word i, it has 64, so they begin with the next word
-      next : (i r : ℕ) → r ≡ n - 64 * (i + 1) → rollBlocks m p s (64 * i + inWord n i) r ≡ rollBlocks m p s (64 * (i + 1)) r
+      next : (i r : ℕ) → r ≡ n - 64 * (i + 1)
+          → rollBlocks m p s (64 * i + inWord n i) r ≡ rollBlocks m p s (64 * (i + 1)) r
       next i zero e = refl
       next i (suc r) e =
           let f : 64 * i + inWord n i ≡ 64 * (i + 1) = omega arith in

@@ -1,4 +1,5 @@
--- What the functions of a step are told of their numbers: how many arenas and pools there are, and which size a class has.
+-- What the functions of a step are told of their numbers: how many arenas and pools there are, and which size a class
+-- has.
 -- Assumes nothing.
 use mathlib.Core.Path.{_≡_}
 use Prim.Native.Nat.{ℕ, _*_, _≤_}

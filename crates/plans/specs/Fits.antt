@@ -1,5 +1,6 @@
--- What is known of the numbers of a path once it is planned: the pool and the arena are there, the blocks are starts, the links that
--- will be used lead somewhere. It follows from the rules that the path has passed, whatever the books hold.
+-- What is known of the numbers of a path once it is planned: the pool and the arena are there, the blocks are starts,
+-- the links that will be used lead somewhere. It follows from the rules that the path has passed, whatever the books
+-- hold.
 -- Assumes nothing.
 use mathlib.Core.Path.{_≡_, refl}
 use mathlib.Core.Bool.{Bool, true, false, not, _&&_, _||_}
@@ -13,10 +14,47 @@ use Rattle.rules.specs.declared.Source.{Source}
 use Rattle.rules.specs.declared.Source.the-variants.{Freed, Carved, Opened}
 use Rattle.rules.specs.declared.AskPlan.{AskPlan}
 use Rattle.rules.specs.declared.AskPlan.the-variants.{NoRoom, Damaged, Follow, Ready, Last, Again, Anew}
-use Rattle.rules.specs.Books.{Heap, at, usableHead, unusedHead, classHead, carveMark, freePools, freedHead, arena, count, freeblock, poolNext, class, nextoffset, maxnextoffset, pool, none?, linked, isSet}
+use Rattle.rules.specs.Books.{
+  Heap,
+  at,
+  usableHead,
+  unusedHead,
+  classHead,
+  carveMark,
+  freePools,
+  freedHead,
+  arena,
+  count,
+  freeblock,
+  poolNext,
+  class,
+  nextoffset,
+  maxnextoffset,
+  pool,
+  none?,
+  linked,
+  isSet,
+}
 use Rattle.rules.specs.Blocks.{sizeOf, isStart, blockNo}
 use Rattle.rules.specs.Lists.{mayLeave, arenaLinks, poolLinks}
-use Rattle.rules.specs.Ask.{_⇛_, frontOf, spare, linkIn, counted, noLink, fromFreeblock, fromListed, setAnew, sameClass, takeAgain, fromMark, fromFreed, fromUsable, fromUnused, planAsk}
+use Rattle.rules.specs.Ask.{
+  _⇛_,
+  frontOf,
+  spare,
+  linkIn,
+  counted,
+  noLink,
+  fromFreeblock,
+  fromListed,
+  setAnew,
+  sameClass,
+  takeAgain,
+  fromMark,
+  fromFreed,
+  fromUsable,
+  fromUnused,
+  planAsk,
+}
 use Rattle.books.specs.Lists.{Links, links}
 use Rattle.books.specs.Starts.{Start, start}
 use Rattle.books.specs.Tests.{both, either, after}
@@ -46,14 +84,16 @@ pub record Listed (A P s c : ℕ) (b m : List ℕ) (p f : ℕ) : Type 0 where
   pub class : pool A b class p ≡ c
   pub count : pool A b count p ≤ 505
 
--- the numbers of a path that takes a new pool, for class c, of blocks of size s, in books b and map m of A arenas of P pools
+-- the numbers of a path that takes a new pool, for class c, of blocks of size s, in books b and map m of A arenas of
+-- P pools
 abbrev pub FitsNew : ℕ → ℕ → ℕ → ℕ → List ℕ → List ℕ → AskPlan → Type 0
 FitsNew A P s c b m NoRoom = Unit
 FitsNew A P s c b m Damaged = Unit
 FitsNew A P s c b m (Follow p f l) = ⊥
 FitsNew A P s c b m (Ready p f n) = ⊥
 FitsNew A P s c b m (Last p f) = ⊥
-FitsNew A P s c b m (Again a p f l) = FitsSource A P b (Freed a) p × Spare A P s m p f × (pool A b class p ≡ c) × (l ≤ 4096)
+FitsNew A P s c b m (Again a p f l) =
+    FitsSource A P b (Freed a) p × Spare A P s m p f × (pool A b class p ≡ c) × (l ≤ 4096)
 FitsNew A P s c b m (Anew src p) = FitsSource A P b src p × Spare A P s m p 48
 
 -- and of any path
@@ -67,7 +107,8 @@ FitsAsk A P s c b m (Again a p f l) = FitsNew A P s c b m (Again a p f l)
 FitsAsk A P s c b m (Anew src p) = FitsNew A P s c b m (Anew src p)
 
 -- what holds after a list's head is followed, or is none
-front : (F : AskPlan → Type 0) (l most : ℕ) (f : ℕ → AskPlan) (otherwise : AskPlan) → F Damaged → ((n : ℕ) → n < most → F (f n))
+front : (F : AskPlan → Type 0) (l most : ℕ) (f : ℕ → AskPlan) (otherwise : AskPlan) → F Damaged
+    → ((n : ℕ) → n < most → F (f n))
     → (l ≡ 0 → F otherwise) → F (frontOf l most f otherwise)
 front F l most f otherwise d k o =
     either F (none? l) otherwise (leb l most ⇛ f (linked l)) (λ e. o (eqb-true l 0 e))

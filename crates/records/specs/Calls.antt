@@ -1,4 +1,5 @@
--- What a replay needs to know of ask, give back and resize, whatever the heap holds: the number fits a byte, and A and P stay in the books.
+-- What a replay needs to know of ask, give back and resize, whatever the heap holds: the number fits a byte, and A
+-- and P stay in the books.
 -- Assumes nothing.
 use mathlib.Core.Path.{_≡_, refl, _∙_}
 use mathlib.Core.Bool.{Bool, true, false, not, _&&_}
@@ -53,7 +54,8 @@ module _ {b b′ : List ℕ} where
   join-kept base head n u v k = record { word = λ j l. join-keeps base head _ n b′ j (omega arith) ∙ k .word j l }
 
 -- a change that is made only where a test holds
-only-kept : {b : List ℕ} (t : Bool) (f : Heap → Heap) (h : Heap) → Kept b (h .books) → Kept b (f h .books) → Kept b (only t f h .books)
+only-kept : {b : List ℕ} (t : Bool) (f : Heap → Heap) (h : Heap) → Kept b (h .books) → Kept b (f h .books)
+    → Kept b (only t f h .books)
 only-kept true f h k l = l
 only-kept false f h k l = k
 
@@ -71,7 +73,8 @@ module _ (al A P c : ℕ) {b : List ℕ} where
   spend-kept : (a : ℕ) (h : Heap) → Kept b (h .books) → Kept b (spend al A P c a h .books)
   spend-kept a h k =
       let less : Kept b (fall (arenaWord freePools a) h .books) = put-kept _ _ (omega arith) k in
-      only-kept (none? (arena (fall (arenaWord freePools a) h .books) freePools a)) (arenaLeaves usableHead a) (fall (arenaWord freePools a) h) less (leave-kept arenaLinks usableHead a (omega arith) (omega arith) less)
+      only-kept (none? (arena (fall (arenaWord freePools a) h .books) freePools a)) (arenaLeaves usableHead a)
+      (fall (arenaWord freePools a) h) less (leave-kept arenaLinks usableHead a (omega arith) (omega arith) less)
 
   alone-kept : (p : ℕ) (h : Heap) → Kept b (h .books) → Kept b (alone al A P c p h .books)
   alone-kept p h k =
@@ -151,7 +154,8 @@ before-small : (j k : ℕ) → j ≤ 7 → k ≤ 7 → (j before k) ≤ 7
 before-small zero k u v = v
 before-small (suc j) k u v = u
 
-order-small : (shape size offset room : ℕ) → shape ≤ 7 → size ≤ 7 → offset ≤ 7 → room ≤ 7 → inOrder shape size offset room ≤ 7
+order-small : (shape size offset room : ℕ) → shape ≤ 7 → size ≤ 7 → offset ≤ 7 → room ≤ 7
+    → inOrder shape size offset room ≤ 7
 order-small shape size offset room t u v w =
     before-small shape _ t (before-small size _ u (before-small offset room v w))
 
@@ -181,7 +185,8 @@ pub record Fair (b : List ℕ) (x : Outcome) : Type 0 where
   pub kept : Kept b (x .heap .books)
 
 -- a call that a test refuses changes nothing
-tested : {b : List ℕ} (n : ℕ) (h : Heap) (x : Outcome) → n ≤ 7 → Kept b (h .books) → Fair b x → Fair b (passing n (λ k. refused k h) x)
+tested : {b : List ℕ} (n : ℕ) (h : Heap) (x : Outcome) → n ≤ 7 → Kept b (h .books) → Fair b x
+    → Fair b (passing n (λ k. refused k h) x)
 tested zero h x u k t = t
 tested (suc n) h x u k t = record { small = u; kept = k }
 
@@ -220,7 +225,8 @@ module _ (al A P : ℕ) {b : List ℕ} where
   unfolding resizeStep
   resize-step h o n k = go (keeps (sizeAt al A (h .books) o) n)
     where
-      go : (t : Bool) → Fair b (if t then done o h else moved al A P o (min n (sizeAt al A (h .books) o)) (askStep al A P h n))
+      go : (t : Bool)
+          → Fair b (if t then done o h else moved al A P o (min n (sizeAt al A (h .books) o)) (askStep al A P h n))
       go true = record { small = omega arith; kept = k }
       go false = move o _ (askStep al A P h n) (ask-step h n k)
 

@@ -15,7 +15,21 @@ use Rattle.rules.specs.Say.{if_then_else_}
 use Rattle.rules.specs.Books.{Heap}
 use Rattle.rules.specs.Outcome.{Outcome, passing}
 use Rattle.rules.specs.Numbers.{inOrder, shapeNumber, roomNumber, format, ask, giveBack, resize, blockSize}
-use Rattle.rules.specs.Replay.{opOf, sizeIn, offsetIn, wellMade, Replied, replied, refusedRecord, called, calledFor, replayCall, replayRecord, replayRecords, replay}
+use Rattle.rules.specs.Replay.{
+  opOf,
+  sizeIn,
+  offsetIn,
+  wellMade,
+  Replied,
+  replied,
+  refusedRecord,
+  called,
+  calledFor,
+  replayCall,
+  replayRecord,
+  replayRecords,
+  replay,
+}
 use Rattle.books.specs.Tests.{either}
 use Rattle.loops.specs.Sets.{sets-append, sets-front}
 use Rattle.books.specs.Passing.{stopped, passed}
@@ -39,15 +53,18 @@ pub record Piece : Type 0 where
 abbrev pub pieceOf : ℕ → ℕ → List ℕ → Heap → Piece
 pieceOf k n output h = record { answer = record { number = k; written = n }; output = output; heap = h }
 
--- 1 or 2 for a heap that is none, 7 for an output that is too small for the replies, and nothing changes; else every reply stands at the front of the output
+-- 1 or 2 for a heap that is none, 7 for an output that is too small for the replies, and nothing changes; else every
+-- reply stands at the front of the output
 unfoldable pub replayPiece : Heap → List ℕ → List ℕ → Piece
 replayPiece h input output =
     let replies = replayRecords 8 (length input / 16) h input in
     passing (inOrder (shapeNumber h) 0 0 (roomNumber (length replies) (length output))) (λ k. pieceOf k 0 output h)
     (pieceOf 0 (length replies) (replies ++ drop (length replies) output) (heapAfter (length input / 16) h input))
 
--- it determines what is answered: any two outcomes that it allows, of one heap, input and output, are equal in every byte and word
-pub replay-one : (h : Heap) (input output : List ℕ) (x y : Piece) → x ≡ replayPiece h input output → y ≡ replayPiece h input output → x ≡ y
+-- it determines what is answered: any two outcomes that it allows, of one heap, input and output, are equal in every
+-- byte and word
+pub replay-one : (h : Heap) (input output : List ℕ) (x y : Piece) → x ≡ replayPiece h input output
+    → y ≡ replayPiece h input output → x ≡ y
 replay-one h input output x y e f = e ∙ sym f
 
 -- ---- one record
@@ -63,7 +80,8 @@ module _ {b : List ℕ} where
   call-sent : (r : List ℕ) (x : Outcome) (size : ℕ) → Fair b x → Sent b (called 8 r x size)
   call-sent r x size f = go (x .answer .number)
     where
-      go : (k : ℕ) → Sent b (passing k (λ j. refusedRecord 8 r j (x .heap)) (replied 8 (opOf r) 0 (x .answer .offset) size (x .heap)))
+      go : (k : ℕ) → Sent b (passing k (λ j. refusedRecord 8 r j (x .heap))
+          (replied 8 (opOf r) 0 (x .answer .offset) size (x .heap)))
       go zero = record { long = refl; kept = f .kept }
       go (suc k) = record { long = refl; kept = f .kept }
 
@@ -131,7 +149,8 @@ turns-long (suc n) h bytes =
 
 -- they are the replies of the rules, and the heap is the one after the whole records
 turns-are : (k : ℕ) (h : Heap) (bytes : List ℕ) → length bytes / 16 ≡ k
-    → turns (recordsIn (length bytes)) h bytes ≡ record { reply = replayRecords 8 k h bytes; heap = heapAfter k h bytes }
+    → turns (recordsIn (length bytes)) h bytes
+    ≡ record { reply = replayRecords 8 k h bytes; heap = heapAfter k h bytes }
 unfolding turns replayRecords heapAfter
 turns-are zero h [] e = refl
 turns-are zero h (x ∷ xs) e =
@@ -142,16 +161,19 @@ turns-are zero h (x ∷ xs) e =
     ap (λ (n : ℕ). turns n h bytes) one
     ∙ ap (λ (r : List ℕ). record { reply = replayRecord 8 h r .reply ++ []; heap = replayRecord 8 h r .heap }) same
     ∙ ap₂ (λ (l : List ℕ) (g : Heap). record { reply = l; heap = g })
-    (append-nil (replayRecord 8 h bytes .reply) ∙ passed-over (eqb (length bytes) 0) [] (replayRecord 8 h bytes .reply) (ne-eqb (length bytes) 0 (λ z. omega arith)))
+    (append-nil (replayRecord 8 h bytes .reply)
+    ∙ passed-over (eqb (length bytes) 0) [] (replayRecord 8 h bytes .reply) (ne-eqb (length bytes) 0 (λ z. omega arith)))
     still
 turns-are (suc k) h bytes e =
     let r = replayRecord 8 h (take 16 bytes) in
     let more : recordsIn (length bytes) ≡ suc (recordsIn (length (drop 16 bytes))) = omega (arith, length-drop 16 bytes) in
     ap (λ (n : ℕ). turns n h bytes) more
-    ∙ ap (λ (s : Replied). record { reply = r .reply ++ s .reply; heap = s .heap }) (turns-are k (r .heap) (drop 16 bytes) (omega (arith, length-drop 16 bytes)))
+    ∙ ap (λ (s : Replied). record { reply = r .reply ++ s .reply; heap = s .heap })
+    (turns-are k (r .heap) (drop 16 bytes) (omega (arith, length-drop 16 bytes)))
 
 pub replies-are : (h : Heap) (bytes : List ℕ)
-    → turns (recordsIn (length bytes)) h bytes ≡ record { reply = replayRecords 8 (length bytes / 16) h bytes; heap = heapAfter (length bytes / 16) h bytes }
+    → turns (recordsIn (length bytes)) h bytes
+    ≡ record { reply = replayRecords 8 (length bytes / 16) h bytes; heap = heapAfter (length bytes / 16) h bytes }
 replies-are h bytes = turns-are (length bytes / 16) h bytes refl
 
 -- ---- the loop over n records: at turn i the heap is h, the output is out, and the replies from record i on are left
@@ -171,7 +193,8 @@ module _ {n : ℕ} {h₀ : Heap} {input out₀ : List ℕ} where
       }
 
   pub turn : {h h′ : Heap} {out out′ : List ℕ} (i : ℕ) → i < n → Going n h₀ input out₀ h out i
-      → out′ ≡ sets out (16 * i) (replayRecord 8 h (recordAt i input) .reply) → h′ ≡ replayRecord 8 h (recordAt i input) .heap
+      → out′ ≡ sets out (16 * i) (replayRecord 8 h (recordAt i input) .reply)
+      → h′ ≡ replayRecord 8 h (recordAt i input) .heap
       → Going n h₀ input out₀ h′ out′ (i + 1)
   unfolding turns
   turn {h} {h′} {out} {out′} i l g e f =
@@ -179,7 +202,8 @@ module _ {n : ℕ} {h₀ : Heap} {input out₀ : List ℕ} where
       let k = n - (i + 1) in
       let count : n - i ≡ suc k = omega arith in
       let there : 16 * i + length (r .reply) ≡ 16 * (i + 1) = omega (arith, record-sent h (recordAt i input) .long) in
-      let rest : drop (16 * (i + 1)) input ≡ drop 16 (drop (16 * i) input) = (let s : 16 * (i + 1) ≡ 16 * i + 16 = omega arith in ap (λ (j : ℕ). drop j input) s) ∙ sym (drop-drop 16 (16 * i) input) in
+      let rest : drop (16 * (i + 1)) input ≡ drop 16 (drop (16 * i) input) =
+      (let s : 16 * (i + 1) ≡ 16 * i + 16 = omega arith in ap (λ (j : ℕ). drop j input) s) ∙ sym (drop-drop 16 (16 * i) input) in
       let left = turns k (r .heap) (drop 16 (drop (16 * i) input)) in
       record {
         same =
@@ -215,7 +239,8 @@ module _ (h : Heap) (input output : List ℕ) where
       sym (ap (λ (x : Replied). length (x .reply)) (replies-are h input)) ∙ turns-long (recordsIn (length input)) h input
 
   -- a heap of another shape
-  pub no-heap : (number : ℕ) → number ≡ shapeNumber h → (number ≡ 0 → ⊥) → pieceOf number 0 output h ≡ replayPiece h input output
+  pub no-heap : (number : ℕ) → number ≡ shapeNumber h → (number ≡ 0 → ⊥)
+      → pieceOf number 0 output h ≡ replayPiece h input output
   unfolding replayPiece
   no-heap number e n =
       let first : inOrder (shapeNumber h) 0 0 (roomNumber (length replies) (length output)) ≡ shapeNumber h =
@@ -243,7 +268,8 @@ module _ (h : Heap) (input output : List ℕ) where
 
       -- the loop is done
       pub all-done : (out : List ℕ) (g : Heap)
-          → out ≡ sets output 0 (turns (recordsIn (length input)) h input .reply) → g ≡ turns (recordsIn (length input)) h input .heap
+          → out ≡ sets output 0 (turns (recordsIn (length input)) h input .reply)
+          → g ≡ turns (recordsIn (length input)) h input .heap
           → pieceOf 0 (16 * recordsIn (length input)) out g ≡ replayPiece h input output
       all-done out g f t =
           let stands : out ≡ replies ++ drop (length replies) output =
@@ -254,7 +280,8 @@ module _ (h : Heap) (input output : List ℕ) where
           ∙ sym piece-done
 
 -- the part of the bytes l where record i stands
-pub part-is : (l : List ℕ) (i to : ℕ) → to ≡ 16 * i + min 16 (length l - 16 * i) → take (to - 16 * i) (drop (16 * i) l) ≡ recordAt i l
+pub part-is : (l : List ℕ) (i to : ℕ) → to ≡ 16 * i + min 16 (length l - 16 * i)
+    → take (to - 16 * i) (drop (16 * i) l) ≡ recordAt i l
 part-is l i to e =
     let n : to - 16 * i ≡ min 16 (length (drop (16 * i) l)) = omega (arith, ap (min 16) (length-drop (16 * i) l)) in
     ap (λ (k : ℕ). take k (drop (16 * i) l)) n ∙ up-to 16 (drop (16 * i) l) (decLe (length (drop (16 * i) l)) 16)
@@ -264,7 +291,8 @@ part-is l i to e =
     up-to n xs (no q) = let r : n ≤ length xs = omega arith in ap (λ (k : ℕ). take k xs) (min-eq-left r)
 
 -- ---- a piece of one record, whole or short, gets that record's reply
-pub one-record : (h : Heap) (r : List ℕ) → 0 < length r → length r ≤ 16 → replayRecords 8 (length r / 16) h r ≡ replayRecord 8 h r .reply
+pub one-record : (h : Heap) (r : List ℕ) → 0 < length r → length r ≤ 16
+    → replayRecords 8 (length r / 16) h r ≡ replayRecord 8 h r .reply
 unfolding turns
 one-record h r low high =
     let one : recordsIn (length r) ≡ 1 = omega arith in
@@ -317,7 +345,8 @@ pub replay-in-pieces : (h : Heap) (ps : List (List ℕ)) (rest : List ℕ) → W
 unfolding replay repliesTo
 replay-in-pieces h ps rest w = from (format h 1 16 .heap) ps w
   where
-    from : (g : Heap) (qs : List (List ℕ)) → WholeRecords qs → repliesTo g qs rest ≡ replayRecords 8 (length (joined qs rest) / 16) g (joined qs rest)
+    from : (g : Heap) (qs : List (List ℕ)) → WholeRecords qs
+        → repliesTo g qs rest ≡ replayRecords 8 (length (joined qs rest) / 16) g (joined qs rest)
     from g [] w = refl
     from g (q ∷ qs) w =
         let k = length q / 16 in

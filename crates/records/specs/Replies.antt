@@ -105,7 +105,8 @@ low-four v =
     sym (ap₂ (λ (x y : ℕ). x ∷ y ∷ (v / 65536 % 256) ∷ (v / 16777216 % 256) ∷ []) a b ∙ ap₂ (λ (x y : ℕ). (w % 256) ∷ (w / 256 % 256) ∷ x ∷ y ∷ []) c d)
 
 -- the reply to a call, and the heap after it, are what the rules say
-pub called-is : (r : List ℕ) (x : Outcome) (size s live : ℕ) → s ≡ size % 4294967296 → live ≡ liveIn (x .heap .books) (x .heap .map)
+pub called-is : (r : List ℕ) (x : Outcome) (size s live : ℕ) → s ≡ size % 4294967296
+    → live ≡ liveIn (x .heap .books) (x .heap .map)
     → _≡_ {A = Replied} (record { reply = bytesOf (replyTo r (x .answer) s live); heap = x .heap }) (called 8 r x size)
 called-is r x size s live e f = rw (e, f) (go (x .answer .number))
   where
@@ -114,7 +115,11 @@ called-is r x size s live e f = rw (e, f) (go (x .answer .number))
 
     go : (k : ℕ)
         → _≡_ {A = Replied}
-        (record { reply = bytesOf (passing k (λ j. refusalOf r j n) (replyOf (opOf r) 0 (x .answer .offset) (size % 4294967296) n)); heap = x .heap })
+        (record {
+          reply = bytesOf (passing k (λ j. refusalOf r j n)
+              (replyOf (opOf r) 0 (x .answer .offset) (size % 4294967296) n));
+          heap = x .heap;
+        })
         (passing k (λ j. refusedRecord 8 r j (x .heap)) (replied 8 (opOf r) 0 (x .answer .offset) size (x .heap)))
     go zero =
         ap (λ (l : List ℕ). record { reply = opOf r ∷ 0 ∷ 0 ∷ 0 ∷ (fourBytes (x .answer .offset) ++ (l ++ fourBytes n)); heap = x .heap }) (low-four size)
@@ -139,7 +144,8 @@ put-four l i v =
 
 -- op, number and two zeros, then three numbers of four bytes
 pub put-bytes : (l : List ℕ) (i op number offset size live : ℕ)
-    → putLink (i + 12) live (putLink (i + 8) size (putLink (i + 4) offset (put (i + 3) 0 (put (i + 2) 0 (put (i + 1) number (put i op l))))))
+    → putLink (i + 12) live (putLink (i + 8) size
+    (putLink (i + 4) offset (put (i + 3) 0 (put (i + 2) 0 (put (i + 1) number (put i op l))))))
     ≡ sets l i (replyBytes op number offset size live)
 put-bytes l i op number offset size live =
     let a : i + 1 ≡ suc i = omega arith in

@@ -52,21 +52,25 @@ answered m b k input output r output′ g w l e =
     }
 
 -- the replies lie in the output
-pub inside : {h : Heap} {input output : List ℕ} {g : Heap} {output′ : List ℕ} {n : ℕ} → Answered h input output g output′ n → n ≤ length output′
+pub inside : {h : Heap} {input output : List ℕ} {g : Heap} {output′ : List ℕ} {n : ℕ}
+    → Answered h input output g output′ n → n ≤ length output′
 inside {h} {input} {output} {n = n} a =
     omega (arith, a .count, ap length (a .stands), length-append (replayRecords 8 (length input / 16) h input) (drop n output))
 
 -- there is room for the reply to a record that is not whole
-pub short-fits : (n : ℕ) (l output : List ℕ) → n < 16 → length output ≡ 65536 → 16 * recordsIn (length (take n l)) ≤ length output
+pub short-fits : (n : ℕ) (l output : List ℕ) → n < 16 → length output ≡ 65536
+    → 16 * recordsIn (length (take n l)) ≤ length output
 short-fits n l output h e = omega (arith, length-take n l, min-le-left n (length l))
 
 -- ---- the program's own format is done, and leaves a heap of the right shape
-module _ (m b k : List ℕ) (e : length m ≡ memoryLength 1 16) (f : length b ≡ booksLength 1 16) (g : length k ≡ mapLength 1 16) where
+module _ (m b k : List ℕ) (e : length m ≡ memoryLength 1 16)
+    (f : length b ≡ booksLength 1 16) (g : length k ≡ mapLength 1 16) where
   fits : fitNumber (heapOf m b k) 1 16 ≡ 0
   unfolding fitNumber inRange exact
   fits = rw (e, f, g)
 
-  pub formatted : (a : Answer) (b′ k′ : List ℕ) → outcome a (heapOf m b′ k′) ≡ format (heapOf m b k) 1 16 → Whole m b′ k′
+  pub formatted : (a : Answer) (b′ k′ : List ℕ) → outcome a (heapOf m b′ k′) ≡ format (heapOf m b k) 1 16
+      → Whole m b′ k′
   unfolding format freshBooks
   formatted a b′ k′ t =
       let done = t ∙ passed (λ n. refused n (heapOf m b k)) _ (fitNumber (heapOf m b k) 1 16) fits in

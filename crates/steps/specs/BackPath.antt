@@ -20,7 +20,8 @@ use Rattle.books.specs.Records.{poolAt, mayGive, linksLead}
 use Rattle.steps.specs.Backs.{gave, mayEmpty, maySettle, released, settled}
 
 -- a give-back whose class and path are known, and so what it leaves
-pub step-is : (al A P c : ℕ) (h : Heap) (o : ℕ) (x : Outcome) (q : BackPlan) → c ≡ classAt A (h .books) o → planBack al A P (h .books) c (o / 4096) ≡ q
+pub step-is : (al A P c : ℕ) (h : Heap) (o : ℕ) (x : Outcome) (q : BackPlan) → c ≡ classAt A (h .books) o
+    → planBack al A P (h .books) c (o / 4096) ≡ q
     → x ≡ givenBack al A P c h o q → x ≡ backStep al A P h o
 unfolding backStep
 step-is al A P c h o x q e f g =
@@ -42,26 +43,31 @@ module _ (al A P : ℕ) (b : List ℕ) (c p : ℕ) (q : Pool) (loaded : q ≡ po
   module _ (s free : ℕ) (size : s ≡ sizeOf al c) (block : free ≡ q .freeblock) where
     plan-is : planBack al A P b c p ≡ ((none? (q .freeblock) || isStart s free)
         ⇛ mayGive q
-        ⇛ (if none? (q .freeblock) then mayJoin (A * P) (classHead c) b ⇛ Joins else if eqb (q .count) 1 then emptying al A P b c p else Stays))
+        ⇛ (if none? (q .freeblock) then mayJoin (A * P) (classHead c) b ⇛ Joins
+        else if eqb (q .count) 1 then emptying al A P b c p else Stays))
     unfolding planBack
     plan-is = rw (block, loaded, size)
 
     pub no-start : (q .freeblock ≡ 0 → ⊥) → isStart s free ≡ false → planBack al A P b c p ≡ Damaged
     no-start f u = rw (plan-is, ne-eqb (q .freeblock) 0 f, u)
 
-    pub falls-empty : mayGive q ≡ true → (q .freeblock ≡ 0 → ⊥) → isStart s free ≡ true → q .count ≡ 1 → planBack al A P b c p ≡ emptying al A P b c p
+    pub falls-empty : mayGive q ≡ true → (q .freeblock ≡ 0 → ⊥) → isStart s free ≡ true → q .count ≡ 1
+        → planBack al A P b c p ≡ emptying al A P b c p
     falls-empty t f u e = rw (plan-is, t, ne-eqb (q .freeblock) 0 f, u, eq-eqb (q .count) 1 e)
 
-    pub stays : mayGive q ≡ true → (q .freeblock ≡ 0 → ⊥) → isStart s free ≡ true → (q .count ≡ 1 → ⊥) → planBack al A P b c p ≡ Stays
+    pub stays : mayGive q ≡ true → (q .freeblock ≡ 0 → ⊥) → isStart s free ≡ true → (q .count ≡ 1 → ⊥)
+        → planBack al A P b c p ≡ Stays
     stays t f u e = rw (plan-is, t, ne-eqb (q .freeblock) 0 f, u, ne-eqb (q .count) 1 e)
 
   pub miscounted : mayGive q ≡ false → planBack al A P b c p ≡ Damaged
   miscounted t = rw (plan-is (sizeOf al c) (q .freeblock) refl refl, t) (before-broken (none? (q .freeblock) || isStart (sizeOf al c) (q .freeblock)))
 
-  pub listless : mayGive q ≡ true → q .freeblock ≡ 0 → mayJoin (A * P) (classHead c) b ≡ false → planBack al A P b c p ≡ Damaged
+  pub listless : mayGive q ≡ true → q .freeblock ≡ 0 → mayJoin (A * P) (classHead c) b ≡ false
+      → planBack al A P b c p ≡ Damaged
   listless t z u = rw (plan-is (sizeOf al c) (q .freeblock) refl refl, t, eq-eqb (q .freeblock) 0 z, u)
 
-  pub joins : mayGive q ≡ true → q .freeblock ≡ 0 → mayJoin (A * P) (classHead c) b ≡ true → planBack al A P b c p ≡ Joins
+  pub joins : mayGive q ≡ true → q .freeblock ≡ 0 → mayJoin (A * P) (classHead c) b ≡ true
+      → planBack al A P b c p ≡ Joins
   joins t z u = rw (plan-is (sizeOf al c) (q .freeblock) refl refl, t, eq-eqb (q .freeblock) 0 z, u)
 
 -- ---- and of the last block of its pool, whose arena a has so many free pools
@@ -72,7 +78,8 @@ settling P free = if eqb (free + 1) P then Releases else if eqb (free + 1) 1 the
 -- the rules of a path, made one test
 one-test : (x y z l u j all first : Bool)
     → (x ⇛ y ⇛ z ⇛ (if all then l ⇛ u ⇛ Releases else if first then j ⇛ Returns else Empties))
-    ≡ (((x && y && z) && (if all then l && u else if first then j else true)) ⇛ (if all then Releases else if first then Returns else Empties))
+    ≡ (((x && y && z) && (if all then l && u else if first then j else true))
+    ⇛ (if all then Releases else if first then Returns else Empties))
 one-test true true true true u j true first = refl
 one-test true true true false u j true first = refl
 one-test true true true l u j false true = refl
@@ -81,7 +88,8 @@ one-test true true false l u j all first = refl
 one-test true false z l u j all first = refl
 one-test false y z l u j all first = refl
 
-module _ (al A P : ℕ) (b : List ℕ) (c p a free : ℕ) (q : Pool) (loaded : q ≡ poolAt A b p) (home : a ≡ p / P) (so-many : free ≡ arena b freePools a) where
+module _ (al A P : ℕ) (b : List ℕ) (c p a free : ℕ) (q : Pool) (loaded : q ≡ poolAt A b p)
+    (home : a ≡ p / P) (so-many : free ≡ arena b freePools a) where
   emptying-is : emptying al A P b c p ≡ (mayEmpty A P a q free b && maySettle A P a free b ⇛ settling P free)
   unfolding emptying
   emptying-is =
@@ -95,15 +103,19 @@ module _ (al A P : ℕ) (b : List ℕ) (c p a free : ℕ) (q : Pool) (loaded : q
   pub settles : mayEmpty A P a q free b && maySettle A P a free b ≡ true → emptying al A P b c p ≡ settling P free
   settles t = rw (emptying-is, t)
 
--- what a give-back leaves that empties its pool: the block is taken back, the pool goes to its arena, and the arena is settled
+-- what a give-back leaves that empties its pool: the block is taken back, the pool goes to its arena, and the arena
+-- is settled
 pub emptied-settled : (al A P c : ℕ) (h : Heap) (o free : ℕ)
-    → givenBack al A P c h o (settling P free) ≡ outcome (answerOf 0 o) (h ▷ takeBack al A P c (o / 4096) (o % 4096) ▷ empty al A P c (o / 4096) (o % 4096) ▷ onBooks (settled P (o / 4096 / P) free))
+    → givenBack al A P c h o (settling P free)
+    ≡ outcome (answerOf 0 o) (h ▷ takeBack al A P c (o / 4096) (o % 4096) ▷ empty al A P c (o / 4096) (o % 4096)
+    ▷ onBooks (settled P (o / 4096 / P) free))
 unfolding backAnswer afterBack
 emptied-settled al A P c h o free = go (eqb (free + 1) P) (eqb (free + 1) 1)
   where
     go : (all first : Bool) → givenBack al A P c h o (if all then Releases else if first then Returns else Empties)
         ≡ outcome (answerOf 0 o) (h ▷ takeBack al A P c (o / 4096) (o % 4096) ▷ empty al A P c (o / 4096) (o % 4096)
-        ▷ onBooks (λ b. if all then released (o / 4096 / P) b else if first then join arenaLinks usableHead (o / 4096 / P) b else b))
+        ▷ onBooks (λ b. if all then released (o / 4096 / P) b
+        else if first then join arenaLinks usableHead (o / 4096 / P) b else b))
     go true first = refl
     go false true = refl
     go false false = refl

@@ -12,7 +12,24 @@ use lib.ListN.{length, length-set, replicate}
 use lib.Seq.{getD-set-other, sets, length-sets}
 use Rattle.rules.specs.declared.Answer.{Answer}
 use Rattle.rules.specs.Say.{if_then_else_, _▷_}
-use Rattle.rules.specs.Books.{Heap, at, put, usableHead, unusedHead, classHead, freePools, freedHead, arenaWord, arena, count, freeblock, poolNext, poolPrevious, poolWord, pool}
+use Rattle.rules.specs.Books.{
+  Heap,
+  at,
+  put,
+  usableHead,
+  unusedHead,
+  classHead,
+  freePools,
+  freedHead,
+  arenaWord,
+  arena,
+  count,
+  freeblock,
+  poolNext,
+  poolPrevious,
+  poolWord,
+  pool,
+}
 use Rattle.rules.specs.Blocks.{sizeOf, blockNo, sizeAt}
 use Rattle.rules.specs.Lists.{nextAt, previousAt, leave, join, mayLeave, mayJoin, arenaLinks, poolLinks}
 use Rattle.rules.specs.GiveBack.{takeBack, empty, release}
@@ -49,7 +66,8 @@ pub record Counted (A P p f k : ℕ) (q : Pool) (b : List ℕ) : Type 0 where
   pub some : 1 ≤ q .count
 
 -- a live block is one if the test of the count has passed
-pub counted : (A P k o : ℕ) (q : Pool) (b m : List ℕ) → q ≡ poolAt A b (o / 4096) → LiveBlock 8 A P b m o → k ≡ blockNo (sizeAt 8 A b o) (o % 4096)
+pub counted : (A P k o : ℕ) (q : Pool) (b m : List ℕ) → q ≡ poolAt A b (o / 4096) → LiveBlock 8 A P b m o
+    → k ≡ blockNo (sizeAt 8 A b o) (o % 4096)
     → mayGive q ≡ true → Counted A P (o / 4096) (o % 4096) k q b
 counted A P k o q b m loaded live number t =
     record {
@@ -73,7 +91,8 @@ pub record FitsEmpty (A P p : ℕ) (q : Pool) (b : List ℕ) : Type 0 where
   pub head : arena b freedHead (p / P) ≤ A * P
   pub free : arena b freePools (p / P) ≤ P - 1
 
-pub fits-empty : (A P a p free : ℕ) (q : Pool) (b : List ℕ) → q ≡ poolAt A b p → a ≡ p / P → free ≡ arena b freePools a → mayEmpty A P a q free b ≡ true
+pub fits-empty : (A P a p free : ℕ) (q : Pool) (b : List ℕ) → q ≡ poolAt A b p → a ≡ p / P → free ≡ arena b freePools a
+    → mayEmpty A P a q free b ≡ true
     → FitsEmpty A P p q b
 fits-empty A P a p free q b loaded home so-many e =
     let t = both (linksLead q (A * P) && leb (arena b freedHead a) (A * P)) (leb free (P - 1)) e in
@@ -105,7 +124,8 @@ emptied A P c p b = empty 8 A P c p 0 (heapOf [] b []) .books
 abbrev pub released : ℕ → List ℕ → List ℕ
 released a b = release 8 0 0 0 0 0 a (heapOf [] b []) .books
 
--- ---- arena a, which had so many free pools, has one more: all are free and it is released, or it had none and is usable again, or neither
+-- ---- arena a, which had so many free pools, has one more: all are free and it is released, or it had none and is
+-- usable again, or neither
 -- what the rules ask of it
 abbrev pub maySettle : ℕ → ℕ → ℕ → ℕ → List ℕ → Bool
 maySettle A P a free b =
@@ -115,7 +135,8 @@ maySettle A P a free b =
 
 -- its part of the writes
 abbrev pub settled : ℕ → ℕ → ℕ → List ℕ → List ℕ
-settled P a free b = if eqb (free + 1) P then released a b else if eqb (free + 1) 1 then join arenaLinks usableHead a b else b
+settled P a free b =
+    if eqb (free + 1) P then released a b else if eqb (free + 1) 1 then join arenaLinks usableHead a b else b
 
 -- ---- the pool's freeblock and count are all that the block's return writes
 module _ (A p f : ℕ) (b : List ℕ) where
@@ -132,7 +153,8 @@ before-links base j n h = (omega arith, omega arith)
 
 module _ (A P c p : ℕ) (b : List ℕ) where
   -- word j stands before the pool records and is neither the class head nor the arena's freed-pool head or free pools
-  pub emptied-keeps : (j : ℕ) → j < 72 + 8 * A → j ≢ classHead c → j ≢ arenaWord freedHead (p / P) → j ≢ arenaWord freePools (p / P)
+  pub emptied-keeps : (j : ℕ) → j < 72 + 8 * A → j ≢ classHead c → j ≢ arenaWord freedHead (p / P)
+      → j ≢ arenaWord freePools (p / P)
       → at (emptied A P c p b) j ≡ at b j
   emptied-keeps j h k l m =
       let base = poolLinks A in
@@ -149,14 +171,18 @@ module _ (A P c p : ℕ) (b : List ℕ) where
 
 -- ---- what the code reads before its writes, the rules read after some of them
 pub freed-reads : (A a p v w : ℕ) (b : List ℕ) → a < A
-    → at (b ▷ put (poolWord A poolNext p) v ▷ put (poolWord A poolPrevious p) 0 ▷ put (arenaWord freedHead a) w) (arenaWord freePools a) ≡ arena b freePools a
+    → at (b ▷ put (poolWord A poolNext p) v ▷ put (poolWord A poolPrevious p) 0
+    ▷ put (arenaWord freedHead a) w) (arenaWord freePools a) ≡ arena b freePools a
 freed-reads A a p v w b l =
-    let d : (arenaWord freePools a ≢ arenaWord freedHead a) × (arenaWord freePools a ≢ poolWord A poolPrevious p) × (arenaWord freePools a ≢ poolWord A poolNext p) = (omega arith, omega arith, omega arith) in
+    let d : (arenaWord freePools a ≢ arenaWord freedHead a)
+    × (arenaWord freePools a ≢ poolWord A poolPrevious p)
+    × (arenaWord freePools a ≢ poolWord A poolNext p) = (omega arith, omega arith, omega arith) in
     simp (getD-set-other, d .0, d .1, d .2)
 
 -- leaving the class list keeps the books' length and the arena's free pools
 pub left-keeps : (A c p a : ℕ) (b : List ℕ) → a < A → classHead c < 72
-    → (length (leave (poolLinks A) (classHead c) p b) ≡ length b) × (arena (leave (poolLinks A) (classHead c) p b) freePools a ≡ arena b freePools a)
+    → (length (leave (poolLinks A) (classHead c) p b) ≡ length b)
+    × (arena (leave (poolLinks A) (classHead c) p b) freePools a ≡ arena b freePools a)
 left-keeps A c p a b l h = (length-leaveBy (poolLinks A) (classHead c) _ _ p b, pool-leave-keeps A (classHead c) _ _ p b freePools a h l (omega arith))
 
 -- the books in the middle of a release: the arena has left the usable list, and its record is 0
@@ -164,15 +190,21 @@ abbrev pub zeroed : ℕ → List ℕ → List ℕ
 zeroed a b = sets (leave arenaLinks usableHead a b) (arenaWord 0 a) (replicate 8 0)
 
 -- they keep their length and the unused head
-pub zeroed-keeps : (a : ℕ) (b : List ℕ) → (length (zeroed a b) ≡ length b) × (at (zeroed a b) unusedHead ≡ at b unusedHead)
+pub zeroed-keeps : (a : ℕ) (b : List ℕ)
+    → (length (zeroed a b) ≡ length b) × (at (zeroed a b) unusedHead ≡ at b unusedHead)
 zeroed-keeps a b =
     let next = at b (nextAt arenaLinks a) in
     let previous = at b (previousAt arenaLinks a) in
     let before : 3 < arenaLinks = omega arith in (
       length-sets (leave arenaLinks usableHead a b) (arenaWord 0 a) (replicate 8 0) ∙ length-leaveBy arenaLinks usableHead next previous a b,
       sets-other (leave arenaLinks usableHead a b) (arenaWord 0 a) (replicate 8 0) unusedHead (inl (omega arith))
-          ∙ leave-keeps arenaLinks usableHead next previous a b unusedHead
-          (omega arith, before-links arenaLinks 3 (previous - 1) before .0, before-links arenaLinks 3 (next - 1) before .1, before-links arenaLinks 3 a before .0, before-links arenaLinks 3 a before .1),
+          ∙ leave-keeps arenaLinks usableHead next previous a b unusedHead (
+            omega arith,
+            before-links arenaLinks 3 (previous - 1) before .0,
+            before-links arenaLinks 3 (next - 1) before .1,
+            before-links arenaLinks 3 a before .0,
+            before-links arenaLinks 3 a before .1,
+          ),
     )
 
 -- ---- what the next part of a give-back knows of the books that the parts before it leave
@@ -199,7 +231,8 @@ module _ (A P c p f : ℕ) (b : List ℕ) where
   last-head : (j : ℕ) → j < 4 → at last j ≡ at b j
   last-head j h = emptied-keeps A P c p (takenBack A p f b) j (omega arith) (omega arith) (omega arith) (omega arith) ∙ taken-before j (omega arith)
 
-  last-link : c ≤ 63 → (j : ℕ) → j < 72 + 8 * A → 76 ≤ j → j ≢ arenaWord freedHead (p / P) → j ≢ arenaWord freePools (p / P) → at last j ≡ at b j
+  last-link : c ≤ 63 → (j : ℕ) → j < 72 + 8 * A → 76 ≤ j → j ≢ arenaWord freedHead (p / P)
+      → j ≢ arenaWord freePools (p / P) → at last j ≡ at b j
   last-link few j h k d e = emptied-keeps A P c p (takenBack A p f b) j h (omega arith) d e ∙ taken-before j h
 
   -- so what the rules ask of the arena can be tested before the first write

@@ -1,4 +1,5 @@
--- The laws of the give-back and of resize: the path by its tests, the words that each write leaves as they were for the next, and the block that a moving resize copies to.
+-- The laws of the give-back and of resize: the path by its tests, the words that each write leaves as they were for
+-- the next, and the block that a moving resize copies to.
 pub mod Backs
 pub mod BackPath
 pub mod Moves

@@ -1,4 +1,5 @@
--- A resize that moves a block, whatever the books hold: the bytes that it copies and the place where they go do not meet; and a resize by its parts.
+-- A resize that moves a block, whatever the books hold: the bytes that it copies and the place where they go do not
+-- meet; and a resize by its parts.
 -- Assumes nothing.
 use mathlib.Core.Path.{_≡_, refl, sym, ap, ap₂, _∙_}
 use mathlib.Core.List.{List}
@@ -35,7 +36,8 @@ some-pools A (suc P) o l = omega arith
 -- ---- two runs of k bytes, at a and at b
 module _ (a b k : ℕ) where
   -- in two pools
-  pools-apart : (p q f g : ℕ) → a ≡ offsetOf p f → b ≡ offsetOf q g → (p ≡ q → ⊥) → f + k ≤ 4096 → g + k ≤ 4096 → Apart a b k
+  pools-apart : (p q f g : ℕ) → a ≡ offsetOf p f → b ≡ offsetOf q g → (p ≡ q → ⊥) → f + k ≤ 4096 → g + k ≤ 4096
+      → Apart a b k
   pools-apart p q f g d e n v w = go (decLt p q)
     where
       go : Dec (p < q) → Apart a b k
@@ -43,7 +45,8 @@ module _ (a b k : ℕ) where
       go (no l) = inr (omega arith)
 
   -- at two blocks of one size in one pool
-  blocks-apart : (p s i j : ℕ) → a ≡ offsetOf p (startOf s i) → b ≡ offsetOf p (startOf s j) → (i ≡ j → ⊥) → k ≤ s → Apart a b k
+  blocks-apart : (p s i j : ℕ) → a ≡ offsetOf p (startOf s i) → b ≡ offsetOf p (startOf s j) → (i ≡ j → ⊥) → k ≤ s
+      → Apart a b k
   blocks-apart p s i j d e n l = go (decLt i j)
     where
       go : Dec (i < j) → Apart a b k
@@ -64,7 +67,8 @@ pub record Handed (A P s c : ℕ) (b m : List ℕ) (o : ℕ) : Type 0 where
   pub spare : Spare A P s m p f
   pub kind : (pool A b class p ≡ c) ⊎ (f ≡ 48)
 
-handed : (A P s c : ℕ) (b m : List ℕ) (q : AskPlan) → FitsAsk A P s c b m q → askAnswer q .number ≡ 0 → Handed A P s c b m (askAnswer q .offset)
+handed : (A P s c : ℕ) (b m : List ℕ) (q : AskPlan) → FitsAsk A P s c b m q → askAnswer q .number ≡ 0
+    → Handed A P s c b m (askAnswer q .offset)
 unfolding askAnswer
 handed A P s c b m NoRoom t e = absurd (omega arith)
 handed A P s c b m Damaged t e = absurd (omega arith)
