@@ -37,6 +37,7 @@ use Rattle.rules.specs.Books.{
   poolWord,
 }
 use Rattle.rules.specs.Blocks.{putLink}
+use Rattle.rules.specs.Numbers.{viewAt}
 use Rattle.rules.specs.Lines.{
   Line,
   formats,
@@ -89,6 +90,10 @@ bit? p k d = has (bitIn p k) d
 
 abbrev mapWord? : ℕ → ℕ → Line
 mapWord? i v = has (λ h. at (h .map) i) v
+
+-- the part that view hands back of offset o begins there in memory
+abbrev viewAt? : ℕ → ℕ → Line
+viewAt? o place = has (λ h. viewAt 8 h o) place
 
 -- ==== format
 -- "all closed and on the unused list, linked both ways, in rising order with arena 0 first, every other head and
@@ -667,7 +672,7 @@ rangeEnds =
 abbrev wrongLength : List Line
 wrongLength =
     asks 0 2 0 ∷ gives 56 2 0 ∷ resizes 48 0 2 0 ∷ writes 48 (1 ∷ 2 ∷ 3 ∷ 4 ∷ 5 ∷ 6 ∷ 7 ∷ 8 ∷ 9 ∷ []) 2 0
-    ∷ views 48 2 0 [] ∷ rolls [] 2 0 [] ∷ formats 3 3 2 ∷ []
+    ∷ views 48 2 0 [] ∷ viewAt? 48 0 ∷ rolls [] 2 0 [] ∷ formats 3 3 2 ∷ []
 
 abbrev orderTwo : List Line
 orderTwo = asks 1 0 48 ∷ memoryShort ∷ wrongLength
@@ -706,7 +711,7 @@ abbrev notLive : List Line
 notLive =
     asks 512 0 48 ∷ gives 49 5 0 ∷ gives 47 5 0 ∷ gives 560 5 0 ∷ gives 36912 5 0
     ∷ bit= 0 6 1 ∷ bit= 0 7 1 ∷ gives 3632 5 0
-    ∷ word= (inPool 0 class) 64 ∷ gives 48 5 0 ∷ views 48 5 0 [] ∷ rolls [] 0 0 []
+    ∷ word= (inPool 0 class) 64 ∷ gives 48 5 0 ∷ views 48 5 0 [] ∷ viewAt? 48 0 ∷ rolls [] 0 0 []
     ∷ word= (inPool 0 class) 63 ∷ word= (inPool 0 freeblock) 7 ∷ gives 48 6 0
     ∷ rolls (9 ∷ 9 ∷ 9 ∷ 9 ∷ 9 ∷ []) 0 2 (48 ∷ 512 ∷ 3120 ∷ 512 ∷ 9 ∷ []) ∷ []
 
@@ -722,7 +727,7 @@ lastBlock =
 abbrev writing : List Line
 writing =
     asks 1 0 48 ∷ writes 48 (1 ∷ 2 ∷ 3 ∷ 4 ∷ 5 ∷ 6 ∷ 7 ∷ 8 ∷ []) 0 48 ∷ writes 48 [] 0 48
-    ∷ writes 48 (9 ∷ []) 0 48 ∷ views 48 0 8 (9 ∷ 2 ∷ 3 ∷ 4 ∷ 5 ∷ 6 ∷ 7 ∷ 8 ∷ [])
+    ∷ writes 48 (9 ∷ []) 0 48 ∷ views 48 0 8 (9 ∷ 2 ∷ 3 ∷ 4 ∷ 5 ∷ 6 ∷ 7 ∷ 8 ∷ []) ∷ viewAt? 48 48
     ∷ word= (inPool 0 count) 0 ∷ writes 48 [] 0 48 ∷ []
 
 -- "by rising offset, leaves the words after them": two words for each live block, or 7.

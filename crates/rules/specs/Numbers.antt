@@ -67,9 +67,13 @@ abbrev pub sizedOf : ℕ → ℕ → Sized
 sizedOf k s = record { number = k; size = s }
 
 module _ (al : ℕ) where
-  -- 5, of an offset by the heap's own books and map; the size of the block there; the roll
+  -- by the heap's own books and map: 5, of an offset; all tests of a call on an offset; the size of the block there; the
+  -- roll
   abbrev pub offsetNumber : Heap → ℕ → ℕ
   offsetNumber h o = liveNumber al (arenas h) (pools h) (h .books) (h .map) o
+
+  abbrev pub offsetTests : Heap → ℕ → ℕ
+  offsetTests h o = inOrder (shapeNumber h) 0 (offsetNumber h o) 0
 
   abbrev pub blockSize : Heap → ℕ → ℕ
   blockSize h o = sizeAt al (arenas h) (h .books) o
@@ -84,7 +88,7 @@ module _ (al : ℕ) where
 
   unfoldable pub giveBack : Heap → ℕ → Outcome
   giveBack h o =
-      passing (inOrder (shapeNumber h) 0 (offsetNumber h o) 0) (λ k. refused k h)
+      passing (offsetTests h o) (λ k. refused k h)
       (backStep al (arenas h) (pools h) h o)
 
   unfoldable pub resize : Heap → ℕ → ℕ → Outcome
@@ -95,19 +99,24 @@ module _ (al : ℕ) where
   -- "a refusal hands back the empty part"
   unfoldable pub view : Heap → ℕ → List ℕ
   view h o =
-      passing (inOrder (shapeNumber h) 0 (offsetNumber h o) 0) (λ k. [])
+      passing (offsetTests h o) (λ k. [])
       (part o (blockSize h o) (h .memory))
+
+  -- and where that part begins in memory; the empty part stands at memory's start
+  abbrev pub viewAt : Heap → ℕ → ℕ
+  viewAt h o = passing (offsetTests h o) (λ k. 0) o
 
   -- "a companion call gives its number and, when done, the block size, otherwise 0"
   unfoldable pub viewSize : Heap → ℕ → Sized
   viewSize h o =
-      passing (inOrder (shapeNumber h) 0 (offsetNumber h o) 0) (λ k. sizedOf k 0)
+      passing (offsetTests h o) (λ k. sizedOf k 0)
       (sizedOf 0 (blockSize h o))
 
   -- 7: "text longer than its block"
   unfoldable pub write : Heap → ℕ → List ℕ → Outcome
   write h o text =
-      passing (inOrder (shapeNumber h) 0 (offsetNumber h o) (roomNumber (length text) (blockSize h o))) (λ k. refused k h)
+      passing (inOrder (shapeNumber h) 0 (offsetNumber h o) (roomNumber (length text) (blockSize h o)))
+      (λ k. refused k h)
       (done o (h ▷ copyText o text))
 
   -- 7: "fewer than two roll words for each live block". It "leaves the words after them, and returns how many"

@@ -1,6 +1,6 @@
--- What each call promises, once for all who say it: the contracts of crates heap and heskavern, that each determines its
--- call, and the runs of crate laws. `found` is the heap as the call finds it, `left` as it leaves it, in every byte and
--- word; then its arguments and its answer. The alignment is 01's, 8.
+-- What each call promises, once for all who say it: the contracts of crates heap and heskavern, that each determines
+-- its call, and the runs of crate laws. `found` is the heap as the call finds it, `left` as it leaves it, in every byte
+-- and word; then its arguments and its answer. The alignment is 01's, 8.
 -- Assumes nothing.
 use mathlib.Core.Path.{_≡_}
 use mathlib.Core.List.{List}
@@ -9,16 +9,14 @@ use Rattle.rules.specs.declared.Answer.{Answer}
 use Rattle.rules.specs.declared.Sized.{Sized}
 use Rattle.rules.specs.declared.Rolled.{Rolled}
 use Rattle.rules.specs.Books.{Heap}
-use Rattle.rules.specs.Outcome.{outcome, passing}
+use Rattle.rules.specs.Outcome.{outcome}
 use Rattle.rules.specs.Numbers.{
-  inOrder,
-  shapeNumber,
-  offsetNumber,
   format,
   ask,
   giveBack,
   resize,
   view,
+  viewAt,
   viewSize,
   write,
   rollOutcome,
@@ -58,10 +56,7 @@ module _ (found left : Heap) where
   RollCallPromise words rolled answer =
       rollOutcome (answer .number) (answer .count) rolled beside left ≡ rollCall 8 found words beside found
 
--- and by its place: the part lies where memory does, from the offset on, or at memory's start where it is empty. A place
--- is a buffer and a position in it
-abbrev pub viewAt : Heap → ℕ → ℕ
-viewAt found offset = passing (inOrder (shapeNumber found) 0 (offsetNumber 8 found offset) 0) (λ k. 0) offset
-
+-- and by its place: the part lies where memory does, from the byte that `viewAt` says. A place is a buffer and a
+-- position in it
 abbrev pub ViewPlace : Heap → ℕ → ℕ × ℕ → ℕ × ℕ → Type 0
-ViewPlace found offset memory part = (part .0 ≡ memory .0) × (part .1 ≡ viewAt found offset + memory .1)
+ViewPlace found offset memory part = (part .0 ≡ memory .0) × (part .1 ≡ viewAt 8 found offset + memory .1)
