@@ -27,7 +27,7 @@ use Rattle.rules.specs.Numbers.{
   shapeNumber,
   sizeNumber,
   inOrder,
-  offsetNumber,
+  offsetTests,
   blockSize,
   sizedOf,
   ask,
@@ -83,7 +83,7 @@ shape-zero {al} {A} {P} {h} S =
 module _ {al A P : ℕ} {h : Heap} {r : Plain} (S : Sound al A P h r) (o : ℕ) where
   -- the tests of a call on an offset come to the live test
   by-live : {X : Type 0} (refusal : ℕ → X) (rest : X)
-      → passing (inOrder (shapeNumber h) 0 (offsetNumber al h o) 0) refusal rest
+      → passing (offsetTests al h o) refusal rest
       ≡ (if live al A P (h .books) (h .map) o then rest else refusal 5)
   unfolding liveNumber
   by-live refusal rest = rw (shape-zero S, S .rule1 .arenas-are, S .rule1 .pools-are) (go (live al A P (h .books) (h .map) o))

@@ -34,6 +34,7 @@ use Rattle.rules.specs.Numbers.{
   _before_,
   inOrder,
   offsetNumber,
+  offsetTests,
   blockSize,
   format,
   ask,
@@ -264,7 +265,7 @@ module _ {al : ℕ} (L : Aligned al) (h : Heap) where
   pub back-first : (o : ℕ) → First (h .memory) (giveBack al h o .heap .memory)
   unfolding giveBack
   back-first o =
-      after-tests (inOrder (shapeNumber h) 0 (offsetNumber al h o) 0) (backStep al (arenas h) (pools h) h o)
+      after-tests (offsetTests al h o) (backStep al (arenas h) (pools h) h o)
       (λ e.
       let t = before-zero (shapeNumber h) (0 before offsetNumber al h o before 0) e in
       let u = before-zero (offsetNumber al h o) 0 (t .1) in

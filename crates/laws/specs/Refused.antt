@@ -31,6 +31,7 @@ use Rattle.rules.specs.Numbers.{
   _before_,
   inOrder,
   offsetNumber,
+  offsetTests,
   blockSize,
   rollOf,
   rollOutcome,
@@ -123,7 +124,7 @@ module _ (al : ℕ) (h : Heap) where
 
   pub back-refused : (o : ℕ) → Unchanged h (giveBack al h o)
   unfolding giveBack
-  back-refused o = after-tests h (inOrder (shapeNumber h) 0 (offsetNumber al h o) 0) _ (back-step al (arenas h) (pools h) h o)
+  back-refused o = after-tests h (offsetTests al h o) _ (back-step al (arenas h) (pools h) h o)
 
   pub write-refused : (o : ℕ) (text : List ℕ) → Unchanged h (write al h o text)
   unfolding write
