@@ -1,5 +1,5 @@
-/* A variant with the calls of include/heskavern.h, over buffers of its own. Included once for each, with THIS(name) for its own names and
- * CALL(name) for the calls. */
+/* A variant with the calls of include/heskavern.h, over buffers of its own. Included once for each, with THIS(name) for
+ * its own names and CALL(name) for the calls. */
 
 static _Alignas(4096) uint8_t THIS(memory)[HESKAVERN_MEMORY_BYTES(ARENAS, POOLS)];
 static _Alignas(64) uint32_t THIS(books)[HESKAVERN_BOOKS_WORDS(ARENAS, POOLS)];

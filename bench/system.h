@@ -1,5 +1,5 @@
-/* A variant with the calls of malloc, free and realloc. Included once for each, with THIS(name) for its own names. The calls are made by
- * pointers: they are looked up at run time, and no pair can be optimised away. */
+/* A variant with the calls of malloc, free and realloc. Included once for each, with THIS(name) for its own names. The
+ * calls are made by pointers: they are looked up at run time, and no pair can be optimised away. */
 
 static struct system_calls THIS(calls);
 

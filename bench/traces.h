@@ -1,9 +1,10 @@
-/* The traces over one variant. Included once for each, with THIS(name) for its own names, its type `BLOCK`, and its calls
+/* The traces over one variant. Included once for each, with THIS(name) for its own names, its type `BLOCK`, and its
+ * calls
  *   static inline BLOCK THIS(ask)(size_t size, unsigned *refused)
  *   static inline void THIS(give_back)(BLOCK block, unsigned *refused)
  *   static inline BLOCK THIS(resize)(BLOCK block, size_t size, unsigned *refused)
- * which make *refused other than 0 where a call is refused. All variants get the same loops; a call is never inlined into them, since each
- * allocator is compiled on its own. */
+ * which make *refused other than 0 where a call is refused. All variants get the same loops; a call is never inlined
+ * into them, since each allocator is compiled on its own. */
 
 static BLOCK THIS(slots)[SLOTS];
 
@@ -55,6 +56,12 @@ static unsigned THIS(resize_trace)(const struct step *steps, size_t n)
         *slot = THIS(resize)(*slot, steps[i].size, &refused);
     }
     return refused;
+}
+
+/* Whether two slots hold the same block. */
+static inline bool THIS(same_block)(size_t slot, size_t other)
+{
+    return THIS(slots)[slot] == THIS(slots)[other];
 }
 
 #ifdef WRITES

@@ -1,35 +1,42 @@
 /* The allocators that are compared. */
+#define _GNU_SOURCE
 #include "variants.h"
 
+#include "peers.h"
 #include "pymalloc.h"
 
 #include <dlfcn.h>
-#include <stdbool.h>
 #include <stdio.h>
 #include <stdlib.h>
 #include <string.h>
 
 /* The parts of a variant's row. */
 #define TRACES(v) \
-    .fill = v##_fill_trace, .drain = v##_drain_trace, .mixed = v##_mixed_trace, .statement = v##_statement_trace, .resize = v##_resize_trace
+    .stem = #v, .fill = v##_fill_trace, .drain = v##_drain_trace, .mixed = v##_mixed_trace, \
+    .statement = v##_statement_trace, .resize = v##_resize_trace
+#define WITH_BLOCKS(v) .same = v##_same_block
 #define WRITE_TRACES(v) .write = v##_write_trace, .view_size = v##_view_trace
 #define WITH_PLACES(v) .place = v##_place_of_slot
 
 /* ---- this library, and the same checks in C by two compilers */
 
-#define CHECKED(v) .fresh = v##_fresh, TRACES(v), WRITE_TRACES(v), WITH_PLACES(v)
+#define CHECKED(v) .fresh = v##_fresh, TRACES(v), WITH_BLOCKS(v), WRITE_TRACES(v), WITH_PLACES(v)
 
 #define THIS(name) library_##name
 #define CALL(name) heskavern_##name
 #include "checked.h"
-static const struct variant library = {"this library", CHECKED(library), .roll_call = heskavern_roll_call, .format = heskavern_format};
+static const struct variant library = {
+    "this library", CHECKED(library), .roll_call = heskavern_roll_call, .format = heskavern_format
+};
 
 #define CHECKS(name) gcc_##name
 #include "checks.h"
 #define THIS(name) by_gcc_##name
 #define CALL(name) CHECKS(name)
 #include "checked.h"
-static const struct variant by_gcc = {"the same checks in C, gcc -O2", CHECKED(by_gcc), .roll_call = gcc_roll_call, .format = gcc_format};
+static const struct variant by_gcc = {
+    "the same checks in C, gcc -O2", CHECKED(by_gcc), .roll_call = gcc_roll_call, .format = gcc_format
+};
 #undef CHECKS
 
 #define CHECKS(name) clang_##name
@@ -37,7 +44,9 @@ static const struct variant by_gcc = {"the same checks in C, gcc -O2", CHECKED(b
 #define THIS(name) by_clang_##name
 #define CALL(name) CHECKS(name)
 #include "checked.h"
-static const struct variant by_clang = {"the same checks in C, clang -O3", CHECKED(by_clang), .roll_call = clang_roll_call, .format = clang_format};
+static const struct variant by_clang = {
+    "the same checks in C, clang -O3", CHECKED(by_clang), .roll_call = clang_roll_call, .format = clang_format
+};
 #undef CHECKS
 
 /* ---- the program written from the source, which trusts its caller: to write is to copy */
@@ -93,7 +102,10 @@ static inline uint32_t source_place(BLOCK p)
 }
 
 #include "traces.h"
-static const struct variant source = {"the program from the source", source_fresh, TRACES(source), WRITE_TRACES(source), WITH_PLACES(source)};
+static const struct variant source = {
+    "the program from the source", .fresh = source_fresh, TRACES(source), WITH_BLOCKS(source), WRITE_TRACES(source),
+    WITH_PLACES(source)
+};
 
 /* ---- the system's allocators */
 
@@ -107,20 +119,23 @@ static void no_heap(void)
 {
 }
 
+#define SYSTEM(v) .fresh = no_heap, TRACES(v), WITH_BLOCKS(v)
+
 #define THIS(name) glibc_##name
 #include "system.h"
-static const struct variant glibc = {"glibc", no_heap, TRACES(glibc)};
+static const struct variant glibc = {"glibc", SYSTEM(glibc)};
 
 #define THIS(name) mimalloc_##name
 #include "system.h"
-static const struct variant mimalloc = {"mimalloc", no_heap, TRACES(mimalloc)};
+static const struct variant mimalloc = {"mimalloc", SYSTEM(mimalloc)};
 
 #define THIS(name) jemalloc_##name
 #include "system.h"
-static const struct variant jemalloc = {"jemalloc", no_heap, TRACES(jemalloc)};
+static const struct variant jemalloc = {"jemalloc", SYSTEM(jemalloc)};
 
-/* Finds an allocator's calls in the program's own libraries (library NULL) or in one that is loaded beside them. */
-static bool find_calls(struct system_calls *calls, const char *library, const char *ask, const char *give_back, const char *resize)
+/* Finds an allocator's calls in a library that is loaded beside the program's own. */
+static bool find_calls(struct system_calls *calls, const char *library, const char *ask, const char *give_back,
+                       const char *resize)
 {
     void *handle = dlopen(library, RTLD_NOW | RTLD_LOCAL);
     if (handle == NULL)
@@ -165,7 +180,7 @@ static inline uint32_t loop_view_size(BLOCK block, unsigned *refused)
 }
 
 #include "traces.h"
-static const struct variant loop = {"the loop alone", no_heap, TRACES(loop), WRITE_TRACES(loop)};
+static const struct variant loop = {"the loop alone", .fresh = no_heap, TRACES(loop), WRITE_TRACES(loop)};
 
 /* ---- all of them */
 
@@ -180,10 +195,33 @@ static void add(bool found, const struct variant *v)
         fprintf(stderr, "bench: %s cannot be loaded and is left out\n", v->name);
 }
 
-void find_variants(void)
+/* Its traces are those over the process's own malloc: they run in the peer's process. */
+static void add_peer(struct peer *peer)
 {
-    add(find_calls(&glibc_calls, NULL, "malloc", "free", "realloc"), &glibc);
+    static struct variant rows[MOST_PEERS];
+    static size_t n;
+    rows[n] = glibc;
+    rows[n].name = peer->name;
+    rows[n].peer = peer;
+    variants[variant_count++] = &rows[n++];
+}
+
+/* As the program is linked: a library that is loaded first may have them under versions that a search would miss. */
+const struct variant *find_own(const char **file)
+{
+    Dl_info where;
+    glibc_calls = (struct system_calls){malloc, free, realloc};
+    *file = dladdr(*(void **)&glibc_calls.ask, &where) != 0 ? where.dli_fname : "";
+    return &glibc;
+}
+
+void find_variants(struct peer *peers, size_t n)
+{
+    const char *file;
+    add(true, find_own(&file));
     add(find_calls(&mimalloc_calls, "libmimalloc.so.2", "mi_malloc", "mi_free", "mi_realloc"), &mimalloc);
     add(find_calls(&jemalloc_calls, "libjemalloc.so.2", "malloc", "free", "realloc"), &jemalloc);
+    for (size_t i = 0; i < n; i++)
+        add_peer(&peers[i]);
     add(true, &loop);
 }

@@ -4,7 +4,9 @@
 
 #include "heskavern.h"
 
-enum { ARENAS = 16, POOLS = 64, SLOTS = 2000, MOST_VARIANTS = 8 };
+#include <stdbool.h>
+
+enum { ARENAS = 16, POOLS = 64, SLOTS = 2000, MOST_VARIANTS = 12 };
 
 /* A slot holds a block of this variant. A trace is made of such steps, each for one slot. */
 struct step {
@@ -14,16 +16,21 @@ struct step {
 /* Each trace gives 0 where every call in it was done. A variant has NULL for what it cannot do. */
 struct variant {
     const char *name;
-    void (*fresh)(void);                                                            /* an empty heap */
-    unsigned (*fill)(const struct step *steps, size_t n);                           /* asks */
-    unsigned (*drain)(const struct step *steps, size_t n);                          /* give-backs */
-    unsigned (*mixed)(const struct step *steps, size_t n);                          /* gives back what the slot holds, then asks */
-    unsigned (*statement)(const struct step *steps, const uint16_t *runs, size_t n);    /* asks in runs, gives each run back in reverse */
+    struct peer *peer;              /* the process that it runs in, where that is not this one */
+    const char *stem;               /* what the names of its traces' functions begin with: callgrind knows them by it */
+    void (*fresh)(void);                                    /* an empty heap */
+    unsigned (*fill)(const struct step *steps, size_t n);   /* asks */
+    unsigned (*drain)(const struct step *steps, size_t n);  /* give-backs */
+    unsigned (*mixed)(const struct step *steps, size_t n);  /* gives back what the slot holds, then asks */
+    /* asks in runs, gives each run back in reverse */
+    unsigned (*statement)(const struct step *steps, const uint16_t *runs, size_t n);
     unsigned (*resize)(const struct step *steps, size_t n);
     unsigned (*write)(const struct step *steps, size_t n, const uint8_t *text, size_t bytes);
-    unsigned (*view_size)(const struct step *steps, size_t n, uint64_t *sum);       /* adds up the sizes */
-    uint32_t (*place)(size_t slot);                                                 /* the offset of the slot's block */
-    heskavern_answer (*roll_call)(const uint8_t *, size_t, const uint32_t *, size_t, const uint64_t *, size_t, uint32_t *, size_t);
+    unsigned (*view_size)(const struct step *steps, size_t n, uint64_t *sum);   /* adds up the sizes */
+    bool (*same)(size_t slot, size_t other);                /* whether two slots hold the same block */
+    uint32_t (*place)(size_t slot);                         /* the offset of the slot's block */
+    heskavern_answer (*roll_call)(const uint8_t *, size_t, const uint32_t *, size_t, const uint64_t *, size_t,
+                                  uint32_t *, size_t);
     heskavern_answer (*format)(const uint8_t *, size_t, uint32_t *, size_t, uint64_t *, size_t, size_t, size_t);
 };
 
@@ -32,10 +39,13 @@ extern const struct variant *variants[MOST_VARIANTS];
 extern size_t variant_count;
 
 /* Takes what a call takes and does nothing. */
-heskavern_answer nothing(const uint8_t *memory, size_t memory_bytes, const uint32_t *books, size_t books_words, const uint64_t *map,
-                         size_t map_words, size_t x);
+heskavern_answer nothing(const uint8_t *memory, size_t memory_bytes, const uint32_t *books, size_t books_words,
+                         const uint64_t *map, size_t map_words, size_t x);
 
-/* Looks for the allocators that are linked at run time. */
-void find_variants(void);
+/* The process's own malloc, and the file that it is in. */
+const struct variant *find_own(const char **file);
+
+/* Adds the allocators that are linked at run time, those of the peers' processes, and the loop alone. */
+void find_variants(struct peer *peers, size_t n);
 
 #endif
