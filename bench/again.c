@@ -54,18 +54,18 @@ static _Noreturn void give_back_twice(const struct variant *v, size_t way)
     size_t end = OUT;
     v->fresh();
     ask(v, 0, OUT);
-    unsigned refused = 0;
+    unsigned number = 0;
     for (size_t i = 0; i < OUT; i += 2)         /* of others every second one, so that no pool falls empty */
-        refused |= i == ONE || way == AMONG_OTHERS ? give_back(v, i) : 0;
-    if (refused != 0)
+        number |= i == ONE || way == AMONG_OTHERS ? give_back(v, i) : 0;
+    if (number != 0)
         fail(v->name, "a give-back was refused");
     for (bool out = false; way == OUT_AGAIN && !out && end < MOST_ASKS; end++) {
         ask(v, end, end + 1);
         out = v->same(ONE, end);
     }
-    refused = give_back(v, ONE);
-    if (refused != 0)
-        _exit(REFUSED + (int)refused);
+    number = give_back(v, ONE);
+    if (number != 0)
+        _exit(REFUSED + (int)number);
     ask(v, end, end + 3 * OUT);
     _exit(out_twice(v) ? TWICE : ONCE);
 }
@@ -96,6 +96,13 @@ static void say(char said[SAID], char *heard, int status)
 bool passed(const char *said)
 {
     return strncmp(said, "passes", strlen("passes")) == 0;
+}
+
+bool refused(const char *said)
+{
+    char not_live[SAID];
+    snprintf(not_live, SAID, "is refused with number %d", HESKAVERN_NOT_LIVE);
+    return strcmp(said, not_live) == 0;
 }
 
 void try_again(const struct variant *v, size_t way, char said[SAID])

@@ -12,7 +12,8 @@ extern const char *const ways[WAYS];
 /* Tries it in a child process, and says what came of it. */
 void try_again(const struct variant *v, size_t way, char said[SAID]);
 
-/* Whether this is what was said of a second give-back that the variant took for a first one. */
+/* Whether that says that it was taken for a first give-back, or that it was refused as not live. */
 bool passed(const char *said);
+bool refused(const char *said);
 
 #endif

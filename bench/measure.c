@@ -227,8 +227,8 @@ static const char *tried(const struct variant *v, size_t way)
         return v->peer->said[way];
     fflush(stdout);
     try_again(v, way, said);
-    if (v->roll_call != NULL && way != OUT_AGAIN && passed(said))
-        fail(v->name, "a second give-back passes");
+    if (v->roll_call != NULL && way != OUT_AGAIN && !refused(said))
+        fail(v->name, "a second give-back is not refused as not live");
     return said;
 }
 

@@ -4,7 +4,7 @@
 
 #include "variants.h"
 
-enum { TASKS = 12, MIXED = 0, STATEMENT = 1 };
+enum { TASKS = 12 };
 
 /* A visit gives the time of one operation; it makes some of them untimed first. */
 struct task {
