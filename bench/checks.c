@@ -1,5 +1,6 @@
-/* 01 read once more, in C: every check at every call, each step decided before it is written. Nothing is proved of it; bench/verify.c holds it to
- * the library's answers. Its times say what the checks themselves cost. Compiled with CHECKS(name) for the names of its calls. */
+/* 01 read once more, in C: every check at every call, each step decided before it is written. Nothing is proved of it;
+ * bench/verify.c holds it to the library's answers. Its times say what the checks themselves cost. Compiled with
+ * CHECKS(name) for the names of its calls. */
 #include "checks.h"
 
 #include <stdbool.h>
@@ -50,8 +51,8 @@ INLINE uint32_t fit_number(size_t memory_bytes, size_t books_words, size_t map_w
 }
 
 /* 1 or 2, for the numbers that the books hold. Where there is neither, the heap can be used. */
-INLINE uint32_t open_heap(struct heap *h, const uint8_t *memory, size_t memory_bytes, const uint32_t *books, size_t books_words,
-                                 const uint64_t *map, size_t map_words)
+INLINE uint32_t open_heap(struct heap *h, const uint8_t *memory, size_t memory_bytes, const uint32_t *books,
+                          size_t books_words, const uint64_t *map, size_t map_words)
 {
     if (books_words < 2)
         return HESKAVERN_NOT_EXACT;
@@ -436,8 +437,8 @@ INLINE void put_roll(const struct heap *h, uint32_t *roll)
 
 /* ---- the calls */
 
-heskavern_answer CHECKS(format)(const uint8_t *memory, size_t memory_bytes, uint32_t *books, size_t books_words, uint64_t *map, size_t map_words,
-                               size_t arenas, size_t pools)
+heskavern_answer CHECKS(format)(const uint8_t *memory, size_t memory_bytes, uint32_t *books, size_t books_words,
+                                uint64_t *map, size_t map_words, size_t arenas, size_t pools)
 {
     uint32_t number = fit_number(memory_bytes, books_words, map_words, arenas, pools);
     if (number != HESKAVERN_DONE)
@@ -459,7 +460,8 @@ heskavern_answer CHECKS(format)(const uint8_t *memory, size_t memory_bytes, uint
     return answer(HESKAVERN_DONE, 0);
 }
 
-heskavern_answer CHECKS(ask)(uint8_t *memory, size_t memory_bytes, uint32_t *books, size_t books_words, uint64_t *map, size_t map_words, size_t size)
+heskavern_answer CHECKS(ask)(uint8_t *memory, size_t memory_bytes, uint32_t *books, size_t books_words, uint64_t *map,
+                             size_t map_words, size_t size)
 {
     struct heap h;
     uint32_t number = open_heap(&h, memory, memory_bytes, books, books_words, map, map_words);
@@ -470,8 +472,8 @@ heskavern_answer CHECKS(ask)(uint8_t *memory, size_t memory_bytes, uint32_t *boo
     return ask_step(&h, size);
 }
 
-heskavern_answer CHECKS(give_back)(uint8_t *memory, size_t memory_bytes, uint32_t *books, size_t books_words, uint64_t *map, size_t map_words,
-                                  size_t offset)
+heskavern_answer CHECKS(give_back)(uint8_t *memory, size_t memory_bytes, uint32_t *books, size_t books_words,
+                                   uint64_t *map, size_t map_words, size_t offset)
 {
     struct heap h;
     uint32_t number = open_heap(&h, memory, memory_bytes, books, books_words, map, map_words);
@@ -484,8 +486,8 @@ heskavern_answer CHECKS(give_back)(uint8_t *memory, size_t memory_bytes, uint32_
     return answer(number, number == HESKAVERN_DONE ? (uint32_t)offset : 0);
 }
 
-heskavern_answer CHECKS(resize)(uint8_t *memory, size_t memory_bytes, uint32_t *books, size_t books_words, uint64_t *map, size_t map_words,
-                               size_t offset, size_t size)
+heskavern_answer CHECKS(resize)(uint8_t *memory, size_t memory_bytes, uint32_t *books, size_t books_words,
+                                uint64_t *map, size_t map_words, size_t offset, size_t size)
 {
     struct heap h;
     uint32_t number = open_heap(&h, memory, memory_bytes, books, books_words, map, map_words);
@@ -508,8 +510,8 @@ heskavern_answer CHECKS(resize)(uint8_t *memory, size_t memory_bytes, uint32_t *
     return asked;
 }
 
-heskavern_answer CHECKS(view_size)(const uint8_t *memory, size_t memory_bytes, const uint32_t *books, size_t books_words, const uint64_t *map,
-                                  size_t map_words, size_t offset)
+heskavern_answer CHECKS(view_size)(const uint8_t *memory, size_t memory_bytes, const uint32_t *books,
+                                   size_t books_words, const uint64_t *map, size_t map_words, size_t offset)
 {
     struct heap h;
     uint32_t number = open_heap(&h, memory, memory_bytes, books, books_words, map, map_words);
@@ -520,8 +522,9 @@ heskavern_answer CHECKS(view_size)(const uint8_t *memory, size_t memory_bytes, c
     return answer(HESKAVERN_DONE, size_of(h.pool[offset / POOL_BYTES].class));
 }
 
-heskavern_answer CHECKS(write)(uint8_t *memory, size_t memory_bytes, const uint32_t *books, size_t books_words, const uint64_t *map, size_t map_words,
-                              size_t offset, const void *text, size_t text_bytes)
+heskavern_answer CHECKS(write)(uint8_t *memory, size_t memory_bytes, const uint32_t *books, size_t books_words,
+                               const uint64_t *map, size_t map_words, size_t offset, const void *text,
+                               size_t text_bytes)
 {
     struct heap h;
     uint32_t number = open_heap(&h, memory, memory_bytes, books, books_words, map, map_words);
@@ -535,8 +538,9 @@ heskavern_answer CHECKS(write)(uint8_t *memory, size_t memory_bytes, const uint3
     return answer(HESKAVERN_DONE, (uint32_t)offset);
 }
 
-heskavern_answer CHECKS(roll_call)(const uint8_t *memory, size_t memory_bytes, const uint32_t *books, size_t books_words, const uint64_t *map,
-                                  size_t map_words, uint32_t *roll, size_t roll_words)
+heskavern_answer CHECKS(roll_call)(const uint8_t *memory, size_t memory_bytes, const uint32_t *books,
+                                   size_t books_words, const uint64_t *map, size_t map_words, uint32_t *roll,
+                                   size_t roll_words)
 {
     struct heap h;
     uint32_t number = open_heap(&h, memory, memory_bytes, books, books_words, map, map_words);

@@ -1,17 +1,20 @@
-/* The calls of include/heskavern.h under other names, with the same checks and the same answers, written in C to compare times with. Included
- * once for each compiler that checks.c is compiled by, with CHECKS(name) for its names. */
+/* The calls of include/heskavern.h under other names, with the same checks and the same answers, written in C to
+ * compare times with. Included once for each compiler that checks.c is compiled by, with CHECKS(name) for its names. */
 #include "heskavern.h"
 
-heskavern_answer CHECKS(format)(const uint8_t *memory, size_t memory_bytes, uint32_t *books, size_t books_words, uint64_t *map, size_t map_words,
-                               size_t arenas, size_t pools);
-heskavern_answer CHECKS(ask)(uint8_t *memory, size_t memory_bytes, uint32_t *books, size_t books_words, uint64_t *map, size_t map_words, size_t size);
-heskavern_answer CHECKS(give_back)(uint8_t *memory, size_t memory_bytes, uint32_t *books, size_t books_words, uint64_t *map, size_t map_words,
-                                  size_t offset);
-heskavern_answer CHECKS(resize)(uint8_t *memory, size_t memory_bytes, uint32_t *books, size_t books_words, uint64_t *map, size_t map_words,
-                               size_t offset, size_t size);
-heskavern_answer CHECKS(view_size)(const uint8_t *memory, size_t memory_bytes, const uint32_t *books, size_t books_words, const uint64_t *map,
-                                  size_t map_words, size_t offset);
-heskavern_answer CHECKS(write)(uint8_t *memory, size_t memory_bytes, const uint32_t *books, size_t books_words, const uint64_t *map, size_t map_words,
-                              size_t offset, const void *text, size_t text_bytes);
-heskavern_answer CHECKS(roll_call)(const uint8_t *memory, size_t memory_bytes, const uint32_t *books, size_t books_words, const uint64_t *map,
-                                  size_t map_words, uint32_t *roll, size_t roll_words);
+heskavern_answer CHECKS(format)(const uint8_t *memory, size_t memory_bytes, uint32_t *books, size_t books_words,
+                                uint64_t *map, size_t map_words, size_t arenas, size_t pools);
+heskavern_answer CHECKS(ask)(uint8_t *memory, size_t memory_bytes, uint32_t *books, size_t books_words, uint64_t *map,
+                             size_t map_words, size_t size);
+heskavern_answer CHECKS(give_back)(uint8_t *memory, size_t memory_bytes, uint32_t *books, size_t books_words,
+                                   uint64_t *map, size_t map_words, size_t offset);
+heskavern_answer CHECKS(resize)(uint8_t *memory, size_t memory_bytes, uint32_t *books, size_t books_words,
+                                uint64_t *map, size_t map_words, size_t offset, size_t size);
+heskavern_answer CHECKS(view_size)(const uint8_t *memory, size_t memory_bytes, const uint32_t *books,
+                                   size_t books_words, const uint64_t *map, size_t map_words, size_t offset);
+heskavern_answer CHECKS(write)(uint8_t *memory, size_t memory_bytes, const uint32_t *books, size_t books_words,
+                               const uint64_t *map, size_t map_words, size_t offset, const void *text,
+                               size_t text_bytes);
+heskavern_answer CHECKS(roll_call)(const uint8_t *memory, size_t memory_bytes, const uint32_t *books,
+                                   size_t books_words, const uint64_t *map, size_t map_words, uint32_t *roll,
+                                   size_t roll_words);

@@ -1,5 +1,6 @@
-/* Holds bench/checks.c, by its names CHECKS(name), to the library: verify SEED CALLS. Both get the same random calls over the same buffers, on sound
- * books and on damaged ones, and must give the same number and value and leave the same memory, books, map and roll. */
+/* Holds bench/checks.c, by its names CHECKS(name), to the library: verify SEED CALLS. Both get the same random calls
+ * over the same buffers, on sound books and on damaged ones, and must give the same number and value and leave the same
+ * memory, books, map and roll. */
 #include "checks.h"
 #include "random.h"
 
@@ -69,14 +70,20 @@ static size_t random_offset(void)
 {
     if (held_count != 0 && below(12) != 0)
         return held[below(held_count)];
-    return below(2) == 0 ? below((uint32_t)(arenas * pools) * 4096 + 64) : 4096 * below((uint32_t)(arenas * pools)) + 48 + 8 * below(506);
+    return below(2) == 0 ? below((uint32_t)(arenas * pools) * 4096 + 64)
+                         : 4096 * below((uint32_t)(arenas * pools)) + 48 + 8 * below(506);
 }
 
 static struct call random_call(void)
 {
-    static const uint8_t kinds[] = {ASK, ASK, ASK, ASK, ASK, GIVE_BACK, GIVE_BACK, GIVE_BACK, RESIZE, RESIZE, VIEW_SIZE, WRITE, ROLL_CALL};
-    struct call c = {.kind = kinds[below(sizeof kinds)], .memory_bytes = arenas * pools * 4096, .books_words = 72 + 8 * arenas + 8 * arenas * pools,
-                     .map_words = 8 * arenas * pools, .x = random_offset(), .y = random_size()};
+    static const uint8_t kinds[] = {ASK,       ASK,    ASK,    ASK,       ASK,   GIVE_BACK, GIVE_BACK,
+                                    GIVE_BACK, RESIZE, RESIZE, VIEW_SIZE, WRITE, ROLL_CALL};
+    struct call c = {.kind = kinds[below(sizeof kinds)],
+                     .memory_bytes = arenas * pools * 4096,
+                     .books_words = 72 + 8 * arenas + 8 * arenas * pools,
+                     .map_words = 8 * arenas * pools,
+                     .x = random_offset(),
+                     .y = random_size()};
     if (below(300) == 0)
         c.kind = FORMAT, c.x = below(4) == 0 ? below(18) : arenas, c.y = below(4) == 0 ? below(66) : pools;
     if (c.kind == ASK)
@@ -89,10 +96,12 @@ static struct call random_call(void)
     return c;
 }
 
-/* A value that a damaged word may hold: near a bound, a block start, a link, or a start past the last block of one of the few sizes. */
+/* A value that a damaged word may hold: near a bound, a block start, a link, or a start past the last block of one of
+ * the few sizes. */
 static uint32_t odd_word(void)
 {
-    static const uint32_t odd[] = {0, 0, 1, 2, 3, 48, 56, 505, 506, 507, 4088, 4096, 65535, UINT32_MAX}, past[] = {4096, 4080, 4048, 4008, 3632};
+    static const uint32_t odd[] = {0, 0, 1, 2, 3, 48, 56, 505, 506, 507, 4088, 4096, 65535, UINT32_MAX};
+    static const uint32_t past[] = {4096, 4080, 4048, 4008, 3632};
     switch (below(5)) {
     case 0: return (uint32_t)(arenas * pools) + below(2);
     case 1: return 48 + 8 * below(506);
@@ -153,8 +162,8 @@ static bool same(const struct call *c, heskavern_answer x, heskavern_answer y)
     if (what == NULL)
         return true;
     static const char *names[CALLS] = {"format", "ask", "give back", "resize", "view_size", "write", "roll call"};
-    printf("bench/verify: %s differ after %s (%zu, %zu), A = %zu, P = %zu: the library gives %u %u, checks.c %u %u\n", what, names[c->kind], c->x, c->y,
-           arenas, pools, x.number, x.value, y.number, y.value);
+    printf("bench/verify: %s differ after %s (%zu, %zu), A = %zu, P = %zu: the library gives %u %u, checks.c %u %u\n",
+           what, names[c->kind], c->x, c->y, arenas, pools, x.number, x.value, y.number, y.value);
     return false;
 }
 
@@ -182,8 +191,12 @@ static bool compare(unsigned long *calls)
     fresh();
     bool damaged = below(2) == 0;
     unsigned long last = *calls > 400 ? *calls - 400 : 0;
-    struct call c = {.kind = FORMAT, .memory_bytes = arenas * pools * 4096, .books_words = 72 + 8 * arenas + 8 * arenas * pools,
-                     .map_words = 8 * arenas * pools, .x = arenas, .y = pools};
+    struct call c = {.kind = FORMAT,
+                     .memory_bytes = arenas * pools * 4096,
+                     .books_words = 72 + 8 * arenas + 8 * arenas * pools,
+                     .map_words = 8 * arenas * pools,
+                     .x = arenas,
+                     .y = pools};
     for (; *calls > last; --*calls, c = random_call()) {
         heskavern_answer x = by_library(&library, &c), y = by_checks(&checks, &c);
         if (!same(&c, x, y))
