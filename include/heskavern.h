@@ -1,22 +1,25 @@
-/* Heskavern: a small-block allocator over memory that its caller lends. C99 and C++ on x86-64 Linux; link with libheskavern.a.
+/* Heskavern: a small-block allocator over memory that its caller lends. C99 and C++ on x86-64 Linux; link with
+libheskavern.a.
 
-A heap has A arenas (1 to 16) of P pools (2 to 64); a pool is 4,096 bytes. Three buffers are lent to every call, each as a pointer and its length
-in elements: memory, which holds the blocks, books and map. Their lengths are exact: see the macros below; HESKAVERN_LENT makes all six arguments. A
-block is known by its offset in memory.
+A heap has A arenas (1 to 16) of P pools (2 to 64); a pool is 4,096 bytes. Three buffers are lent to every call, each as
+a pointer and its length in elements: memory, which holds the blocks, books and map. Their lengths are exact: see the
+macros below; HESKAVERN_LENT makes all six arguments. A block is known by its offset in memory.
 
-Every call answers a number and a value. The number is 0 when it is done, and otherwise says why it is refused. A refusal has value 0 and leaves
-every byte and word as it was, but for the half-done resize. Any lengths, any contents of the buffers and any arguments get their number: that is
-proved of the source, and so is that a call always returns and touches nothing but the buffers. No call allocates or makes a system call.
+Every call answers a number and a value. The number is 0 when it is done, and otherwise says why it is refused. A
+refusal has value 0 and leaves every byte and word as it was, but for the half-done resize. Any lengths, any contents of
+the buffers and any arguments get their number: that is proved of the source, and so is that a call always returns and
+touches nothing but the buffers. No call allocates or makes a system call.
 
 What the caller owes, and no call can test:
 - Each pointer is valid for its length and aligned for its type. It is not null, even where the length is 0.
-- A buffer that a call may write, one whose pointer is not const, overlaps no other buffer of that call. That goes for text and roll too.
+- A buffer that a call may write, one whose pointer is not const, overlaps no other buffer of that call. That goes for
+  text and roll too.
 - During a call no other thread writes these buffers, or reads one that is not const.
 - There are 512 bytes of stack for the call, and for format what memset takes besides. (Where it is bound lazily, its
   first call is the dynamic linker's and takes some thousands.)
-Between calls, books and map are not yours to write, and of memory only the blocks that you hold. Keep to that from format on, and no block is handed
-out twice and no call gives 6. After any other write every call is still safe and still answers by its rules, but it may meet damage and give 6, or
-hand out what is in use.
+Between calls, books and map are not yours to write, and of memory only the blocks that you hold. Keep to that from
+format on, and no block is handed out twice and no call gives 6. After any other write every call is still safe and
+still answers by its rules, but it may meet damage and give 6, or hand out what is in use.
 
 Example:
     #include "heskavern.h"
@@ -45,8 +48,8 @@ Example:
 extern "C" {
 #endif
 
-/* The numbers. Format tests its A and P and then the lengths. In every other call books of under two words are 2; then the tests come in the order
-   1, 2, 3, 5, 7, and then the step, which gives 4 or 6. */
+/* The numbers. Format tests its A and P and then the lengths. In every other call books of under two words are 2; then
+   the tests come in the order 1, 2, 3, 5, 7, and then the step, which gives 4 or 6. */
 enum {
     HESKAVERN_DONE = 0,         /* done */
     HESKAVERN_OUT_OF_RANGE = 1, /* A or P out of range */
@@ -61,21 +64,45 @@ enum {
 /* The largest size that can be asked for. */
 #define HESKAVERN_LARGEST 512
 
+/* A number as a size, by a cast that -Wold-style-cast is quiet about. */
+#ifdef __cplusplus
+#define HESKAVERN_SIZE(n) static_cast<size_t>(n)
+#else
+#define HESKAVERN_SIZE(n) ((size_t)(n))
+#endif
+
 /* The exact lengths of the buffers for A arenas of P pools, and roll words that are always enough. */
-#define HESKAVERN_MEMORY_BYTES(a, p) ((size_t)(a) * (size_t)(p) * 4096)
-#define HESKAVERN_BOOKS_WORDS(a, p) (72 + 8 * (size_t)(a) + 8 * (size_t)(a) * (size_t)(p))
-#define HESKAVERN_MAP_WORDS(a, p) (8 * (size_t)(a) * (size_t)(p))
-#define HESKAVERN_ROLL_WORDS(a, p) (2 * 506 * (size_t)(a) * (size_t)(p))
+#define HESKAVERN_MEMORY_BYTES(a, p) (4096 * HESKAVERN_SIZE(a) * HESKAVERN_SIZE(p))
+#define HESKAVERN_BOOKS_WORDS(a, p) (72 + 8 * HESKAVERN_SIZE(a) + 8 * HESKAVERN_SIZE(a) * HESKAVERN_SIZE(p))
+#define HESKAVERN_MAP_WORDS(a, p) (8 * HESKAVERN_SIZE(a) * HESKAVERN_SIZE(p))
+#define HESKAVERN_ROLL_WORDS(a, p) (2 * 506 * HESKAVERN_SIZE(a) * HESKAVERN_SIZE(p))
 
 /* The six arguments that every call begins with: three buffers of those lengths. */
 #define HESKAVERN_LENT(memory, books, map, a, p) \
     (memory), HESKAVERN_MEMORY_BYTES(a, p), (books), HESKAVERN_BOOKS_WORDS(a, p), (map), HESKAVERN_MAP_WORDS(a, p)
 
-/* An answer that nobody looks at is worth a warning: the call may have been refused. */
-#ifdef __GNUC__
+/* An answer that nobody looks at is worth a warning: the call may have been refused. `(void)` before the call says that
+   this is meant, and then there is none: so the mark is not gcc's warn_unused_result, which warns even then. */
+#if defined __clang__
 #define HESKAVERN_MUST_USE __attribute__((warn_unused_result))
+#elif defined __GNUC__ && __GNUC__ >= 11 && (!defined __cplusplus || __cplusplus >= 201103L)
+#define HESKAVERN_MUST_USE __extension__ [[nodiscard]]
 #else
 #define HESKAVERN_MUST_USE
+#endif
+
+/* No call throws. */
+#if defined __cplusplus && __cplusplus >= 201103L
+#define HESKAVERN_NOEXCEPT noexcept
+#else
+#define HESKAVERN_NOEXCEPT
+#endif
+
+/* The n-th argument points to what the call neither reads nor writes: so gcc does not ask that it be written before. */
+#if defined __GNUC__ && __GNUC__ >= 11 && !defined __clang__
+#define HESKAVERN_UNTOUCHED(n) __attribute__((access(none, n)))
+#else
+#define HESKAVERN_UNTOUCHED(n)
 #endif
 
 /* What a call answers: its number, and the value that it has beside it. */
@@ -90,44 +117,57 @@ typedef struct heskavern_part {
     size_t size;
 } heskavern_part;
 
-/* Format: makes a fresh heap of the given A and P. Writes all books and map, and no memory. Value 0. Refuses with 1, 2. */
-HESKAVERN_MUST_USE heskavern_answer heskavern_format(const uint8_t *memory, size_t memory_bytes, uint32_t *books, size_t books_words, uint64_t *map,
-                                                     size_t map_words, size_t arenas, size_t pools);
+/* Format: makes a fresh heap of the given A and P. Writes all books and map, and no memory. Value 0. Refuses with
+   1, 2. */
+HESKAVERN_MUST_USE heskavern_answer heskavern_format(
+    const uint8_t *memory, size_t memory_bytes, uint32_t *books, size_t books_words, uint64_t *map, size_t map_words,
+    size_t arenas, size_t pools) HESKAVERN_NOEXCEPT HESKAVERN_UNTOUCHED(1);
 
-/* Ask: hands out a block of at least size bytes, which is the asker's until it is given back. Its bytes are not cleared. Value: its offset. Writes
-   books, map, and at most a link of four bytes in a block that is not live. Refuses with 1, 2, 3, 4, 6. */
-HESKAVERN_MUST_USE heskavern_answer heskavern_ask(uint8_t *memory, size_t memory_bytes, uint32_t *books, size_t books_words, uint64_t *map,
-                                                  size_t map_words, size_t size);
+/* Ask: hands out a block of at least size bytes, which is the asker's until it is given back. Its bytes are not
+   cleared. Value: its offset. Writes books, map, and at most a link of four bytes in a block that is not live. Refuses
+   with 1, 2, 3, 4, 6. */
+HESKAVERN_MUST_USE heskavern_answer heskavern_ask(
+    uint8_t *memory, size_t memory_bytes, uint32_t *books, size_t books_words, uint64_t *map, size_t map_words,
+    size_t size) HESKAVERN_NOEXCEPT;
 
-/* Give back: the block is live no more. Value: the given offset. Writes books, map, and a link in the block's first four bytes. Refuses with
-   1, 2, 5, 6. */
-HESKAVERN_MUST_USE heskavern_answer heskavern_give_back(uint8_t *memory, size_t memory_bytes, uint32_t *books, size_t books_words, uint64_t *map,
-                                                        size_t map_words, size_t offset);
+/* Give back: the block is live no more. Value: the given offset. Writes books, map, and a link in the block's first
+   four bytes. Refuses with 1, 2, 5, 6. */
+HESKAVERN_MUST_USE heskavern_answer heskavern_give_back(
+    uint8_t *memory, size_t memory_bytes, uint32_t *books, size_t books_words, uint64_t *map, size_t map_words,
+    size_t offset) HESKAVERN_NOEXCEPT;
 
-/* Resize: makes room for size bytes. Value: the offset of the block that the text is then in. Of a block of s bytes, the offset is kept and nothing
-   changes where size <= s and 4 * size > 3 * s. Otherwise a block is asked for, the first min(size, s) bytes are copied to it, and the old block is given
-   back. Refuses with 1, 2, 3, 5, 4, 6. Number 6 with a value other than 0 is the half-done resize: the text stands in the new block, at that offset, and
-   the old block could not be given back. */
-HESKAVERN_MUST_USE heskavern_answer heskavern_resize(uint8_t *memory, size_t memory_bytes, uint32_t *books, size_t books_words, uint64_t *map,
-                                                     size_t map_words, size_t offset, size_t size);
+/* Resize: makes room for size bytes. Value: the offset of the block that the text is then in. Of a block of s bytes,
+   the offset is kept and nothing changes where size <= s and 4 * size > 3 * s. Otherwise a block is asked for, the
+   first min(size, s) bytes are copied to it, and the old block is given back. Refuses with 1, 2, 3, 5, 4, 6. Number 6
+   with a value other than 0 is the half-done resize: the text stands in the new block, at that offset, and the old
+   block could not be given back. */
+HESKAVERN_MUST_USE heskavern_answer heskavern_resize(
+    uint8_t *memory, size_t memory_bytes, uint32_t *books, size_t books_words, uint64_t *map, size_t map_words,
+    size_t offset, size_t size) HESKAVERN_NOEXCEPT;
 
 /* View's companion: value is the size of the live block. Writes nothing. Refuses with 1, 2, 5. */
-HESKAVERN_MUST_USE heskavern_answer heskavern_view_size(const uint8_t *memory, size_t memory_bytes, const uint32_t *books, size_t books_words,
-                                                        const uint64_t *map, size_t map_words, size_t offset);
+HESKAVERN_MUST_USE heskavern_answer heskavern_view_size(
+    const uint8_t *memory, size_t memory_bytes, const uint32_t *books, size_t books_words, const uint64_t *map,
+    size_t map_words, size_t offset) HESKAVERN_NOEXCEPT;
 
-/* Write: copies the text to the start of a live block; the rest of the block stays. Value: the given offset. Text lies outside memory, so what a view
-   shows is copied out before it is written to another block; and text is not null, even where text_bytes is 0. Refuses with 1, 2, 5, 7. */
-HESKAVERN_MUST_USE heskavern_answer heskavern_write(uint8_t *memory, size_t memory_bytes, const uint32_t *books, size_t books_words,
-                                                    const uint64_t *map, size_t map_words, size_t offset, const void *text, size_t text_bytes);
+/* Write: copies the text to the start of a live block; the rest of the block stays. Value: the given offset. Text lies
+   outside memory, so what a view shows is copied out before it is written to another block; and text is not null, even
+   where text_bytes is 0. Refuses with 1, 2, 5, 7. */
+HESKAVERN_MUST_USE heskavern_answer heskavern_write(
+    uint8_t *memory, size_t memory_bytes, const uint32_t *books, size_t books_words, const uint64_t *map,
+    size_t map_words, size_t offset, const void *text, size_t text_bytes) HESKAVERN_NOEXCEPT;
 
-/* Roll call: writes offset and block size of each live block to roll, by rising offset, and leaves the words after them. Value: how many blocks
-   are live. Refuses with 1, 2, 7. */
-HESKAVERN_MUST_USE heskavern_answer heskavern_roll_call(const uint8_t *memory, size_t memory_bytes, const uint32_t *books, size_t books_words,
-                                                        const uint64_t *map, size_t map_words, uint32_t *roll, size_t roll_words);
+/* Roll call: writes offset and block size of each live block to roll, by rising offset, and leaves the words after
+   them. Value: how many blocks are live. Refuses with 1, 2, 7. */
+HESKAVERN_MUST_USE heskavern_answer heskavern_roll_call(
+    const uint8_t *memory, size_t memory_bytes, const uint32_t *books, size_t books_words, const uint64_t *map,
+    size_t map_words, uint32_t *roll, size_t roll_words) HESKAVERN_NOEXCEPT;
 
-/* View: the live block's own part of memory, the whole block; where view_size refuses, the empty part at memory's start. */
-static inline heskavern_part heskavern_view(const uint8_t *memory, size_t memory_bytes, const uint32_t *books, size_t books_words,
-                                            const uint64_t *map, size_t map_words, size_t offset)
+/* View: the live block's own part of memory, the whole block; where view_size refuses, the empty part at memory's
+   start. */
+static inline heskavern_part heskavern_view(
+    const uint8_t *memory, size_t memory_bytes, const uint32_t *books, size_t books_words, const uint64_t *map,
+    size_t map_words, size_t offset) HESKAVERN_NOEXCEPT
 {
     heskavern_answer sized = heskavern_view_size(memory, memory_bytes, books, books_words, map, map_words, offset);
     heskavern_part part = {memory, 0};

@@ -1,4 +1,5 @@
-/* The cases of 01, run through heskavern.h: K1 to K10, the fills, the moves, and each number from 0 to 7. C99, and C++ too. */
+/* The cases of 01, run through heskavern.h: K1 to K10, the fills, the moves, and each number from 0 to 7. C99, and C++
+   too. */
 #include <stdio.h>
 #include <stdlib.h>
 #include <string.h>
@@ -185,7 +186,8 @@ static void fill_with_8(void)
     EXPECT(nth_of_8(506) == 4088 && nth_of_8(507) == 4144 && nth_of_8(1012) == 8184);
     fresh(1, 2);
     EXPECT(serves_of_8(1012));
-    while (n <= 1012 && is(ASK(8), HESKAVERN_NO_ROOM, 0) && done(GIVE_BACK(nth_of_8(n)), nth_of_8(n)) && done(ASK(8), nth_of_8(n)))
+    while (n <= 1012 && is(ASK(8), HESKAVERN_NO_ROOM, 0) && done(GIVE_BACK(nth_of_8(n)), nth_of_8(n))
+        && done(ASK(8), nth_of_8(n)))
         n++;
     EXPECT(n == 1013);
     expect_untouched();
@@ -285,7 +287,8 @@ static void largest(void)
     expect_untouched();
 }
 
-/* Every call answers this number over the buffers as they are lent, and nothing changes. The sizes and offsets are good ones. */
+/* Every call answers this number over the buffers as they are lent, and nothing changes. The sizes and offsets are
+   good ones. */
 static void expect_refused(uint32_t number)
 {
     remember();

@@ -1,0 +1,67 @@
+/* A program as a careful user writes it: buffers that nothing has written before format, local arrays or (FROM_MALLOC)
+   from malloc; every call, each answer looked at or left alone by `(void)`. C99, and C++ too. tests/c/run compiles it
+   with the warnings that such a user asks for, and none may come. */
+#include <stdio.h>
+#include <stdlib.h>
+#include <string.h>
+#include "heskavern.h"
+
+#if defined FROM_MALLOC && defined __cplusplus
+#define BUFFER(type, name, length) type *name = static_cast<type *>(malloc((length) * sizeof(type)))
+#elif defined FROM_MALLOC
+#define BUFFER(type, name, length) type *name = (type *)malloc((length) * sizeof(type))
+#else
+#define BUFFER(type, name, length) type name[length]
+#endif
+
+enum { A = 1, P = 2 };
+#define HEAP HESKAVERN_LENT(memory, books, map, A, P)
+
+#define EXPECT(fact) expect(fact, #fact, __LINE__)
+static void expect(int fact, const char *words, int line)
+{
+    if (!fact) {
+        printf("careful.c:%d: not so: %s\n", line, words);
+        exit(1);
+    }
+}
+
+int main(void)
+{
+    BUFFER(uint8_t, memory, HESKAVERN_MEMORY_BYTES(A, P));
+    BUFFER(uint32_t, books, HESKAVERN_BOOKS_WORDS(A, P));
+    BUFFER(uint64_t, map, HESKAVERN_MAP_WORDS(A, P));
+    BUFFER(uint32_t, roll, HESKAVERN_ROLL_WORDS(A, P));
+    heskavern_answer word, moved;
+    heskavern_part part;
+#ifdef FROM_MALLOC
+    EXPECT(memory && books && map && roll);
+#endif
+#ifdef __cplusplus
+    static_assert(noexcept(heskavern_format(HEAP, A, P)) && noexcept(heskavern_ask(HEAP, 4))
+        && noexcept(heskavern_give_back(HEAP, 48)) && noexcept(heskavern_resize(HEAP, 48, 100))
+        && noexcept(heskavern_view_size(HEAP, 48)) && noexcept(heskavern_view(HEAP, 48))
+        && noexcept(heskavern_write(HEAP, 48, "owed", 4)) && noexcept(heskavern_roll_call(HEAP, roll, 2)),
+        "no call throws");
+#endif
+    EXPECT(heskavern_format(HEAP, A, P).number == HESKAVERN_DONE);
+    EXPECT(heskavern_view_size(HEAP, 48).number == HESKAVERN_NOT_LIVE);
+    word = heskavern_ask(HEAP, 4);
+    EXPECT(word.number == HESKAVERN_DONE);
+    EXPECT(heskavern_write(HEAP, word.value, "owed", 4).number == HESKAVERN_DONE);
+    moved = heskavern_resize(HEAP, word.value, 100);
+    EXPECT(moved.number == HESKAVERN_DONE);
+    part = heskavern_view(HEAP, moved.value);
+    EXPECT(part.size == 104 && memcmp(part.bytes, "owed", 4) == 0);
+    EXPECT(heskavern_roll_call(HEAP, roll, 2).value == 1);
+    EXPECT(roll[0] == moved.value && roll[1] == part.size);
+    (void)heskavern_give_back(HEAP, moved.value);
+    EXPECT(heskavern_give_back(HEAP, moved.value).number == HESKAVERN_NOT_LIVE);
+#ifdef FROM_MALLOC
+    free(memory);
+    free(books);
+    free(map);
+    free(roll);
+#endif
+    return 0;
+}
