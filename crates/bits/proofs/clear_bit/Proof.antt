@@ -1,4 +1,5 @@
--- `bits::clear_bit` puts the bit of the block to 0: the mask has every bit of the word but that one, so an and keeps the rest.
+-- `bits::clear_bit` puts the bit of the block to 0: the mask has every bit of the word but that one,
+-- so an and keeps the rest.
 -- Assumes nothing.
 use Prim.Native.Nat.{_%_, _<_}
 use Rattle.rules.specs.Books.{mapWord}

@@ -1,4 +1,5 @@
--- `bits::count_live` counts the set bits among the n lowest: shifted to the top of the word, they are all that is left of it.
+-- `bits::count_live` counts the set bits among the n lowest: shifted to the top of the word,
+-- they are all that is left of it.
 -- Assumes nothing.
 use mathlib.Core.Path.{sym, ap, _∙_}
 use native.Mathlib.Nat.{mod-lt, lt-of-le-of-lt}

@@ -12,6 +12,14 @@ use borrow.Author.Needs.{needs}
 use Rattle.heap.proofs.ask.Statement.{statement}
 use Rattle.heap.proofs.ask.Tie as tie
 
+-- the function's start, seen from its first call; an argument more shifts this line alone
+abbrev start : tie.After-size-test → tie.Start
+start c = c .before .before .before .before .before .before .before
+
+-- the step, seen from its answer
+abbrev stepped : tie.After-answer → tie.After-ask-step
+stepped c = c .before .before .before .before .before .before .before
+
 size-test-requires : tie.Need-size-test-requires
 size-test-requires c κs = search needs
 
@@ -31,8 +39,7 @@ returns : tie.Need-returns
 unfolding ask
 returns c =
     let at-size-test = c .before .before in
-    let at-start = at-size-test .before .before .before .before .before .before .before in
-    let a = at-start .args in
+    let a = start at-size-test .args in
     let h = heapOf (a .memory .now) (a .books .now) (a .map .now) in
     refusal h _ (c .refuse .result) (at-size-test .size-test .result) _ (c .refuse .ensures) (at-size-test .size-test .ensures .0) (c .before .if1 .taken)
 
@@ -71,13 +78,12 @@ same-length-6 c = search needs
 returns-2 : tie.Need-returns-2
 unfolding ask
 returns-2 c =
-    let at-ask-step = c .before .before .before .before .before .before .before in
+    let at-ask-step = stepped c in
     let at-word2 = at-ask-step .before .before .before .before in
     let at-word = at-word2 .before .before in
     let at-if1 = at-word .before .before in
     let at-size-test = at-if1 .before in
-    let at-start = at-size-test .before .before .before .before .before .before .before in
-    let a = at-start .args in
+    let a = start at-size-test .args in
     let h = heapOf (a .memory .now) (a .books .now) (a .map .now) in
     let after = heapOf (at-ask-step .ask-step .last .0) (at-ask-step .ask-step .last .1 .0) (at-ask-step .ask-step .last .1 .1 .0) in
     step h _ _ (at-size-test .size-test .result) _

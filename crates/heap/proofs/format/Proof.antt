@@ -11,6 +11,10 @@ use Rattle.books.specs.Passing.{refusal, step}
 use Rattle.heap.proofs.format.Statement.{statement}
 use Rattle.heap.proofs.format.Tie as tie
 
+-- the function's start, seen from its first call; an argument more shifts this line alone
+abbrev start : tie.After-fit-number → tie.Start
+start c = c .before .before .before .before .before .before
+
 fit-number-requires : tie.Need-fit-number-requires
 fit-number-requires c κs = search needs
 
@@ -27,8 +31,7 @@ returns : tie.Need-returns
 unfolding format
 returns c =
     let at-fit-number = c .before .before in
-    let at-start = at-fit-number .before .before .before .before .before .before in
-    let a = at-start .args in
+    let a = start at-fit-number .args in
     refusal (heapOf (a .memory .now) (a .books .now) (a .map .now)) _ (c .refuse .result) (at-fit-number .fit-number .result) _ (c .refuse .ensures)
     (at-fit-number .fit-number .ensures .0) (c .before .if1 .taken)
 
@@ -53,8 +56,7 @@ returns-2 c =
     let at-fresh-books = at-wipe .before .before .before .before in
     let at-if1 = at-fresh-books .before .before in
     let at-fit-number = at-if1 .before in
-    let at-start = at-fit-number .before .before .before .before .before .before in
-    let a = at-start .args in
+    let a = start at-fit-number .args in
     let s = at-fit-number .fit-number .ensures .1 (at-if1 .if1 .left) in
     step (heapOf (a .memory .now) (a .books .now) (a .map .now)) _ _ (at-fit-number .fit-number .result) _
     (ap₂ (λ (x y : List ℕ). done 0 (heapOf (a .memory .now) x y)) (at-fresh-books .fresh-books .ensures)

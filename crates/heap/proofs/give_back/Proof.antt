@@ -1,7 +1,7 @@
 -- `heap::give_back` meets its contract: it tests the shape, and gives back by what the books and the map then show.
 -- Assumes nothing.
 use mathlib.Core.Path.{sym, ap, ap₂, _∙_}
-use Prim.Native.Nat.{ℕ}
+use Prim.Native.Nat.{ℕ, _*_}
 use native.Mathlib.Omega.{arith}
 use Rattle.rules.specs.declared.Answer.{Answer}
 use Rattle.rules.specs.Numbers.{shapeNumber, offsetNumber, giveBack}
@@ -12,6 +12,14 @@ use Rattle.heap.specs.Order.{shape-first}
 use borrow.Author.Needs.{needs}
 use Rattle.heap.proofs.give_back.Statement.{statement}
 use Rattle.heap.proofs.give_back.Tie as tie
+
+-- the function's start, seen from its first call; an argument more shifts this line alone
+abbrev start : tie.After-shape-number → tie.Start
+start c = c .before .before .before .before .before .before .before
+
+-- the step, seen from where its buffers are home
+abbrev stepped : tie.After-slice-known6 → tie.After-give-old
+stepped c = c .before .before .before .before .before .before
 
 shape-number-requires : tie.Need-shape-number-requires
 shape-number-requires c κs = search needs
@@ -32,8 +40,7 @@ returns : tie.Need-returns
 unfolding giveBack
 returns c =
     let at-shape-number = c .before .before in
-    let at-start = at-shape-number .before .before .before .before .before .before .before in
-    let a = at-start .args in
+    let a = start at-shape-number .args in
     let h = heapOf (a .memory .now) (a .books .now) (a .map .now) in
     refusal h _ (c .refuse .result) (at-shape-number .shape-number .result) _ (c .refuse .ensures) (at-shape-number .shape-number .ensures .0)
     (c .before .if1 .taken)
@@ -74,13 +81,12 @@ same-length-6 c = search needs
 returns-2 : tie.Need-returns-2
 unfolding giveBack giveOld
 returns-2 c =
-    let at-give-old = c .before .before .before .before .before .before .before .before in
+    let at-give-old = stepped (c .before .before) in
     let at-word2 = at-give-old .before .before .before .before in
     let at-word = at-word2 .before .before in
     let at-if1 = at-word .before .before in
     let at-shape-number = at-if1 .before in
-    let at-start = at-shape-number .before .before .before .before .before .before .before in
-    let a = at-start .args in
+    let a = start at-shape-number .args in
     let h = heapOf (a .memory .now) (a .books .now) (a .map .now) in
     let after = heapOf (at-give-old .give-old .last .0) (at-give-old .give-old .last .1 .0) (at-give-old .give-old .last .1 .1 .0) in
     ap (λ (x : Answer). outcome x after)
@@ -92,14 +98,14 @@ returns-2 c =
 
 cast-t26 : tie.Need-cast-t26
 cast-t26 c =
-    let at-give-old = c .before .before .before .before .before .before .before in
+    let at-give-old = stepped (c .before) in
     let at-word2 = at-give-old .before .before .before .before in
     let at-word = at-word2 .before .before in
     let at-if1 = at-word .before .before in
     let at-shape-number = at-if1 .before in
     let s = at-shape-number .shape-number .ensures .1 (at-if1 .if1 .left) in
-    let inside = rw (at-word .word .ensures .0, at-word2 .word2 .ensures .0) at (at-give-old .give-old .ensures .1 (c .if2 .left)) in
-    omega (arith, inside, s .all)
+    let e = ap₂ (λ (x y : ℕ). x * y) (at-word .word .ensures .0) (at-word2 .word2 .ensures .0) in
+    omega (arith, at-give-old .give-old .ensures .1 (c .if2 .left), s .all)
 
 same-length-7 : tie.Need-same-length-7
 same-length-7 c = search needs
@@ -113,13 +119,12 @@ same-length-9 c = search needs
 returns-3 : tie.Need-returns-3
 unfolding giveBack giveOld
 returns-3 c =
-    let at-give-old = c .before .before .before .before .before .before .before in
+    let at-give-old = stepped (c .before) in
     let at-word2 = at-give-old .before .before .before .before in
     let at-word = at-word2 .before .before in
     let at-if1 = at-word .before .before in
     let at-shape-number = at-if1 .before in
-    let at-start = at-shape-number .before .before .before .before .before .before .before in
-    let a = at-start .args in
+    let a = start at-shape-number .args in
     let h = heapOf (a .memory .now) (a .books .now) (a .map .now) in
     let after = heapOf (at-give-old .give-old .last .0) (at-give-old .give-old .last .1 .0) (at-give-old .give-old .last .1 .1 .0) in
     ap (λ (x : Answer). outcome x after) (sym (passed (λ n. answerOf n 0) (answerOf 0 (a .offset)) (at-give-old .give-old .result) (c .if2 .left)))

@@ -1,4 +1,5 @@
--- `heap::offset_test` meets its contract: it makes the tests of the shape and of the offset in 01's order; the first that is not 0 decides.
+-- `heap::offset_test` meets its contract: it makes the tests of the shape and of the offset in 01's order;
+-- the first that is not 0 decides.
 -- Assumes nothing.
 use mathlib.Core.Path.{sym, ap₂, _∙_}
 use Prim.Native.Nat.{ℕ}

@@ -13,6 +13,14 @@ use borrow.Author.Needs.{needs}
 use Rattle.heap.proofs.resize.Statement.{statement}
 use Rattle.heap.proofs.resize.Tie as tie
 
+-- the function's start, seen from its first call; an argument more shifts this line alone
+abbrev start : tie.After-size-test → tie.Start
+start c = c .before .before .before .before .before .before .before
+
+-- the step, seen from where its buffers are home
+abbrev stepped : tie.After-slice-known6 → tie.After-resize-step
+stepped c = c .before .before .before .before .before .before
+
 size-test-requires : tie.Need-size-test-requires
 size-test-requires c κs = search needs
 
@@ -33,8 +41,7 @@ unfolding resize
 returns c =
     let at-if1 = c .before in
     let at-size-test = at-if1 .before in
-    let at-start = at-size-test .before .before .before .before .before .before .before in
-    let a = at-start .args in
+    let a = start at-size-test .args in
     let h = heapOf (a .memory .now) (a .books .now) (a .map .now) in
     refusal h _ (c .refuse .result) (at-size-test .size-test .result) _ (c .refuse .ensures)
     (at-size-test .size-test .ensures .0
@@ -82,8 +89,7 @@ returns-2 c =
     let at-word = at-word2 .before .before in
     let at-if1 = at-word .before .before in
     let at-size-test = at-if1 .before in
-    let at-start = at-size-test .before .before .before .before .before .before .before in
-    let a = at-start .args in
+    let a = start at-size-test .args in
     let h = heapOf (a .memory .now) (a .books .now) (a .map .now) in
     refusal h _ (c .refuse2 .result) (at-live-number .live-number .result) _ (c .refuse2 .ensures)
     (at-live-number .live-number .ensures .0
@@ -115,15 +121,14 @@ same-length-9 c = search needs
 returns-3 : tie.Need-returns-3
 unfolding resize
 returns-3 c =
-    let at-resize-step = c .before .before .before .before .before .before in
+    let at-resize-step = stepped c in
     let at-if2 = at-resize-step .before .before .before .before in
     let at-live-number = at-if2 .before in
     let at-word2 = at-live-number .before .before .before .before in
     let at-word = at-word2 .before .before in
     let at-if1 = at-word .before .before in
     let at-size-test = at-if1 .before in
-    let at-start = at-size-test .before .before .before .before .before .before .before in
-    let a = at-start .args in
+    let a = start at-size-test .args in
     let h = heapOf (a .memory .now) (a .books .now) (a .map .now) in
     step h _ _ (at-live-number .live-number .result) _
     (at-resize-step .resize-step .ensures

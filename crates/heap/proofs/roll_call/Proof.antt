@@ -1,4 +1,5 @@
--- `heap::roll_call` meets its contract: it counts before it writes, so that nothing is written where the room is too small.
+-- `heap::roll_call` meets its contract: it counts before it writes,
+-- so that nothing is written where the room is too small.
 -- Assumes nothing.
 use mathlib.Core.List.{List}
 use mathlib.Core.Path.{_≡_, sym, ap, ap₂, _∙_}
@@ -18,6 +19,14 @@ use Rattle.heap.specs.Order.{too-little, enough}
 use Rattle.heap.proofs.roll_call.Statement.{statement}
 use Rattle.heap.proofs.roll_call.Tie as tie
 
+-- the function's start, seen from its first call; an argument more shifts this line alone
+abbrev start : tie.After-shape-number → tie.Start
+start c = c .before .before .before .before .before
+
+-- the count, seen from the roll
+abbrev counted : tie.After-put-roll → tie.After-count-words
+counted c = c .before .before .before
+
 shape-number-requires : tie.Need-shape-number-requires
 shape-number-requires c κs = search needs
 
@@ -25,8 +34,7 @@ returns : tie.Need-returns
 unfolding rollCall
 returns c =
     let at-shape-number = c .before in
-    let at-start = at-shape-number .before .before .before .before .before in
-    let a = at-start .args in
+    let a = start at-shape-number .args in
     let h = heapOf (a .memory .now) (a .books .now) (a .map .now) in
     let room = roomNumber (length (rollOf 8 h)) (length (a .roll .now)) in
     let first : inOrder (shapeNumber h) 0 0 room ≡ shapeNumber h =
@@ -67,8 +75,7 @@ returns-2 c =
     let at-word = at-word2 .before in
     let at-if1 = at-word .before in
     let at-shape-number = at-if1 .before in
-    let at-start = at-shape-number .before .before .before .before .before in
-    let a = at-start .args in
+    let a = start at-shape-number .args in
     let h = heapOf (a .memory .now) (a .books .now) (a .map .now) in
     let wanted = length (rollOf 8 h) in
     let f : at-count-words .count-words .result ≡ wanted = at-count-words .count-words .ensures
@@ -92,13 +99,12 @@ put-roll-requires c κs =
 
 cast-t14 : tie.Need-cast-t14
 cast-t14 c =
-    let at-count-words = c .before .before .before .before .before in
+    let at-count-words = counted (c .before .before) in
     let at-word2 = at-count-words .before in
     let at-word = at-word2 .before in
     let at-if1 = at-word .before in
     let at-shape-number = at-if1 .before in
-    let at-start = at-shape-number .before .before .before .before .before in
-    let a = at-start .args in
+    let a = start at-shape-number .args in
     let s = at-shape-number .shape-number .ensures .1 (at-if1 .if1 .left) in
     let e = ap₂ (λ (x y : ℕ). x * y) (at-word .word .ensures .0) (at-word2 .word2 .ensures .0) in
     omega (
@@ -115,13 +121,12 @@ returns-3 : tie.Need-returns-3
 unfolding rollCall
 returns-3 c =
     let at-put-roll = c .before .before in
-    let at-count-words = at-put-roll .before .before .before in
+    let at-count-words = counted at-put-roll in
     let at-word2 = at-count-words .before in
     let at-word = at-word2 .before in
     let at-if1 = at-word .before in
     let at-shape-number = at-if1 .before in
-    let at-start = at-shape-number .before .before .before .before .before in
-    let a = at-start .args in
+    let a = start at-shape-number .args in
     let h = heapOf (a .memory .now) (a .books .now) (a .map .now) in
     let wanted = length (rollOf 8 h) in
     let f : at-count-words .count-words .result ≡ wanted = at-count-words .count-words .ensures

@@ -1,4 +1,5 @@
--- `heap::size_test` meets its contract: it makes the tests of the shape and of the size in 01's order; the first that is not 0 decides.
+-- `heap::size_test` meets its contract: it makes the tests of the shape and of the size in 01's order;
+-- the first that is not 0 decides.
 -- Assumes nothing.
 use mathlib.Core.Path.{sym, _∙_}
 use borrow.Author.Needs.{needs}
@@ -25,8 +26,11 @@ returns-2 c =
     let at-if1 = c .before in
     let at-shape-number = at-if1 .before in (
       c .size-number .ensures .0 ∙ sym (last-test _) ∙ sym (passed (λ n. n) _ _ (sym (at-shape-number .shape-number .ensures .0) ∙ at-if1 .if1 .left)),
-      λ z. record
-          { shaped = at-shape-number .shape-number .ensures .1 (at-if1 .if1 .left); low = c .size-number .ensures .1 z .0; high = c .size-number .ensures .1 z .1 },
+      λ z. record {
+        shaped = at-shape-number .shape-number .ensures .1 (at-if1 .if1 .left);
+        low = c .size-number .ensures .1 z .0;
+        high = c .size-number .ensures .1 z .1;
+      },
     )
 
 pub size-test-spec : {M : Type 1} → statement M

@@ -14,6 +14,10 @@ use Rattle.books.specs.Passing.{stopped, passed}
 use Rattle.heap.proofs.view.Statement.{statement}
 use Rattle.heap.proofs.view.Tie as tie
 
+-- the function's start, seen from its first call; an argument more shifts this line alone
+abbrev start : tie.After-offset-test → tie.Start
+start c = c .before .before .before .before
+
 offset-test-requires : tie.Need-offset-test-requires
 offset-test-requires c κs = search needs
 
@@ -31,8 +35,7 @@ unfolding view
 returns c =
     let at-if1 = c .before in
     let at-offset-test = at-if1 .before in
-    let at-start = at-offset-test .before .before .before .before in
-    let a = at-start .args in (
+    let a = start at-offset-test .args in (
       ap (λ (p : List ℕ). p beside heapOf (a .memory .now) (a .books .now) (a .map .now))
           (sym (stopped (λ k. []) _ _ (λ z. at-if1 .if1 .taken (at-offset-test .offset-test .ensures .0 ∙ z)))),
       (
@@ -71,8 +74,7 @@ returns-2 c =
     let at-block-size = c .before in
     let at-if1 = at-block-size .before in
     let at-offset-test = at-if1 .before in
-    let at-start = at-offset-test .before .before .before .before in
-    let a = at-start .args in (
+    let a = start at-offset-test .args in (
       ap (λ (p : List ℕ). p beside heapOf (a .memory .now) (a .books .now) (a .map .now))
           (ap (λ (n : ℕ). take n (drop (a .offset) (a .memory .now)))
           (add-sub-cancel-left (a .offset) (at-block-size .block-size .result) ∙ at-block-size .block-size .ensures .0)

@@ -12,6 +12,10 @@ use Rattle.books.specs.Passing.{stopped, passed}
 use Rattle.heap.proofs.view_size.Statement.{statement}
 use Rattle.heap.proofs.view_size.Tie as tie
 
+-- the function's start, seen from its first call; an argument more shifts this line alone
+abbrev start : tie.After-offset-test → tie.Start
+start c = c .before .before .before .before
+
 offset-test-requires : tie.Need-offset-test-requires
 offset-test-requires c κs = search needs
 
@@ -19,8 +23,7 @@ returns : tie.Need-returns
 unfolding viewSize
 returns c =
     let at-offset-test = c .before in
-    let at-start = at-offset-test .before .before .before .before in
-    let a = at-start .args in
+    let a = start at-offset-test .args in
     ap (λ (s : Sized). s beside heapOf (a .memory .now) (a .books .now) (a .map .now))
     (ap (λ (n : ℕ). sizedOf n 0) (at-offset-test .offset-test .ensures .0)
     ∙ sym (stopped (λ k. sizedOf k 0) _ _ (λ z. c .if1 .taken (at-offset-test .offset-test .ensures .0 ∙ z))))
@@ -37,8 +40,7 @@ returns-2 : tie.Need-returns-2
 unfolding viewSize
 returns-2 c =
     let at-offset-test = c .before .before in
-    let at-start = at-offset-test .before .before .before .before in
-    let a = at-start .args in
+    let a = start at-offset-test .args in
     ap (λ (s : Sized). s beside heapOf (a .memory .now) (a .books .now) (a .map .now))
     (ap (sizedOf 0) (c .block-size .ensures .0)
     ∙ sym (passed (λ k. sizedOf k 0) _ _ (sym (at-offset-test .offset-test .ensures .0) ∙ c .before .if1 .left)))

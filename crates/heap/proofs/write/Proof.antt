@@ -13,6 +13,14 @@ use Rattle.heap.specs.Order.{room-after, too-little, enough}
 use Rattle.heap.proofs.write.Statement.{statement}
 use Rattle.heap.proofs.write.Tie as tie
 
+-- the function's start, seen from its first call; an argument more shifts this line alone
+abbrev start : tie.After-offset-test → tie.Start
+start c = c .before .before .before .before .before .before
+
+-- the block's size, seen from the copy
+abbrev sized : tie.After-copy-in → tie.After-block-size
+sized c = c .before .before .before
+
 offset-test-requires : tie.Need-offset-test-requires
 offset-test-requires c κs = search needs
 
@@ -27,8 +35,7 @@ unfolding write
 returns c =
     let at-if1 = c .before in
     let at-offset-test = at-if1 .before in
-    let at-start = at-offset-test .before .before .before .before .before .before in
-    let a = at-start .args in
+    let a = start at-offset-test .args in
     let h = heapOf (a .memory .now) (a .books .now) (a .map .now) in
     refusal h _ (c .refuse .result) (at-offset-test .offset-test .result) _ (c .refuse .ensures)
     (at-offset-test .offset-test .ensures .0
@@ -53,8 +60,7 @@ returns-2 c =
     let at-block-size = c .before .before in
     let at-if1 = at-block-size .before in
     let at-offset-test = at-if1 .before in
-    let at-start = at-offset-test .before .before .before .before .before .before in
-    let a = at-start .args in
+    let a = start at-offset-test .args in
     let h = heapOf (a .memory .now) (a .books .now) (a .map .now) in
     refusal h _ (c .refuse2 .result) 7 _ (c .refuse2 .ensures)
     (sym (too-little (length (a .text .now)) (blockSize 8 h (a .offset)) (omega (arith, at-block-size .block-size .ensures .0)))
@@ -71,7 +77,7 @@ copy-in-requires c κs =
 
 cast-t15 : tie.Need-cast-t15
 cast-t15 c =
-    let at-if1 = c .before .before .before .before .before .before in
+    let at-if1 = sized (c .before .before) .before in
     let at-offset-test = at-if1 .before in
     let t = at-offset-test .offset-test .ensures .1 (at-if1 .if1 .left) in
     omega (arith, t .shaped .memory, t .shaped .all, t .live .inside)
@@ -83,11 +89,10 @@ returns-3 : tie.Need-returns-3
 unfolding write
 returns-3 c =
     let at-copy-in = c .before .before in
-    let at-block-size = at-copy-in .before .before .before in
+    let at-block-size = sized at-copy-in in
     let at-if1 = at-block-size .before in
     let at-offset-test = at-if1 .before in
-    let at-start = at-offset-test .before .before .before .before .before .before in
-    let a = at-start .args in
+    let a = start at-offset-test .args in
     let h = heapOf (a .memory .now) (a .books .now) (a .map .now) in
     step h _ _ 0 _ (ap (λ (x : List ℕ). done (a .offset) (heapOf x (a .books .now) (a .map .now))) (at-copy-in .copy-in .ensures))
     (sym (enough (length (a .text .now)) (blockSize 8 h (a .offset)) (omega (arith, at-block-size .block-size .ensures .0)))

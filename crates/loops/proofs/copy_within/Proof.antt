@@ -1,4 +1,5 @@
--- `loops::copy_within` stores the bytes as they stood: at turn i those from byte i on are left, and none that is still to be read was written.
+-- `loops::copy_within` stores the bytes as they stood: at turn i those from byte i on are left,
+-- and none that is still to be read was written.
 -- Assumes nothing.
 use mathlib.Core.Path.{ap}
 use Prim.Native.Nat.{_+_, _-_, _≤_}

@@ -21,34 +21,36 @@ Inv-loop map pool size blocks words₀ i₀ i-end words i =
 abbrev μ-loop : tie.MeasureT-loop
 μ-loop map pool size blocks words₀ i₀ i-end words i = i-end - i
 
+-- the function's start, seen from its loop; an argument more shifts this line alone
+abbrev start : tie.After-shared-slice-known Inv-loop μ-loop → tie.Start Inv-loop μ-loop
+start c = c .before
+
+-- the turn's beginning, seen from its count
+abbrev begun : tie.After-count-live Inv-loop μ-loop → tie.At-loop Inv-loop μ-loop
+begun c = c .before .before .before .before
+
 div-blocks : tie.Need-div-blocks Inv-loop μ-loop
 div-blocks c = omega arith
 
 add-i-end : tie.Need-add-i-end Inv-loop μ-loop
-add-i-end c = omega (arith, capacity-le (c .before .args .size) (omega arith))
+add-i-end c = omega (arith, capacity-le (start c .args .size) (omega arith))
 
 loop-holds : tie.Need-loop-holds Inv-loop μ-loop
 loop-holds c =
-    let a = c .before .args in
+    let a = start c .args in
     (omega (arith, ap length (word-parts (a .map .now) (a .pool) (a .size) (capacity (a .size)) .first)), omega arith)
 
 mul-count-live : tie.Need-mul-count-live Inv-loop μ-loop
 mul-count-live c = omega arith
 
 add-count-live : tie.Need-add-count-live Inv-loop μ-loop
-add-count-live c =
-    let at-start = c .before .before .before in
-    omega (arith, capacity-le (at-start .args .size) (omega arith))
+add-count-live c = omega (arith, capacity-le (start (c .before .before) .args .size) (omega arith))
 
 mul-count-live-2 : tie.Need-mul-count-live-2 Inv-loop μ-loop
-mul-count-live-2 c =
-    let at-start = c .before .before .before in
-    omega (arith, capacity-le (at-start .args .size) (omega arith))
+mul-count-live-2 c = omega (arith, capacity-le (start (c .before .before) .args .size) (omega arith))
 
 shared-slice-read-count-live : tie.Need-shared-slice-read-count-live Inv-loop μ-loop
-shared-slice-read-count-live c =
-    let at-start = c .before .before .before .before in
-    omega (arith, capacity-le (at-start .args .size) (omega arith))
+shared-slice-read-count-live c = omega (arith, capacity-le (start (c .before .before .before) .args .size) (omega arith))
 
 in-word-requires : tie.Need-in-word-requires Inv-loop μ-loop
 in-word-requires c κs = omega arith
@@ -58,15 +60,14 @@ count-live-requires c κs = omega (arith, c .in-word .ensures)
 
 -- a turn counts two words for each live block of word i
 counted : (c : tie.After-count-live Inv-loop μ-loop)
-    → let a = c .before .before .before .before .before .before .args in
-    let i = c .before .before .before .before .loop .i in
+    → let a = start (begun c .before) .args in
+    let i = begun c .loop .i in
     let n = capacity (a .size) in
     length (rollBlocks (a .map .now) (a .pool) (a .size) (64 * i) (n - 64 * i))
     ≡ 2 * c .count-live .result + length (rollBlocks (a .map .now) (a .pool) (a .size) (64 * (i + 1)) (n - 64 * (i + 1)))
 counted c =
-    let at-loop = c .before .before .before .before in
-    let at-start = at-loop .before .before in
-    let a = at-start .args in
+    let at-loop = begun c in
+    let a = start (at-loop .before) .args in
     let i = at-loop .loop .i in
     let n = capacity (a .size) in
     let live = rw (c .before .in-word .ensures) at (c .count-live .ensures) in
@@ -79,20 +80,16 @@ counted c =
 
 mul-words : tie.Need-mul-words Inv-loop μ-loop
 mul-words c =
-    let at-start = c .before .before .before .before .before .before in
-    let a = at-start .args in
+    let a = start (begun c .before) .args in
     omega (arith, counted c, length-blocks (a .map .now) (a .pool) (a .size) 0 (capacity (a .size)), capacity-le (a .size) (omega arith))
 
 add-words : tie.Need-add-words Inv-loop μ-loop
 add-words c =
-    let at-start = c .before .before .before .before .before .before in
-    let a = at-start .args in
+    let a = start (begun c .before) .args in
     omega (arith, counted c, length-blocks (a .map .now) (a .pool) (a .size) 0 (capacity (a .size)), capacity-le (a .size) (omega arith))
 
 add-i : tie.Need-add-i Inv-loop μ-loop
-add-i c =
-    let at-start = c .before .before .before .before .before .before in
-    omega (arith, capacity-le (at-start .args .size) (omega arith))
+add-i c = omega (arith, capacity-le (start (begun c .before) .args .size) (omega arith))
 
 loop-less : tie.Need-loop-less Inv-loop μ-loop
 loop-less c = omega arith
@@ -102,8 +99,7 @@ loop-again c = omega (arith, counted c)
 
 returns : tie.Need-returns Inv-loop μ-loop
 returns c =
-    let at-start = c .before .before .before in
-    let a = at-start .args in
+    let a = start (c .before .before) .args in
     omega (arith, ap length (none-left (word-parts (a .map .now) (a .pool) (a .size) (capacity (a .size))) (c .before .loop .i) (omega arith)))
 
 pub count-blocks-spec : {M : Type 1} → statement M

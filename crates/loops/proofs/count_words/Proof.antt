@@ -17,9 +17,13 @@ Inv-loop books map arenas n words₀ pool₀ words pool =
 abbrev μ-loop : tie.MeasureT-loop
 μ-loop books map arenas n words₀ pool₀ words pool = n - pool
 
+-- the function's start, seen from its loop; an argument more shifts this line alone
+abbrev start : tie.After-shared-slice-known2 Inv-loop μ-loop → tie.Start Inv-loop μ-loop
+start c = c .before .before
+
 loop-holds : tie.Need-loop-holds Inv-loop μ-loop
 loop-holds c =
-    let a = c .before .before .args in
+    let a = start c .args in
     (omega (arith, ap length (roll-parts 8 (a .arenas) (a .books .now) (a .map .now) (a .n) .first)), omega arith)
 
 count-pool-requires : tie.Need-count-pool-requires Inv-loop μ-loop
@@ -28,8 +32,7 @@ count-pool-requires c κs = omega arith
 add-words : tie.Need-add-words Inv-loop μ-loop
 add-words c =
     let at-loop = c .before .before in
-    let at-start = at-loop .before .before .before in
-    let a = at-start .args in
+    let a = start (at-loop .before) .args in
     let f = fewer (roll-parts 8 (a .arenas) (a .books .now) (a .map .now) (a .n)) (at-loop .loop .pool) (omega arith) in
     let l = length-roll 8 (a .arenas) (a .books .now) (a .map .now) (omega arith) 0 (a .n) in
     omega (arith, c .count-pool .ensures)
@@ -43,16 +46,14 @@ loop-less c = omega arith
 loop-again : tie.Need-loop-again Inv-loop μ-loop
 loop-again c =
     let at-loop = c .before .before in
-    let at-start = at-loop .before .before .before in
-    let a = at-start .args in
+    let a = start (at-loop .before) .args in
     let f = fewer (roll-parts 8 (a .arenas) (a .books .now) (a .map .now) (a .n)) (at-loop .loop .pool) (omega arith) in
     omega (arith, c .count-pool .ensures)
 
 returns : tie.Need-returns Inv-loop μ-loop
 returns c =
-    let at-start = c .before .before .before .before in
     let p = c .before .loop in
-    let a = at-start .args in
+    let a = start (c .before .before) .args in
     omega (arith, ap length (none-left (roll-parts 8 (a .arenas) (a .books .now) (a .map .now) (a .n)) (p .pool) (omega arith)))
 
 pub count-words-spec : {M : Type 1} → statement M

@@ -1,4 +1,5 @@
--- `loops::fresh_books` leaves the books of a fresh heap: heads, arena records and pool records, one after the other, take every word.
+-- `loops::fresh_books` leaves the books of a fresh heap: heads, arena records and pool records, one after the other,
+-- take every word.
 -- Assumes nothing.
 use mathlib.Core.Path.{ap, _∙_}
 use mathlib.Core.List.{List}
@@ -53,13 +54,14 @@ returns : tie.Need-returns
 returns c =
     let at-fresh-pools = c .before .before in
     let at-fresh-arenas = at-fresh-pools .before .before .before .before in
-    let b = at-fresh-arenas .before .before .before in
-    let a = b .before .before .before .before .before .args in
+    let at-put-words = at-fresh-arenas .before .before .before .before in
+    let at-start = at-put-words .before .before .before .before in
+    let a = at-start .args in
     let arenas = at-fresh-arenas .fresh-arenas .ensures in
     at-fresh-pools .fresh-pools .ensures
     ∙ ap (λ (x : List ℕ). sets x (72 + 8 * a .arenas) (freshPools (a .arenas * a .pools)))
-    (arenas ∙ ap (λ (x : List ℕ). sets x 72 (freshArenas 0 (a .arenas))) (b .before .put-words .ensures))
-    ∙ fresh-whole (a .books .now) (a .arenas) (a .pools) (b .before .before .before .before .before .pre .2)
+    (arenas ∙ ap (λ (x : List ℕ). sets x 72 (freshArenas 0 (a .arenas))) (at-put-words .put-words .ensures))
+    ∙ fresh-whole (a .books .now) (a .arenas) (a .pools) (at-start .pre .2)
 
 pub fresh-books-spec : {M : Type 1} → statement M
 fresh-books-spec =

@@ -16,17 +16,19 @@ Inv-loop books map arenas n roll₀ place₀ pool₀ roll place pool =
 abbrev μ-loop : tie.MeasureT-loop
 μ-loop books map arenas n roll₀ place₀ pool₀ roll place pool = n - pool
 
+-- the function's start, seen from its loop; an argument more shifts this line alone
+abbrev start : tie.After-slice-known Inv-loop μ-loop → tie.Start Inv-loop μ-loop
+start c = c .before .before .before
+
 loop-holds : tie.Need-loop-holds Inv-loop μ-loop
 loop-holds c =
-    let at-start = c .before .before .before in
-    let a = at-start .args in
+    let a = start c .args in
     (begin (roll-parts 8 (a .arenas) (a .books .now) (a .map .now) (a .n)) _ 0 _ refl, omega arith)
 
 roll-pool-requires : tie.Need-roll-pool-requires Inv-loop μ-loop
 roll-pool-requires c κs =
     let at-loop = c .before .before in
-    let at-start = at-loop .before .before .before .before in
-    let a = at-start .args in
+    let a = start (at-loop .before) .args in
     let f = fewer (roll-parts 8 (a .arenas) (a .books .now) (a .map .now) (a .n)) (at-loop .loop .pool) (omega arith) in
     omega arith
 
@@ -40,9 +42,8 @@ loop-again : tie.Need-loop-again Inv-loop μ-loop
 loop-again c =
     let at-roll-pool = c .before .before in
     let at-loop = at-roll-pool .before .before .before in
-    let at-start = at-loop .before .before .before .before in
     let p = at-loop .loop in
-    let a = at-start .args in (
+    let a = start (at-loop .before) .args in (
       turn (roll-parts 8 (a .arenas) (a .books .now) (a .map .now) (a .n)) (p .pool) (omega arith) (p .inv .0)
           (at-roll-pool .roll-pool .ensures),
       omega arith,
@@ -53,9 +54,8 @@ same-length c = c .before .loop .inv .0 .long
 
 returns : tie.Need-returns Inv-loop μ-loop
 returns c =
-    let at-start = c .before .before .before .before .before in
     let p = c .before .loop in
-    let a = at-start .args in
+    let a = start (c .before .before) .args in
     done (roll-parts 8 (a .arenas) (a .books .now) (a .map .now) (a .n)) (p .pool) (omega arith) (p .inv .0) .same
 
 pub put-roll-spec : {M : Type 1} → statement M

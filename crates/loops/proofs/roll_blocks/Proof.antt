@@ -19,23 +19,30 @@ Inv-loop map pool size roll₀ at blocks place₀ i₀ i-end roll place i =
 abbrev μ-loop : tie.MeasureT-loop
 μ-loop map pool size roll₀ at blocks place₀ i₀ i-end roll place i = i-end - i
 
+-- the function's start, seen from its loop; an argument more shifts this line alone
+abbrev start : tie.After-slice-known Inv-loop μ-loop → tie.Start Inv-loop μ-loop
+start c = c .before .before
+
+-- past the loop's test, seen from the turn's call
+abbrev entered : tie.After-roll-word-arg Inv-loop μ-loop → tie.In-loop Inv-loop μ-loop
+entered c = c .before .before .before
+
 div-blocks : tie.Need-div-blocks Inv-loop μ-loop
 div-blocks c = omega arith
 
 add-i-end : tie.Need-add-i-end Inv-loop μ-loop
-add-i-end c = omega (arith, capacity-le (c .before .before .args .size) (omega arith))
+add-i-end c = omega (arith, capacity-le (start c .args .size) (omega arith))
 
 loop-holds : tie.Need-loop-holds Inv-loop μ-loop
 loop-holds c =
-    let a = c .before .before .args in
+    let a = start c .args in
     (begin (word-parts (a .map .now) (a .pool) (a .size) (capacity (a .size))) _ (a .at) _ refl, omega arith)
 
 -- word i is one of the pool's eight, and its first block lies in the pool
 inside : (c : tie.In-loop Inv-loop μ-loop)
-    → (c .before .loop .i < 8) × (64 * c .before .loop .i * c .before .before .before .before .args .size ≤ 4048)
+    → (c .before .loop .i < 8) × (64 * c .before .loop .i * start (c .before .before) .args .size ≤ 4048)
 inside c =
-    let at-start = c .before .before .before .before in
-    let s = at-start .args .size in
+    let s = start (c .before .before) .args .size in
     (omega (arith, capacity-le s (omega arith)), block-inside s (64 * c .before .loop .i) (omega arith))
 
 mul-word : tie.Need-mul-word Inv-loop μ-loop
@@ -70,19 +77,16 @@ in-word-requires c κs = omega arith
 
 roll-word-requires : tie.Need-roll-word-requires Inv-loop μ-loop
 roll-word-requires c κs =
-    let in-loop = c .before .before .before in
+    let in-loop = entered c in
     let at-loop = in-loop .before in
-    let at-start = at-loop .before .before .before in
-    let a = at-start .args in
+    let a = start (at-loop .before) .args in
     let p = at-loop .loop in
     let f = fewer (word-parts (a .map .now) (a .pool) (a .size) (capacity (a .size))) (p .i) (omega arith) in
     rw (c .before .in-word .ensures)
     (omega (arith, inside in-loop), omega arith, omega arith, omega (arith, p .inv .0 .place, p .inv .0 .long))
 
 add-i : tie.Need-add-i Inv-loop μ-loop
-add-i c =
-    let in-loop = c .before .before .before .before .before .before in
-    omega (arith, inside in-loop)
+add-i c = omega (arith, inside (entered (c .before .before .before)))
 
 loop-less : tie.Need-loop-less Inv-loop μ-loop
 loop-less c = omega arith
@@ -92,8 +96,7 @@ loop-again c =
     let at-roll-word = c .before .before in
     let at-in-word = at-roll-word .before .before in
     let at-loop = at-in-word .before .before .before in
-    let at-start = at-loop .before .before .before in
-    let a = at-start .args in
+    let a = start (at-loop .before) .args in
     let p = at-loop .loop in
     let stored = rw (at-in-word .in-word .ensures) at (at-roll-word .roll-word .ensures) in (
       turn (word-parts (a .map .now) (a .pool) (a .size) (capacity (a .size))) (p .i) (omega arith) (p .inv .0) stored,
@@ -105,8 +108,7 @@ same-length c = c .before .loop .inv .0 .long
 
 returns : tie.Need-returns Inv-loop μ-loop
 returns c =
-    let at-start = c .before .before .before .before in
-    let a = at-start .args in
+    let a = start (c .before .before) .args in
     let p = c .before .loop in
     done (word-parts (a .map .now) (a .pool) (a .size) (capacity (a .size))) (p .i) (omega arith) (p .inv .0)
 

@@ -10,6 +10,10 @@ use Rattle.loops.specs.Roll.{no-class, of-class}
 use Rattle.loops.proofs.roll_pool.Statement.{statement}
 use Rattle.loops.proofs.roll_pool.Tie as tie
 
+-- the function's start, seen from its first call; an argument more shifts this line alone
+abbrev start : tie.After-class-at → tie.Start
+start c = c .before .before .before .before
+
 mul-class-at : tie.Need-mul-class-at
 mul-class-at c = search needs
 
@@ -18,8 +22,7 @@ class-at-requires c κs = search needs
 
 returns : tie.Need-returns
 returns c =
-    let at-start = c .before .before .before .before .before in
-    let a = at-start .args in
+    let a = start (c .before) .args in
     let r = c .before .class-at in
     rw (no-class 8 (a .arenas) (a .books .now) (a .map .now) (a .pool) (r .result) (r .ensures) (c .if1 .taken))
     (record { same = refl; place = omega arith })
@@ -29,14 +32,13 @@ size-of-requires c κs = search needs
 
 -- where the code goes on the pool has a class
 classed : (c : tie.After-roll-blocks-arg)
-    → let a = c .before .before .before .before .before .before .before .args in
+    → let a = start (c .before .before .before) .args in
     let s = c .before .size-of .result in
     rollPool 8 (a .arenas) (a .books .now) (a .map .now) (a .pool) ≡ rollBlocks (a .map .now) (a .pool) s 0 (capacity s)
 classed c =
     let at-if1 = c .before .before in
     let at-class-at = at-if1 .before in
-    let at-start = at-class-at .before .before .before .before in
-    let a = at-start .args in
+    let a = start at-class-at .args in
     let r = at-class-at .class-at in
     let s = c .before .size-of in
     of-class 8 (a .arenas) (a .books .now) (a .map .now) (a .pool) (r .result) (r .ensures) (s .result) (s .ensures .0) (at-if1 .if1 .left)

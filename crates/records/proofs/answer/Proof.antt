@@ -11,9 +11,17 @@ use Rattle.records.specs.Replies.{replyOf, refusalOf, repliedWith, count
 use Rattle.records.proofs.answer.Statement.{statement}
 use Rattle.records.proofs.answer.Tie as tie
 
+-- the function's start, seen from its first branch; an argument more shifts this line alone
+abbrev start : tie.After-shared-slice-known → tie.Start
+start c = c .before .before .before .before
+
+-- the call, seen from where its buffers are home
+abbrev called : tie.After-slice-known6 → tie.After-answer-call
+called c = c .before .before .before .before .before .before
+
 live-blocks-requires : tie.Need-live-blocks-requires
 live-blocks-requires c κs =
-    let at-start = c .before .before .before .before .before .before .before in
+    let at-start = start (c .before .before .before) in
     let a = at-start .args in
     counted (a .memory .now) (a .books .now) (a .map .now) (at-start .pre)
 
@@ -27,8 +35,7 @@ returns : tie.Need-returns
 unfolding replayRecord
 returns c =
     let at-if1 = c .before .before .before in
-    let at-start = at-if1 .before .before .before .before .before in
-    let a = at-start .args in
+    let a = start (at-if1 .before) .args in
     ap (λ (n : ℕ). repliedWith (replyOf 0 8 0 0 n) (a .memory .now) (a .books .now) (a .map .now)) (c .live-blocks .ensures)
     ∙ chosen _ _ _ (lt-ltb _ _ (at-if1 .if1 .taken))
 
@@ -37,7 +44,8 @@ well-made-requires c κs = search needs
 
 live-blocks-requires-2 : tie.Need-live-blocks-requires-2
 live-blocks-requires-2 c κs =
-    let at-start = c .before .before .before .before .before .before .before .before .before in
+    let at-if1 = c .before .before .before .before in
+    let at-start = start (at-if1 .before) in
     let a = at-start .args in
     counted (a .memory .now) (a .books .now) (a .map .now) (at-start .pre)
 
@@ -56,8 +64,7 @@ returns-2 c =
     let at-if2 = c .before .before .before .before in
     let at-well-made = at-if2 .before in
     let at-if1 = at-well-made .before in
-    let at-start = at-if1 .before .before .before .before .before in
-    let a = at-start .args in
+    let a = start (at-if1 .before) .args in
     ap (λ (r : Reply). repliedWith r (a .memory .now) (a .books .now) (a .map .now))
     (c .refusal .ensures ∙ ap (refusalOf (a .bytes .now) 9) (c .before .live-blocks2 .ensures))
     ∙ passed-over _ _ _ (failed (at-well-made .well-made .ensures) (at-if2 .if2 .taken))
@@ -78,7 +85,7 @@ same-length-7 c = search needs
 returns-3 : tie.Need-returns-3
 unfolding replayRecord
 returns-3 c =
-    let at-answer-call = c .before .before .before .before .before .before in
+    let at-answer-call = called c in
     let at-if2 = at-answer-call .before .before .before .before in
     let at-well-made = at-if2 .before in
     let at-if1 = at-well-made .before in

@@ -12,6 +12,14 @@ use Rattle.records.specs.Replies.{repliedWith, counted, small-number, st
 use Rattle.records.proofs.answer_ask.Statement.{statement}
 use Rattle.records.proofs.answer_ask.Tie as tie
 
+-- the function's start, seen from its first call; an argument more shifts this line alone
+abbrev start : tie.After-link-at → tie.Start
+start c = c .before .before .before .before .before .before .before .before
+
+-- the ask, seen from where the block's size is read
+abbrev asked : tie.After-size-at → tie.After-ask
+asked c = c .before .before .before .before .before .before .before .before
+
 link-at-requires : tie.Need-link-at-requires
 link-at-requires c κs = search needs
 
@@ -26,9 +34,9 @@ size-at-requires c κs = search needs
 
 live-blocks-requires : tie.Need-live-blocks-requires
 live-blocks-requires c κs =
-    let at-ask = c .before .before .before .before .before .before .before .before .before .before in
+    let at-ask = asked (c .before .before) in
     let at-index = at-ask .before in
-    let at-start = at-index .before .before .before .before .before .before .before .before .before in
+    let at-start = start (at-index .before) in
     let a = at-start .args in
     let x = at-ask .ask in
     let fair = ask-fair 8 (heapOf (a .memory .now) (a .books .now) (a .map .now)) (at-index .index .result) in
@@ -38,9 +46,9 @@ live-blocks-requires c κs =
 
 reply-to-requires : tie.Need-reply-to-requires
 reply-to-requires c κs =
-    let at-ask = c .before .before .before .before .before .before .before .before .before .before .before in
+    let at-ask = asked (c .before .before .before) in
     let at-index = at-ask .before in
-    let at-start = at-index .before .before .before .before .before .before .before .before .before in
+    let at-start = start (at-index .before) in
     let a = at-start .args in
     let x = at-ask .ask in
     let fair = ask-fair 8 (heapOf (a .memory .now) (a .books .now) (a .map .now)) (at-index .index .result) in
@@ -59,11 +67,10 @@ returns : tie.Need-returns
 returns c =
     let at-live-blocks = c .before in
     let at-size-at = at-live-blocks .before .before .before in
-    let at-ask = at-size-at .before .before .before .before .before .before .before .before in
+    let at-ask = asked at-size-at in
     let at-index = at-ask .before in
     let at-link-at = at-index .before in
-    let at-start = at-link-at .before .before .before .before .before .before .before .before in
-    let a = at-start .args in
+    let a = start at-link-at .args in
     let x = at-ask .ask in
     let h = heapOf (x .last .0) (x .last .1 .0) (x .last .1 .1 .0) in
     ap (λ (r : Reply). repliedWith r (x .last .0) (x .last .1 .0) (x .last .1 .1 .0)) (c .reply-to .ensures)

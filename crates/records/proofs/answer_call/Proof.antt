@@ -8,6 +8,16 @@ use Rattle.records.specs.Replies.{chosen, passed-over}
 use Rattle.records.proofs.answer_call.Statement.{statement}
 use Rattle.records.proofs.answer_call.Tie as tie
 
+-- each call, seen from where its buffers are home
+abbrev asked : tie.After-slice-known6 → tie.After-answer-ask
+asked c = c .before .before .before .before .before .before
+
+abbrev given : tie.After-slice-known9 → tie.After-answer-give-back
+given c = c .before .before .before .before .before .before
+
+abbrev resized : tie.After-slice-known12 → tie.After-answer-resize
+resized c = c .before .before .before .before .before .before
+
 shared-slice-read-if1 : tie.Need-shared-slice-read-if1
 shared-slice-read-if1 c = search needs
 
@@ -26,7 +36,7 @@ same-length-3 c = search needs
 returns : tie.Need-returns
 unfolding replayCall
 returns c =
-    let at-answer-ask = c .before .before .before .before .before .before in
+    let at-answer-ask = asked c in
     let at-if1 = at-answer-ask .before .before .before .before in
     at-answer-ask .answer-ask .ensures ∙ chosen _ _ _ (eq-eqb _ _ (at-if1 .if1 .taken))
 
@@ -48,7 +58,7 @@ same-length-6 c = search needs
 returns-2 : tie.Need-returns-2
 unfolding replayCall
 returns-2 c =
-    let at-answer-give-back = c .before .before .before .before .before .before in
+    let at-answer-give-back = given c in
     let at-if2 = at-answer-give-back .before .before .before .before in
     let at-if1 = at-if2 .before .before in
     at-answer-give-back .answer-give-back .ensures ∙ chosen _ _ _ (eq-eqb _ _ (at-if2 .if2 .taken)) ∙ passed-over _ _ _ (ne-eqb _ _ (at-if1 .if1 .left))
@@ -68,7 +78,7 @@ same-length-9 c = search needs
 returns-3 : tie.Need-returns-3
 unfolding replayCall
 returns-3 c =
-    let at-answer-resize = c .before .before .before .before .before .before in
+    let at-answer-resize = resized c in
     let at-if2 = at-answer-resize .before .before .before .before in
     let at-if1 = at-if2 .before .before in
     at-answer-resize .answer-resize .ensures ∙ passed-over _ _ _ (ne-eqb _ _ (at-if2 .if2 .left)) ∙ passed-over _ _ _ (ne-eqb _ _ (at-if1 .if1 .left))

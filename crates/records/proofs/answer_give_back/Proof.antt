@@ -1,4 +1,5 @@
--- `records::answer_give_back` reads the block's size, gives the block back, and replies with what that answered and the heap that it left.
+-- `records::answer_give_back` reads the block's size, gives the block back,
+-- and replies with what that answered and the heap that it left.
 -- Assumes nothing.
 use mathlib.Core.Path.{ap, _∙_}
 use Prim.Native.Nat.{ℕ}
@@ -11,6 +12,18 @@ use Rattle.records.specs.declared.Reply.{Reply}
 use Rattle.records.specs.Replies.{repliedWith, counted, small-number, still-whole, called-is}
 use Rattle.records.proofs.answer_give_back.Statement.{statement}
 use Rattle.records.proofs.answer_give_back.Tie as tie
+
+-- the function's start, seen from its first call; an argument more shifts this line alone
+abbrev start : tie.After-link-at → tie.Start
+start c = c .before .before .before .before .before
+
+-- the block's size, seen from the offset
+abbrev sized : tie.After-index → tie.After-size-at
+sized c = c .before .before .before .before
+
+-- the give-back, seen from where its buffers are home
+abbrev given : tie.After-slice-known6 → tie.After-give-back
+given c = c .before .before .before .before .before .before
 
 link-at-requires : tie.Need-link-at-requires
 link-at-requires c κs = search needs
@@ -26,9 +39,9 @@ give-back-requires c κs = search needs
 
 live-blocks-requires : tie.Need-live-blocks-requires
 live-blocks-requires c κs =
-    let at-give-back = c .before .before .before .before .before .before .before .before in
+    let at-give-back = given (c .before .before) in
     let at-index = at-give-back .before in
-    let at-start = at-index .before .before .before .before .before .before .before .before .before .before .before in
+    let at-start = start (sized at-index .before .before) in
     let a = at-start .args in
     let x = at-give-back .give-back in
     let fair = back-fair 8 (heapOf (a .memory .now) (a .books .now) (a .map .now)) (at-index .index .result) in
@@ -38,9 +51,9 @@ live-blocks-requires c κs =
 
 reply-to-requires : tie.Need-reply-to-requires
 reply-to-requires c κs =
-    let at-give-back = c .before .before .before .before .before .before .before .before .before in
+    let at-give-back = given (c .before .before .before) in
     let at-index = at-give-back .before in
-    let at-start = at-index .before .before .before .before .before .before .before .before .before .before .before in
+    let at-start = start (sized at-index .before .before) in
     let a = at-start .args in
     let x = at-give-back .give-back in
     let fair = back-fair 8 (heapOf (a .memory .now) (a .books .now) (a .map .now)) (at-index .index .result) in
@@ -58,12 +71,11 @@ same-length-3 c = search needs
 returns : tie.Need-returns
 returns c =
     let at-live-blocks = c .before in
-    let at-give-back = at-live-blocks .before .before .before .before .before .before .before .before .before in
+    let at-give-back = given (at-live-blocks .before .before .before) in
     let at-index = at-give-back .before in
-    let at-size-at = at-index .before .before .before .before in
+    let at-size-at = sized at-index in
     let at-link-at = at-size-at .before .before in
-    let at-start = at-link-at .before .before .before .before .before in
-    let a = at-start .args in
+    let a = start at-link-at .args in
     let x = at-give-back .give-back in
     let g = heapOf (a .memory .now) (a .books .now) (a .map .now) in
     let h = heapOf (x .last .0) (x .last .1 .0) (x .last .1 .1 .0) in

@@ -12,6 +12,18 @@ use Rattle.records.specs.Replies.{repliedWith, counted, small-number, st
 use Rattle.records.proofs.answer_resize.Statement.{statement}
 use Rattle.records.proofs.answer_resize.Tie as tie
 
+-- the function's start, seen from its first call; an argument more shifts this line alone
+abbrev start : tie.After-link-at → tie.Start
+start c = c .before .before .before .before .before
+
+-- the two links, seen from the offset
+abbrev read : tie.After-index → tie.After-link-at2
+read c = c .before .before .before .before
+
+-- the resize, seen from where the block's size is read
+abbrev resized : tie.After-size-at → tie.After-resize
+resized c = c .before .before .before .before .before .before .before .before
+
 link-at-requires : tie.Need-link-at-requires
 link-at-requires c κs = search needs
 
@@ -32,10 +44,10 @@ size-at-requires c κs = search needs
 
 live-blocks-requires : tie.Need-live-blocks-requires
 live-blocks-requires c κs =
-    let at-resize = c .before .before .before .before .before .before .before .before .before .before in
+    let at-resize = resized (c .before .before) in
     let at-index2 = at-resize .before in
     let at-index = at-index2 .before in
-    let at-start = at-index .before .before .before .before .before .before .before .before .before .before in
+    let at-start = start (read at-index .before) in
     let a = at-start .args in
     let x = at-resize .resize in
     let fair = resize-fair 8 (heapOf (a .memory .now) (a .books .now) (a .map .now)) (at-index .index .result) (at-index2 .index2 .result) in
@@ -45,10 +57,10 @@ live-blocks-requires c κs =
 
 reply-to-requires : tie.Need-reply-to-requires
 reply-to-requires c κs =
-    let at-resize = c .before .before .before .before .before .before .before .before .before .before .before in
+    let at-resize = resized (c .before .before .before) in
     let at-index2 = at-resize .before in
     let at-index = at-index2 .before in
-    let at-start = at-index .before .before .before .before .before .before .before .before .before .before in
+    let at-start = start (read at-index .before) in
     let a = at-start .args in
     let x = at-resize .resize in
     let fair = resize-fair 8 (heapOf (a .memory .now) (a .books .now) (a .map .now)) (at-index .index .result) (at-index2 .index2 .result) in
@@ -67,13 +79,12 @@ returns : tie.Need-returns
 returns c =
     let at-live-blocks = c .before in
     let at-size-at = at-live-blocks .before .before .before in
-    let at-resize = at-size-at .before .before .before .before .before .before .before .before in
+    let at-resize = resized at-size-at in
     let at-index2 = at-resize .before in
     let at-index = at-index2 .before in
-    let at-link-at2 = at-index .before .before .before .before in
+    let at-link-at2 = read at-index in
     let at-link-at = at-link-at2 .before in
-    let at-start = at-link-at .before .before .before .before .before in
-    let a = at-start .args in
+    let a = start at-link-at .args in
     let x = at-resize .resize in
     let h = heapOf (x .last .0) (x .last .1 .0) (x .last .1 .1 .0) in
     ap (λ (r : Reply). repliedWith r (x .last .0) (x .last .1 .0) (x .last .1 .1 .0)) (c .reply-to .ensures)

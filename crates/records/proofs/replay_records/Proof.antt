@@ -1,4 +1,5 @@
--- `records::replay_records` tests the shape and the room, and then answers record by record: at turn i the replies from record i on are left.
+-- `records::replay_records` tests the shape and the room, and then answers record by record:
+-- at turn i the replies from record i on are left.
 -- Assumes nothing.
 use mathlib.Core.Path.{_≡_, refl, sym, _∙_}
 use Prim.Native.Nat.{_-_, _≤_}
@@ -23,6 +24,18 @@ Inv-loop memory₀ books₀ map₀ input output₀ number records i₀ memory bo
 abbrev μ-loop : tie.MeasureT-loop
 μ-loop memory₀ books₀ map₀ input output₀ number records i₀ memory books map output i = records - i
 
+-- the function's start, seen from its first call; an argument more shifts this line alone
+abbrev start : tie.After-shape-number Inv-loop μ-loop → tie.Start Inv-loop μ-loop
+start c = c .before .before .before .before .before .before .before .before .before
+
+-- the turn's beginning, seen from its call
+abbrev begun : tie.After-replay-record-arg4 Inv-loop μ-loop → tie.At-loop Inv-loop μ-loop
+begun c = c .before .before .before .before .before
+
+-- the turn's call, seen from where its buffers are home
+abbrev replayed : tie.After-slice-known8 Inv-loop μ-loop → tie.After-replay-record Inv-loop μ-loop
+replayed c = c .before .before .before .before .before .before .before .before
+
 shape-number-requires : tie.Need-shape-number-requires Inv-loop μ-loop
 shape-number-requires c κs = search needs
 
@@ -38,8 +51,7 @@ same-length-3 c = search needs
 returns : tie.Need-returns Inv-loop μ-loop
 returns c =
     let at-shape-number = c .before in
-    let at-start = at-shape-number .before .before .before .before .before .before .before .before .before in
-    let a = at-start .args in
+    let a = start at-shape-number .args in
     no-heap (heapOf (a .memory .now) (a .books .now) (a .map .now)) (a .input .now) (a .output .now) (at-shape-number .shape-number .result)
     (at-shape-number .shape-number .ensures .0) (c .if1 .taken)
 
@@ -61,8 +73,7 @@ same-length-6 c = search needs
 returns-2 : tie.Need-returns-2 Inv-loop μ-loop
 returns-2 c =
     let at-shape-number = c .before .before in
-    let at-start = at-shape-number .before .before .before .before .before .before .before .before .before in
-    let a = at-start .args in
+    let a = start at-shape-number .args in
     no-room (heapOf (a .memory .now) (a .books .now) (a .map .now)) (a .input .now) (a .output .now)
     (sym (at-shape-number .shape-number .ensures .0) ∙ c .before .if1 .left) (c .if2 .taken)
 
@@ -73,8 +84,7 @@ loop-holds c =
 
 replay-record-requires : tie.Need-replay-record-requires Inv-loop μ-loop
 replay-record-requires c κs =
-    let at-loop = c .before .before .before .before .before in
-    let p = at-loop .loop in
+    let p = begun c .loop in
     (p .inv .1, omega arith, omega (arith, p .inv .0 .long))
 
 add-i : tie.Need-add-i Inv-loop μ-loop
@@ -85,10 +95,9 @@ loop-less c = omega arith
 
 loop-again : tie.Need-loop-again Inv-loop μ-loop
 loop-again c =
-    let at-replay-record = c .before .before .before .before .before .before .before .before in
-    let at-loop = at-replay-record .before .before .before .before .before .before in
-    let at-start = at-loop .before .before .before .before .before .before .before .before .before .before .before .before in
-    let a = at-start .args in
+    let at-replay-record = replayed c in
+    let at-loop = begun (at-replay-record .before) in
+    let a = start (at-loop .before .before .before) .args in
     let p = at-loop .loop in
     let x = at-replay-record .replay-record in
     let t = record-sent (heapOf (p .memory) (p .books) (p .map)) (recordAt (p .i) (a .input .now)) in (
@@ -121,8 +130,7 @@ returns-3 c =
     let at-if2 = c .before .before in
     let at-if1 = at-if2 .before in
     let at-shape-number = at-if1 .before in
-    let at-start = at-shape-number .before .before .before .before .before .before .before .before .before in
-    let a = at-start .args in
+    let a = start at-shape-number .args in
     let p = c .before .loop in
     let s = stored (p .i) (omega arith) (p .inv .0) in
     all-done (heapOf (a .memory .now) (a .books .now) (a .map .now)) (a .input .now) (a .output .now)

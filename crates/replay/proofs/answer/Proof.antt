@@ -1,4 +1,5 @@
--- `replay::answer` answers the whole input: the shape is right and there is room, so nothing is refused, and the shape stays.
+-- `replay::answer` answers the whole input: the shape is right and there is room, so nothing is refused,
+-- and the shape stays.
 -- Assumes nothing.
 use Prim.Native.Nat.{_/_}
 use lib.ListN.{length}

@@ -13,6 +13,14 @@ use Rattle.loops.specs.Copy.{length-part}
 use Rattle.replay.proofs.answer_whole.Statement.{statement}
 use Rattle.replay.proofs.answer_whole.Tie as tie
 
+-- the function's start, seen from its first call's arguments; an argument more shifts this line alone
+abbrev start : tie.After-answer-arg4 → tie.Start
+start c = c .before .before .before .before .before .before .before .before .before
+
+-- the answers, seen from where the buffers are home
+abbrev answered : tie.After-slice-known9 → tie.After-answer
+answered c = c .before .before .before .before .before .before .before .before
+
 sub-whole : tie.Need-sub-whole
 sub-whole c = search needs
 
@@ -21,13 +29,12 @@ slice-reshare-prefix-answer c = search needs
 
 slice-aggregate-answer : tie.Need-slice-aggregate-answer
 slice-aggregate-answer c =
-    let at-start = c .before .before .before .before .before .before .before .before .before in
-    let a = at-start .args in
+    let a = start c .args in
     sym (length-take-le (a .n - a .n % 16) (a .input .now) (omega arith))
 
 answer-requires : tie.Need-answer-requires
 answer-requires c κs =
-    let at-start = c .before .before .before .before .before .before .before .before .before .before in
+    let at-start = start (c .before) in
     let a = at-start .args in
     (at-start .pre .0, omega (arith, length-take-le (a .n - a .n % 16) (a .input .now) (omega arith)))
 
@@ -48,9 +55,8 @@ same-length-5 c = search needs
 
 returns : tie.Need-returns
 returns c =
-    let at-answer = c .before .before .before .before .before .before .before .before .before in
-    let at-start = at-answer .before .before .before .before .before .before .before .before .before .before .before in
-    let a = at-start .args in
+    let at-answer = answered (c .before) in
+    let a = start (at-answer .before .before) .args in
     (at-answer .answer .ensures .0, ap (λ (j : ℕ). take (a .n % 16) (drop j (a .input .now))) (sym (c .if1 .taken)), at-answer .answer .ensures .1)
 
 copy-within-requires : tie.Need-copy-within-requires
@@ -74,9 +80,8 @@ same-length-10 c = search needs
 returns-2 : tie.Need-returns-2
 returns-2 c =
     let at-copy-within = c .before .before in
-    let at-answer = at-copy-within .before .before .before .before .before .before .before .before .before .before .before in
-    let at-start = at-answer .before .before .before .before .before .before .before .before .before .before .before in
-    let a = at-start .args in
+    let at-answer = answered (at-copy-within .before .before .before) in
+    let a = start (at-answer .before .before) .args in
     let l = a .input .now in
     let moved = part (a .n - a .n % 16) (a .n % 16) l in
     let e = length-part l (a .n - a .n % 16) (a .n % 16) (omega arith) in (

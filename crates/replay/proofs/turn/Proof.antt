@@ -7,6 +7,21 @@ use Rattle.replay.specs.Turns.{inside, short-fits}
 use Rattle.replay.proofs.turn.Statement.{statement}
 use Rattle.replay.proofs.turn.Tie as tie
 
+-- the function's start, seen from its first call; an argument more shifts this line alone
+abbrev start : tie.After-read → tie.Start
+start c = c .before .before .before .before .before .before .before
+
+-- the read, seen from the answer at the end of the input
+abbrev read : tie.After-answer-arg5 → tie.After-read
+read c = c .before .before .before .before .before .before .before .before .before
+
+-- the answers, seen from where the buffers are home
+abbrev answered : tie.After-slice-known10 → tie.After-answer
+answered c = c .before .before .before .before .before .before .before .before
+
+abbrev answered-whole : tie.After-slice-known15 → tie.After-answer-whole
+answered-whole c = c .before .before .before .before .before .before .before .before .before .before
+
 sub-read : tie.Need-sub-read
 sub-read c = search needs
 
@@ -39,19 +54,15 @@ slice-aggregate-answer c = sym (length-take-le _ _ (search needs))
 
 answer-requires : tie.Need-answer-requires
 answer-requires c κs =
-    let at-start = c .before .before .before .before .before .before .before .before .before .before .before .before .before .before .before .before in
+    let at-start = start (read c) in
     let a = at-start .args in
     (at-start .pre .0 .whole, short-fits (a .kept) _ (a .output .now) (at-start .pre .1) (at-start .pre .0 .out-long))
 
 slice-reshare-prefix-write-out : tie.Need-slice-reshare-prefix-write-out
-slice-reshare-prefix-write-out c =
-    let at-answer = c .before .before .before .before .before .before .before .before in
-    inside (at-answer .answer .ensures .0)
+slice-reshare-prefix-write-out c = inside (answered c .answer .ensures .0)
 
 slice-aggregate-write-out : tie.Need-slice-aggregate-write-out
-slice-aggregate-write-out c =
-    let at-answer = c .before .before .before .before .before .before .before .before .before in
-    sym (length-take-le _ _ (inside (at-answer .answer .ensures .0)))
+slice-aggregate-write-out c = sym (length-take-le _ _ (inside (answered (c .before) .answer .ensures .0)))
 
 write-out-requires : tie.Need-write-out-requires
 write-out-requires c κs = search needs
@@ -93,14 +104,10 @@ answer-whole-requires : tie.Need-answer-whole-requires
 answer-whole-requires c κs = search needs
 
 slice-reshare-prefix-write-out-2 : tie.Need-slice-reshare-prefix-write-out-2
-slice-reshare-prefix-write-out-2 c =
-    let at-answer-whole = c .before .before .before .before .before .before .before .before .before .before in
-    inside (at-answer-whole .answer-whole .ensures .0)
+slice-reshare-prefix-write-out-2 c = inside (answered-whole c .answer-whole .ensures .0)
 
 slice-aggregate-write-out-2 : tie.Need-slice-aggregate-write-out-2
-slice-aggregate-write-out-2 c =
-    let at-answer-whole = c .before .before .before .before .before .before .before .before .before .before .before in
-    sym (length-take-le _ _ (inside (at-answer-whole .answer-whole .ensures .0)))
+slice-aggregate-write-out-2 c = sym (length-take-le _ _ (inside (answered-whole (c .before) .answer-whole .ensures .0)))
 
 write-out-requires-2 : tie.Need-write-out-requires-2
 write-out-requires-2 c κs = search needs

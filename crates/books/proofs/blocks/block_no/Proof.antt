@@ -1,4 +1,5 @@
--- `books::blocks::block_no` gives the number of a start: the laws of starts say that it lies at or above 48, and that a pool has few blocks.
+-- `books::blocks::block_no` gives the number of a start: the laws of starts say that it lies at or above 48,
+-- and that a pool has few blocks.
 -- Assumes nothing.
 use mathlib.Core.Path.{refl}
 use Rattle.books.specs.Starts.{start}

@@ -1,4 +1,5 @@
--- `books::blocks::class_at` reads the class of the pool, whose record is inside the books: a word of 32 bits fits a `usize`.
+-- `books::blocks::class_at` reads the class of the pool, whose record is inside the books:
+-- a word of 32 bits fits a `usize`.
 -- Assumes nothing.
 use Prim.Native.Nat.{_/_}
 use Rattle.rules.specs.Books.{class, poolWord}

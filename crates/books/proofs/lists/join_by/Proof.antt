@@ -1,4 +1,5 @@
--- `books::lists::join_by` writes what joining a list writes, in its order: the callee keeps the length, so that the head is inside.
+-- `books::lists::join_by` writes what joining a list writes, in its order: the callee keeps the length,
+-- so that the head is inside.
 -- Assumes nothing.
 use Rattle.rules.specs.Lists.{joinBy}
 use native.Mathlib.Omega.{arith}

@@ -1,4 +1,5 @@
--- `books::lists::leave_by` writes what leaving a list writes, in its order: the two callees keep the length, so that own words are inside.
+-- `books::lists::leave_by` writes what leaving a list writes, in its order: the two callees keep the length,
+-- so that own words are inside.
 -- Assumes nothing.
 use Rattle.rules.specs.Lists.{leaveBy}
 use native.Mathlib.Omega.{arith}

@@ -1,4 +1,5 @@
--- `books::lists::put_next` writes the head where the link is 0, and otherwise the next word of the member that it leads to.
+-- `books::lists::put_next` writes the head where the link is 0,
+-- and otherwise the next word of the member that it leads to.
 -- Assumes nothing.
 use borrow.Author.Tests.{eq-eqb, ne-eqb}
 use borrow.Author.Needs.{needs}

@@ -1,4 +1,5 @@
--- `books::numbers::exact` answers the three tests of the lengths as they are defined: with A and A × P in range no length wraps.
+-- `books::numbers::exact` answers the three tests of the lengths as they are defined:
+-- with A and A × P in range no length wraps.
 -- Assumes nothing.
 use mathlib.Core.Path.{refl}
 use Rattle.rules.specs.Books.{exact}

@@ -1,4 +1,5 @@
--- `books::numbers::fit_number` answers the number of the first test that fails, and 0 past both, when A, P and the lengths are known.
+-- `books::numbers::fit_number` answers the number of the first test that fails, and 0 past both,
+-- when A, P and the lengths are known.
 -- Assumes nothing.
 use mathlib.Core.Path.{_≡_}
 use mathlib.Core.Bool.{true, false}
@@ -12,6 +13,10 @@ use borrow.Author.Needs.{needs}
 use Rattle.books.proofs.numbers.fit_number.Statement.{statement}
 use Rattle.books.proofs.numbers.fit_number.Tie as tie
 
+-- the function's start, seen from its first call; an argument more shifts this line alone
+abbrev start : tie.After-in-range → tie.Start
+start c = c .before .before .before .before
+
 in-range-requires : tie.Need-in-range-requires
 in-range-requires c κs = search needs
 
@@ -19,8 +24,7 @@ returns : tie.Need-returns
 unfolding fitNumber
 returns c =
     let at-in-range = c .before in
-    let at-start = at-in-range .before .before .before .before in
-    let a = at-start .args in
+    let a = start at-in-range .args in
     let r : inRange (a .arenas) (a .pools) ≡ false =
     failed (at-in-range .in-range .ensures) (c .if1 .taken) in
     (simp r, λ z. absurd (omega arith))
@@ -28,8 +32,7 @@ returns c =
 exact-requires : tie.Need-exact-requires
 exact-requires c κs =
     let at-in-range = c .before in
-    let at-start = at-in-range .before .before .before .before in
-    let a = at-start .args in
+    let a = start at-in-range .args in
     let r : inRange (a .arenas) (a .pools) ≡ true =
     held (at-in-range .in-range .ensures) (c .if1 .left) in
     let f = in-range (a .arenas) (a .pools) r in
@@ -41,8 +44,7 @@ returns-2 c =
     let at-exact = c .before in
     let at-if1 = at-exact .before in
     let at-in-range = at-if1 .before in
-    let at-start = at-in-range .before .before .before .before in
-    let a = at-start .args in
+    let a = start at-in-range .args in
     let h = heapOf (a .memory .now) (a .books .now) (a .map .now) in
     let r : inRange (a .arenas) (a .pools) ≡ true =
     held (at-in-range .in-range .ensures) (at-if1 .if1 .left) in
@@ -56,8 +58,7 @@ returns-3 c =
     let at-exact = c .before in
     let at-if1 = at-exact .before in
     let at-in-range = at-if1 .before in
-    let at-start = at-in-range .before .before .before .before in
-    let a = at-start .args in
+    let a = start at-in-range .args in
     let h = heapOf (a .memory .now) (a .books .now) (a .map .now) in
     let r : inRange (a .arenas) (a .pools) ≡ true =
     held (at-in-range .in-range .ensures) (at-if1 .if1 .left) in

@@ -1,4 +1,5 @@
--- `books::numbers::live_block` makes the four tests of a live offset in turn: the first that fails decides, and the map bit is the last.
+-- `books::numbers::live_block` makes the four tests of a live offset in turn: the first that fails decides,
+-- and the map bit is the last.
 -- Assumes nothing.
 use mathlib.Core.Path.{_≡_, sym, _∙_}
 use mathlib.Core.Bool.{true, false}
@@ -13,10 +14,14 @@ use borrow.Author.Needs.{needs}
 use Rattle.books.proofs.numbers.live_block.Statement.{statement}
 use Rattle.books.proofs.numbers.live_block.Tie as tie
 
+-- the function's start, seen from its first branch; an argument more shifts this line alone
+abbrev start : tie.After-shared-slice-known3 → tie.Start
+start c = c .before .before .before
+
 returns : tie.Need-returns
 unfolding live blockAt
 returns c =
-    let at-start = c .before .before .before .before in
+    let at-start = start (c .before) in
     let a = at-start .args in
     simp (le-ltb (a .offset) (memoryLength (a .arenas) (a .pools)) (omega (arith, c .if1 .taken, at-start .pre .memory)))
 
@@ -27,7 +32,7 @@ returns-2 : tie.Need-returns-2
 unfolding live blockAt
 returns-2 c =
     let at-if1 = c .before .before in
-    let at-start = at-if1 .before .before .before .before in
+    let at-start = start (at-if1 .before) in
     let a = at-start .args in
     simp (
       lt-ltb (a .offset) (memoryLength (a .arenas) (a .pools)) (omega (arith, at-if1 .if1 .left, at-start .pre .memory)),
@@ -49,7 +54,7 @@ returns-3 c =
     let at-if2 = at-size-of .before in
     let at-class-at = at-if2 .before in
     let at-if1 = at-class-at .before in
-    let at-start = at-if1 .before .before .before .before in
+    let at-start = start (at-if1 .before) in
     let a = at-start .args in
     let e : isStart (at-size-of .size-of .result) (a .offset % 4096) ≡ false = failed (at-is-start .is-start .ensures) (c .if3 .taken) in
     simp (
@@ -80,7 +85,7 @@ returns-4 c =
     let at-if2 = at-size-of .before in
     let at-class-at = at-if2 .before in
     let at-if1 = at-class-at .before in
-    let at-start = at-if1 .before .before .before .before in
+    let at-start = start (at-if1 .before) in
     let a = at-start .args in
     let e : isStart (at-size-of .size-of .result) (a .offset % 4096) ≡ true = held (at-is-start .is-start .ensures) (at-if3 .if3 .left) in
     simp (
@@ -104,7 +109,7 @@ returns-5 c =
     let at-if2 = at-size-of .before in
     let at-class-at = at-if2 .before in
     let at-if1 = at-class-at .before in
-    let at-start = at-if1 .before .before .before .before in
+    let at-start = start (at-if1 .before) in
     let a = at-start .args in
     let e : isStart (at-size-of .size-of .result) (a .offset % 4096) ≡ true = held (at-is-start .is-start .ensures) (at-if3 .if3 .left) in
     simp (

@@ -1,4 +1,5 @@
--- `books::numbers::shape_number` answers 2 where the books are too short to hold A and P, and otherwise the number for those.
+-- `books::numbers::shape_number` answers 2 where the books are too short to hold A and P,
+-- and otherwise the number for those.
 -- Assumes nothing.
 use borrow.Author.Tests.{lt-ltb, le-ltb}
 use Rattle.rules.specs.Numbers.{shapeNumber}
