@@ -1,5 +1,5 @@
-// The live map: a 64-bit word for each 64 blocks of a pool, eight words for each pool. One block's bit goes by shift and mask, the live blocks of a
-// word by a count of ones.
+// The live map: a 64-bit word for each 64 blocks of a pool, eight words for each pool. One block's bit goes by shift
+// and mask, the live blocks of a word by a count of ones.
 ghost use mathlib.Core.Path.{_≡_};
 ghost use Prim.Native.Nat.{_+_, _*_, _<_, _≤_};
 ghost use lib.ListN.{length};
@@ -33,8 +33,8 @@ pub fn clear_bit(map: &mut [u64], pool: usize, k: usize)
     map[word] &= !(1 << (k % 64));
 }
 
-// How many of the first n blocks of a map word are live. The bits past them are shifted out. A word with no live block is passed over, since a
-// count of ones is a dozen instructions where the machine has none for it.
+// How many of the first n blocks of a map word are live. The bits past them are shifted out. A word with no live block
+// is passed over, since a count of ones is a dozen instructions where the machine has none for it.
 pub fn count_live(word: u64, n: usize) -> usize
     requires { ⌜ (1 ≤ n) × (n ≤ 64) ⌝ }
     ensures { λ r. ⌜ r ≡ onesIn n word ⌝ }

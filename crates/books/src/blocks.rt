@@ -1,4 +1,5 @@
-// Classes and blocks: the class of a size, the size of a class, the class of an offset's pool, and the starts of a pool's blocks.
+// Classes and blocks: the class of a size, the size of a class, the class of an offset's pool, and the starts of a
+// pool's blocks.
 use crate::words;
 ghost use mathlib.Core.Path.{_≡_};
 ghost use mathlib.Core.Bool.{true};
@@ -39,7 +40,8 @@ pub fn class_at(books: &[u32], arenas: usize, offset: usize) -> usize
     books[at + words::CLASS] as usize
 }
 
-// A block of this size starts at o in its pool. The range comes first, so that what is divided is small; a 32-bit division is the quicker one.
+// A block of this size starts at o in its pool. The range comes first, so that what is divided is small; a 32-bit
+// division is the quicker one.
 pub fn is_start(size: usize, o: usize) -> bool
     requires { ⌜ (8 ≤ size) × (size ≤ 512) ⌝ }
     ensures { λ r. ⌜ r ≡ isStart size o ⌝ }

@@ -1,4 +1,5 @@
-// The books: where their words stand, pool records, lists, links in memory, classes and blocks, and the tests that every call begins with.
+// The books: where their words stand, pool records, lists, links in memory, classes and blocks, and the tests that
+// every call begins with.
 pub mod blocks;
 pub mod links;
 pub mod lists;

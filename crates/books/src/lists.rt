@@ -1,5 +1,6 @@
-// Lists threaded through the records: leaving one, joining it at the front, and what the rules of number 6 ask of their links. Member 0's next word is `base`, a member's previous
-// word comes after its next, and a link to member n is n + 1.
+// Lists threaded through the records: leaving one, joining it at the front, and what the rules of number 6 ask of their
+// links. Member 0's next word is `base`, a member's previous word comes after its next, and a link to member n is
+// n + 1.
 use crate::words;
 ghost use mathlib.Core.Path.{_≡_};
 ghost use mathlib.Core.Bool.{not};
@@ -37,7 +38,8 @@ fn next_at(base: usize, link: u32) -> usize
 // The next word of the member that a link leads to, or the head where it leads to none, becomes v.
 fn put_next(books: &mut [u32], base: usize, head: usize, link: u32, v: u32)
     requires { ⌜ (head < length (now books)) × Within base (length (now books)) link ⌝ }
-    ensures { λ _. ⌜ now (books .exit) ≡ put (if none? link then head else nextAt base (linked link)) v (now (books .entry)) ⌝ }
+    ensures { λ _. ⌜ now (books .exit)
+        ≡ put (if none? link then head else nextAt base (linked link)) v (now (books .entry)) ⌝ }
 {
     if link == 0 {
         books[head] = v;
@@ -50,7 +52,8 @@ fn put_next(books: &mut [u32], base: usize, head: usize, link: u32, v: u32)
 // The previous word of the member that a link leads to, if any, becomes v.
 fn put_previous(books: &mut [u32], base: usize, link: u32, v: u32)
     requires { ⌜ Within base (length (now books)) link ⌝ }
-    ensures { λ _. ⌜ now (books .exit) ≡ only (not (none? link)) (put (previousAt base (linked link)) v) (now (books .entry)) ⌝ }
+    ensures { λ _. ⌜ now (books .exit)
+        ≡ only (not (none? link)) (put (previousAt base (linked link)) v) (now (books .entry)) ⌝ }
 {
     if link == 0 {
         return;
@@ -104,7 +107,8 @@ pub fn may_join(books: &[u32], most: usize, head: usize) -> bool
 
 // Member n leaves the list of that head; links lead at most to `most` members.
 pub fn leave(books: &mut [u32], most: usize, base: usize, head: usize, n: usize)
-    requires { ⌜ (n < most) × (base + 8 * most ≤ length (now books) + 6) × (head < length (now books)) × Links most base n (now books) ⌝ }
+    requires { ⌜ (n < most) × (base + 8 * most ≤ length (now books) + 6) × (head < length (now books))
+        × Links most base n (now books) ⌝ }
     ensures { λ _. ⌜ now (books .exit) ≡ leave base head n (now (books .entry)) ⌝ }
 {
     let next = books[base + 8 * n];
@@ -114,7 +118,8 @@ pub fn leave(books: &mut [u32], most: usize, base: usize, head: usize, n: usize)
 
 // Member n joins the list of that head at the front.
 pub fn join(books: &mut [u32], most: usize, base: usize, head: usize, n: usize)
-    requires { ⌜ (n < most) × (most ≤ 1024) × (base + 8 * most ≤ length (now books) + 6) × (head < length (now books)) × (at (now books) head ≤ most) ⌝ }
+    requires { ⌜ (n < most) × (most ≤ 1024) × (base + 8 * most ≤ length (now books) + 6)
+        × (head < length (now books)) × (at (now books) head ≤ most) ⌝ }
     ensures { λ _. ⌜ now (books .exit) ≡ join base head n (now (books .entry)) ⌝ }
 {
     let old = books[head];

@@ -46,7 +46,8 @@ fn exact(memory: &[u8], books: &[u32], map: &[u64], arenas: usize, pools: usize)
 // 1 or 2, for given numbers of arenas and pools.
 pub fn fit_number(memory: &[u8], books: &[u32], map: &[u64], arenas: usize, pools: usize) -> u32
     ensures { λ r. ⌜ (r ≡ fitNumber (heapOf (now (memory .entry)) (now (books .entry)) (now (map .entry))) arenas pools)
-        × (r ≡ 0 → Shaped arenas pools (length (now (memory .entry))) (length (now (books .entry))) (length (now (map .entry)))) ⌝ }
+        × (r ≡ 0 → Shaped arenas pools (length (now (memory .entry))) (length (now (books .entry)))
+        (length (now (map .entry)))) ⌝ }
 {
     if !in_range(arenas, pools) {
         return OUT_OF_RANGE;

@@ -4,7 +4,18 @@ ghost use mathlib.Core.Path.{_≡_};
 ghost use Prim.Native.Nat.{_+_, _*_, _^_, _<_, _≤_};
 ghost use lib.ListN.{length};
 ghost use Rattle.rules.specs.Books.{poolWord};
-ghost use Rattle.books.specs.Records.{poolAt, putPool, mayServe, mayGive, linksLead, taken, exposed, given, takenAgain, setTo};
+ghost use Rattle.books.specs.Records.{
+  poolAt,
+  putPool,
+  mayServe,
+  mayGive,
+  linksLead,
+  taken,
+  exposed,
+  given,
+  takenAgain,
+  setTo,
+};
 
 pub struct Pool {
     pub count: u32,
@@ -118,7 +129,8 @@ impl Pool {
         self
     }
 
-    // The pool goes alone on the list of another class, of blocks of this size; its first block is taken, its second becomes freeblock.
+    // The pool goes alone on the list of another class, of blocks of this size; its first block is taken, its second
+    // becomes freeblock.
     pub fn anew(self, class: u32, size: u32) -> Pool
         requires { ⌜ size ≤ 512 ⌝ }
         ensures { λ r. ⌜ r ≡ setTo self class size ⌝ }

@@ -1,5 +1,5 @@
-// Where the words of the books stand, and reading them: the heads, and the words of a record by their place in it. Records are eight words
-// long, the arenas' first and then the pools'.
+// Where the words of the books stand, and reading them: the heads, and the words of a record by their place in it.
+// Records are eight words long, the arenas' first and then the pools'.
 ghost use mathlib.Core.Path.{_≡_};
 ghost use Prim.Native.Nat.{_^_, _<_};
 ghost use lib.ListN.{length};

@@ -273,7 +273,8 @@ fn dead(memory: &mut Memory, books: &mut Books, map: &mut Map) {
     text(b"\n");
 }
 
-// A text that does not fit and a roll with a word too few are refused and write nothing; a roll leaves the words after it.
+// A text that does not fit and a roll with a word too few are refused and write nothing; a roll
+// leaves the words after it.
 fn rolls(memory: &mut Memory, books: &mut Books, map: &mut Map) {
     let mut none: [u32; 0] = [];
     let mut few: [u32; 3] = [9; 3];
@@ -292,7 +293,8 @@ fn rolls(memory: &mut Memory, books: &mut Books, map: &mut Map) {
     text(b"\n");
 }
 
-// The 506th ask gives 4,088, the 507th 4,144, the 1,012th 8,184, the 1,013th is refused; a block given back is served again.
+// The 506th ask gives 4,088, the 507th 4,144, the 1,012th 8,184, the 1,013th is refused; a block
+// given back is served again.
 fn fill_by_8(memory: &mut [u8; 8192], books: &mut [u32; 96], map: &mut [u64; 16]) {
     format(b"Asks of 8", memory, books, map, 2);
     asks(memory, books, map, 8, 505);

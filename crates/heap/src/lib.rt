@@ -92,7 +92,8 @@ fn size_number(n: usize) -> u32
 
 // The number of the tests of a call with a size: 1, 2 or 3, and 0 where an ask can be made.
 fn size_test(memory: &[u8], books: &[u32], map: &[u64], n: usize) -> u32
-    ensures { λ r. ⌜ (r ≡ inOrder (shapeNumber (heapOf (now (memory .entry)) (now (books .entry)) (now (map .entry)))) (sizeNumber n) 0 0)
+    ensures { λ r. ⌜ (r ≡ inOrder (shapeNumber (heapOf (now (memory .entry)) (now (books .entry)) (now (map .entry))))
+        (sizeNumber n) 0 0)
         × (r ≡ 0 → Askable (now (memory .entry)) (now (books .entry)) (now (map .entry)) n) ⌝ }
 {
     let number = shape_number(memory, books, map);
@@ -137,7 +138,8 @@ pub fn give_back(memory: &mut [u8], books: &mut [u32], map: &mut [u64], offset: 
     }
 }
 
-// Resize: the block is kept, or its text moves to a block of at least `size` bytes; the answer is where the text is then.
+// Resize: the block is kept, or its text moves to a block of at least `size` bytes; the answer is where
+// the text is then.
 pub fn resize(
     memory: &mut [u8],
     books: &mut [u32],
@@ -163,7 +165,8 @@ pub fn resize(
 
 // The block size at a live offset.
 fn block_size(books: &[u32], offset: usize) -> usize
-    requires { ⌜ (0 < length (now books)) × (poolWord (at (now books) 0) 8 (offset / 4096) ≤ length (now books)) × (classAt (at (now books) 0) (now books) offset ≤ 63) ⌝ }
+    requires { ⌜ (0 < length (now books)) × (poolWord (at (now books) 0) 8 (offset / 4096) ≤ length (now books))
+        × (classAt (at (now books) 0) (now books) offset ≤ 63) ⌝ }
     ensures { λ r. ⌜ (r ≡ sizeAt 8 (at (now (books .entry)) 0) (now (books .entry)) offset) × (r ≤ 512) ⌝ }
 {
     size_of(class_at(books, word(books, 0), offset))
@@ -224,8 +227,8 @@ pub fn write(memory: &mut [u8], books: &[u32], map: &[u64], offset: usize, text:
     }
 }
 
-// Roll call: offset and size of each live block go to the front of the roll; the answer counts them. Nothing is written before the room is
-// known to be enough.
+// Roll call: offset and size of each live block go to the front of the roll; the answer counts them. Nothing is written
+// before the room is known to be enough.
 pub fn roll_call(memory: &[u8], books: &[u32], map: &[u64], roll: &mut [u32]) -> Rolled
     ensures { λ r. ⌜ RollCallPromise (heapOf (now (memory .entry)) (now (books .entry)) (now (map .entry)))
         (heapOf (now (memory .exit)) (now (books .exit)) (now (map .exit)))

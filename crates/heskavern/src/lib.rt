@@ -1,6 +1,6 @@
-// The calls of 01 for C and Rust: crate heap's calls under names that the archive exports, each with the promise of the call that it passes on.
-// include/heskavern.h declares them. A slice is a pointer and its length in elements there. View is made there from `heskavern_view_size`,
-// since an exported function cannot return a slice.
+// The calls of 01 for C and Rust: crate heap's calls under names that the archive exports, each with the promise of the
+// call that it passes on. include/heskavern.h declares them. A slice is a pointer and its length in elements there.
+// View is made there from `heskavern_view_size`, since an exported function cannot return a slice.
 ghost use Rattle.rules.specs.Outcome.{heapOf};
 ghost use Rattle.rules.specs.Promises.{
   FormatPromise,
@@ -13,7 +13,8 @@ ghost use Rattle.rules.specs.Promises.{
 };
 ghost use Rattle.heskavern.specs.Answers.{answerIn, sizedIn, rolledIn};
 
-// What each call answers: 01's number, and the offset, block size or count that stands beside it. The answers of crate heap, in the layout of C.
+// What each call answers: 01's number, and the offset, block size or count that stands beside it. The answers of crate
+// heap, in the layout of C.
 #[repr(C)]
 pub struct HeskavernAnswer {
     pub number: u32,
@@ -75,7 +76,8 @@ pub extern "C" fn heskavern_give_back(
     }
 }
 
-// Resize: the block is kept, or its text moves to a block of at least `size` bytes; the value is where the text is then.
+// Resize: the block is kept, or its text moves to a block of at least `size` bytes; the value is where
+// the text is then.
 #[no_mangle]
 pub extern "C" fn heskavern_resize(
     memory: &mut [u8],

@@ -160,10 +160,11 @@ pub fn count_words(books: &[u32], map: &[u64], arenas: usize, n: usize) -> usize
     words
 }
 
-// Offset and size of each live block among the first n of a map word, whose first block is at `first`, from roll word `at` on: the place after
-// them. It goes from set bit to set bit, lowest first; bits past the n blocks are in no roll.
+// Offset and size of each live block among the first n of a map word, whose first block is at `first`, from roll word
+// `at` on: the place after them. It goes from set bit to set bit, lowest first; bits past the n blocks are in no roll.
 fn roll_word(word: u64, first: usize, size: usize, n: usize, roll: &mut [u32], at: usize) -> usize
-    requires { ⌜ (first < 4096 * 1024) × (size ≤ 512) × (n ≤ 64) × (at + length (rollWord word first size n) ≤ length (now roll)) ⌝ }
+    requires { ⌜ (first < 4096 * 1024) × (size ≤ 512) × (n ≤ 64)
+        × (at + length (rollWord word first size n) ≤ length (now roll)) ⌝ }
     ensures { λ r. ⌜ Stored (now (roll .entry)) at (rollWord word first size n) (now (roll .exit)) r ⌝ }
 {
     let mut left = word;
@@ -181,11 +182,13 @@ fn roll_word(word: u64, first: usize, size: usize, n: usize, roll: &mut [u32], a
     place
 }
 
-// Offset and size of each live block of the pool, where its blocks have the size, from roll word `at` on: the place after them.
+// Offset and size of each live block of the pool, where its blocks have the size, from roll word `at` on: the place
+// after them.
 fn roll_blocks(map: &[u64], pool: usize, size: usize, roll: &mut [u32], at: usize) -> usize
     requires { ⌜ (8 * pool + 8 ≤ length (now map)) × (pool < 1024) × (8 ≤ size) × (size ≤ 512)
         × (at + length (rollBlocks (now map) pool size 0 (capacity size)) ≤ length (now roll)) ⌝ }
-    ensures { λ r. ⌜ Stored (now (roll .entry)) at (rollBlocks (now (map .entry)) pool size 0 (capacity size)) (now (roll .exit)) r ⌝ }
+    ensures { λ r. ⌜ Stored (now (roll .entry)) at (rollBlocks (now (map .entry)) pool size 0 (capacity size))
+        (now (roll .exit)) r ⌝ }
 {
     let blocks = 4048 / size;
     let mut place = at;
@@ -208,7 +211,8 @@ fn roll_pool(
 ) -> usize
     requires { ⌜ Stands arenas pool (now books) (now map)
         × (at + length (rollPool 8 arenas (now books) (now map) pool) ≤ length (now roll)) ⌝ }
-    ensures { λ r. ⌜ Stored (now (roll .entry)) at (rollPool 8 arenas (now (books .entry)) (now (map .entry)) pool) (now (roll .exit)) r ⌝ }
+    ensures { λ r. ⌜ Stored (now (roll .entry)) at (rollPool 8 arenas (now (books .entry)) (now (map .entry)) pool)
+        (now (roll .exit)) r ⌝ }
 {
     let class = class_at(books, arenas, 4096 * pool);
     if LAST_CLASS < class {
@@ -221,7 +225,8 @@ fn roll_pool(
 pub fn put_roll(books: &[u32], map: &[u64], arenas: usize, n: usize, roll: &mut [u32])
     requires { ⌜ (n ≤ 1024) × (length (now books) ≡ 72 + 8 * arenas + 8 * n) × (length (now map) ≡ 8 * n)
         × (length (rollPools 8 arenas (now books) (now map) 0 n) ≤ length (now roll)) ⌝ }
-    ensures { λ _. ⌜ now (roll .exit) ≡ sets (now (roll .entry)) 0 (rollPools 8 arenas (now (books .entry)) (now (map .entry)) 0 n) ⌝ }
+    ensures { λ _. ⌜ now (roll .exit)
+        ≡ sets (now (roll .entry)) 0 (rollPools 8 arenas (now (books .entry)) (now (map .entry)) 0 n) ⌝ }
 {
     let mut place: usize = 0;
     for pool in 0..n {

@@ -1,4 +1,5 @@
-// Replay records: one record in, one reply out, over the three buffers of a heap; and a whole piece of a replay, records in and replies out.
+// Replay records: one record in, one reply out, over the three buffers of a heap; and a whole piece of a replay,
+// records in and replies out.
 use books::blocks::ALIGNMENT;
 use books::links::link_at;
 use books::links::put_link;
@@ -18,7 +19,16 @@ ghost use Rattle.rules.specs.Blocks.{sizeAt};
 ghost use Rattle.rules.specs.Outcome.{heapOf};
 ghost use Rattle.rules.specs.Numbers.{ask, giveBack, resize, blockSize};
 ghost use Rattle.rules.specs.Replay.{wellMade, sizeIn, offsetIn, called, calledFor, replayCall, replayRecord};
-ghost use Rattle.records.specs.Replies.{Counted, Whole, liveIn, repeated, bytesOf, refusalOf, replyTo, repliedWith};
+ghost use Rattle.records.specs.Replies.{
+  Counted,
+  Whole,
+  liveIn,
+  repeated,
+  bytesOf,
+  refusalOf,
+  replyTo,
+  repliedWith,
+};
 ghost use Rattle.records.specs.Pieces.{recordAt, replayPiece};
 
 // A reply, before its bytes are written.
@@ -30,8 +40,8 @@ struct Reply {
     live: u32,
 }
 
-// What a piece of a replay answers: 1 or 2 for a heap of another shape, 7 for an output that is too small, 0 when done; and how many bytes of
-// the output it has written.
+// What a piece of a replay answers: 1 or 2 for a heap of another shape, 7 for an output that is too small, 0 when done;
+// and how many bytes of the output it has written.
 pub struct Replayed {
     pub number: u32,
     pub written: usize,
@@ -87,7 +97,8 @@ fn word_or_none(books: &[u32], i: usize) -> usize
     word(books, i)
 }
 
-// The size of the block at an offset, as far as the four bytes of a reply hold it. Nothing is asked of the offset: a record may hold any.
+// The size of the block at an offset, as far as the four bytes of a reply hold it. Nothing is asked of the offset: a
+// record may hold any.
 fn size_at(books: &[u32], offset: u32) -> u32
     ensures { λ r. ⌜ r ≡ sizeAt 8 (at (now (books .entry)) 0) (now (books .entry)) offset % 4294967296 ⌝ }
 {
@@ -135,7 +146,8 @@ fn reply_to(bytes: &[u8], answer: Answer, size: u32, live: u32) -> Reply
 fn answer_ask(memory: &mut [u8], books: &mut [u32], map: &mut [u64], bytes: &[u8]) -> Reply
     requires { ⌜ Whole (now memory) (now books) (now map) × (16 ≤ length (now bytes)) ⌝ }
     ensures { λ r. ⌜ repliedWith r (now (memory .exit)) (now (books .exit)) (now (map .exit))
-        ≡ calledFor 8 (now (bytes .entry)) (ask 8 (heapOf (now (memory .entry)) (now (books .entry)) (now (map .entry))) (sizeIn (now (bytes .entry)))) ⌝ }
+        ≡ calledFor 8 (now (bytes .entry))
+        (ask 8 (heapOf (now (memory .entry)) (now (books .entry)) (now (map .entry))) (sizeIn (now (bytes .entry)))) ⌝ }
 {
     let answer = heap::ask(memory, books, map, index(link_at(bytes, 4)));
     let size = size_at(books, answer.offset);
@@ -146,8 +158,11 @@ fn answer_ask(memory: &mut [u8], books: &mut [u32], map: &mut [u64], bytes: &[u8
 fn answer_give_back(memory: &mut [u8], books: &mut [u32], map: &mut [u64], bytes: &[u8]) -> Reply
     requires { ⌜ Whole (now memory) (now books) (now map) × (16 ≤ length (now bytes)) ⌝ }
     ensures { λ r. ⌜ repliedWith r (now (memory .exit)) (now (books .exit)) (now (map .exit))
-        ≡ called 8 (now (bytes .entry)) (giveBack 8 (heapOf (now (memory .entry)) (now (books .entry)) (now (map .entry))) (offsetIn (now (bytes .entry))))
-        (blockSize 8 (heapOf (now (memory .entry)) (now (books .entry)) (now (map .entry))) (offsetIn (now (bytes .entry)))) ⌝ }
+        ≡ called 8 (now (bytes .entry))
+        (giveBack 8 (heapOf (now (memory .entry)) (now (books .entry)) (now (map .entry)))
+        (offsetIn (now (bytes .entry))))
+        (blockSize 8 (heapOf (now (memory .entry)) (now (books .entry)) (now (map .entry)))
+        (offsetIn (now (bytes .entry)))) ⌝ }
 {
     let offset = link_at(bytes, 8);
     let size = size_at(books, offset);
@@ -159,7 +174,8 @@ fn answer_give_back(memory: &mut [u8], books: &mut [u32], map: &mut [u64], bytes
 fn answer_resize(memory: &mut [u8], books: &mut [u32], map: &mut [u64], bytes: &[u8]) -> Reply
     requires { ⌜ Whole (now memory) (now books) (now map) × (16 ≤ length (now bytes)) ⌝ }
     ensures { λ r. ⌜ repliedWith r (now (memory .exit)) (now (books .exit)) (now (map .exit))
-        ≡ calledFor 8 (now (bytes .entry)) (resize 8 (heapOf (now (memory .entry)) (now (books .entry)) (now (map .entry)))
+        ≡ calledFor 8 (now (bytes .entry))
+        (resize 8 (heapOf (now (memory .entry)) (now (books .entry)) (now (map .entry)))
         (offsetIn (now (bytes .entry))) (sizeIn (now (bytes .entry)))) ⌝ }
 {
     let offset = link_at(bytes, 8);
@@ -241,11 +257,14 @@ fn replay_record(
     output: &mut [u8],
     i: usize,
 )
-    requires { ⌜ Whole (now memory) (now books) (now map) × (16 * i ≤ length (now input)) × (16 * i + 16 ≤ length (now output)) ⌝ }
+    requires { ⌜ Whole (now memory) (now books) (now map) × (16 * i ≤ length (now input))
+        × (16 * i + 16 ≤ length (now output)) ⌝ }
     ensures { λ _. ⌜ (now (output .exit) ≡ sets (now (output .entry)) (16 * i)
-        (replayRecord 8 (heapOf (now (memory .entry)) (now (books .entry)) (now (map .entry))) (recordAt i (now (input .entry))) .reply))
+        (replayRecord 8 (heapOf (now (memory .entry)) (now (books .entry)) (now (map .entry)))
+        (recordAt i (now (input .entry))) .reply))
         × (heapOf (now (memory .exit)) (now (books .exit)) (now (map .exit))
-        ≡ replayRecord 8 (heapOf (now (memory .entry)) (now (books .entry)) (now (map .entry))) (recordAt i (now (input .entry))) .heap) ⌝ }
+        ≡ replayRecord 8 (heapOf (now (memory .entry)) (now (books .entry)) (now (map .entry)))
+        (recordAt i (now (input .entry))) .heap) ⌝ }
 {
     let from = 16 * i;
     let to = end_of(from, input.len());
@@ -253,8 +272,8 @@ fn replay_record(
     put_reply(output, from, reply);
 }
 
-// Every record of the input is answered in order, a short one at the end too; the replies stand at the front of the output. Nothing is
-// done on a heap of another shape, or where the output is too small.
+// Every record of the input is answered in order, a short one at the end too; the replies stand at the front of the
+// output. Nothing is done on a heap of another shape, or where the output is too small.
 pub fn replay_records(
     memory: &mut [u8],
     books: &mut [u32],
@@ -262,8 +281,13 @@ pub fn replay_records(
     input: &[u8],
     output: &mut [u8],
 ) -> Replayed
-    ensures { λ r. ⌜ record { answer = r; output = now (output .exit); heap = heapOf (now (memory .exit)) (now (books .exit)) (now (map .exit)) }
-        ≡ replayPiece (heapOf (now (memory .entry)) (now (books .entry)) (now (map .entry))) (now (input .entry)) (now (output .entry)) ⌝ }
+    ensures { λ r. ⌜ record {
+      answer = r;
+      output = now (output .exit);
+      heap = heapOf (now (memory .exit)) (now (books .exit)) (now (map .exit));
+    }
+        ≡ replayPiece (heapOf (now (memory .entry)) (now (books .entry)) (now (map .entry))) (now (input .entry))
+        (now (output .entry)) ⌝ }
 {
     let number = shape_number(memory, books, map);
     if number != 0 {

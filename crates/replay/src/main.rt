@@ -1,5 +1,5 @@
-// Replays records: standard input to standard output, over a fresh heap of one arena of 16 pools. Whole records are answered as they arrive,
-// however the input comes in pieces; what is left of the last one waits for the next read.
+// Replays records: standard input to standard output, over a fresh heap of one arena of 16 pools. Whole records are
+// answered as they arrive, however the input comes in pieces; what is left of the last one waits for the next read.
 use books::words::RECORDS;
 use libc::STDIN_FILENO;
 use libc::STDOUT_FILENO;
@@ -38,8 +38,10 @@ fn answer(
     input: &[u8],
     output: &mut [u8],
 ) -> usize
-    requires { ⌜ Whole (now memory) (now books) (now map) × (16 * recordsIn (length (now input)) ≤ length (now output)) ⌝ }
-    ensures { λ r. ⌜ Answered (heapOf (now (memory .entry)) (now (books .entry)) (now (map .entry))) (now (input .entry)) (now (output .entry))
+    requires { ⌜ Whole (now memory) (now books) (now map)
+        × (16 * recordsIn (length (now input)) ≤ length (now output)) ⌝ }
+    ensures { λ r. ⌜ Answered (heapOf (now (memory .entry)) (now (books .entry)) (now (map .entry)))
+        (now (input .entry)) (now (output .entry))
         (heapOf (now (memory .exit)) (now (books .exit)) (now (map .exit))) (now (output .exit)) r
         × Whole (now (memory .exit)) (now (books .exit)) (now (map .exit)) ⌝ }
 {
@@ -56,7 +58,8 @@ fn answer_whole(
     output: &mut [u8],
 ) -> usize
     requires { ⌜ Whole (now memory) (now books) (now map) × (n ≤ length (now input)) × (n ≤ length (now output)) ⌝ }
-    ensures { λ r. ⌜ Answered (heapOf (now (memory .entry)) (now (books .entry)) (now (map .entry))) (take (n - n % 16) (now (input .entry))) (now (output .entry))
+    ensures { λ r. ⌜ Answered (heapOf (now (memory .entry)) (now (books .entry)) (now (map .entry)))
+        (take (n - n % 16) (now (input .entry))) (now (output .entry))
         (heapOf (now (memory .exit)) (now (books .exit)) (now (map .exit))) (now (output .exit)) r
         × (take (n % 16) (now (input .exit)) ≡ take (n % 16) (drop (n - n % 16) (now (input .entry))))
         × Whole (now (memory .exit)) (now (books .exit)) (now (map .exit)) ⌝ }
@@ -80,7 +83,8 @@ fn write_out(replies: &[u8]) -> bool {
     written
 }
 
-// Reads once, after the bytes that are kept at the front of the input, and answers the records that are whole; at the end of the input, the short one.
+// Reads once, after the bytes that are kept at the front of the input, and answers the records that are whole; at the
+// end of the input, the short one.
 fn turn(
     memory: &mut [u8],
     books: &mut [u32],
@@ -110,8 +114,8 @@ fn turn(
     Next::Read(here % 16)
 }
 
-// Turn after turn, to the end of the input. A proved loop has to end, and nothing says that the input does: so the turns are counted
-// down, from a number that no run uses up.
+// Turn after turn, to the end of the input. A proved loop has to end, and nothing says that the input does: so the
+// turns are counted down, from a number that no run uses up.
 fn replay_all(
     memory: &mut [u8],
     books: &mut [u32],
