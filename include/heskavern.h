@@ -21,6 +21,25 @@ Between calls, books and map are not yours to write, and of memory only the bloc
 format on, and no block is handed out twice and no call gives 6. After any other write every call is still safe and
 still answers by its rules, but it may meet damage and give 6, or hand out what is in use.
 
+What is good to know:
+- An offset names a block and not its holder. While the block is not out, every call refuses it with 5. Once it is out
+  again, a stale offset is the new holder's: a view shows its text, a write or a give-back changes it.
+- Buffers of two heaps in one call are refused with 1 or 2 where their lengths differ. Where A and P are the same, no
+  call can tell: it answers by the three buffers as they are lent and touches no others, but it may write into a block
+  that is held, and leave both heaps damaged.
+- Any thread may make the next call, a give-back too, if you order the calls on a heap, by a lock or by handing it over:
+  nothing is kept outside the three buffers. Two heaps need no order between them.
+- A block is aligned to 8 where memory is; to 16 where memory is and the block size is a multiple of 16, as for every
+  size asked for that is one; to no more. An array of uint8_t is aligned to 1 unless you say more.
+- A heap may be saved and loaded, at another address too: all three buffers together, as they are between two calls.
+  They hold offsets and no pointers; books and map are words of a little-endian machine.
+- How large: a text of n bytes takes a block of n rounded up to a multiple of 8, and a pool has 4,048 / size of them,
+  rounded down. For each block size divide the most texts that are live at one time by that, and round up: the sum is
+  the pools that are always enough. 300 texts of 1 to 24 bytes and 20 of 500 want 1 + 2 + 2 + 3 pools: A = 1, P = 8.
+- After a 6 something else has written to books, map or a freed block. Ask for nothing more: copy the texts out by roll
+  call and view, which never give 6, and format anew. The call that gave 6 wrote nothing, unless it is a resize with a
+  value.
+
 Example:
     #include "heskavern.h"
     static uint8_t memory[HESKAVERN_MEMORY_BYTES(1, 16)];

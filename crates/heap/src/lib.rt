@@ -30,7 +30,7 @@ ghost use lib.ListN.{length};
 ghost use Rattle.rules.specs.Books.{at, poolWord};
 ghost use Rattle.rules.specs.Blocks.{classAt, sizeAt};
 ghost use Rattle.rules.specs.Outcome.{heapOf};
-ghost use Rattle.rules.specs.Numbers.{inOrder, shapeNumber, sizeNumber, offsetNumber};
+ghost use Rattle.rules.specs.Numbers.{inOrder, shapeNumber, sizeNumber, offsetTests};
 ghost use Rattle.rules.specs.Promises.{
   FormatPromise,
   AskPromise,
@@ -69,8 +69,7 @@ pub fn format(
 
 // The number of the tests of a call on an offset: 1, 2 or 5, and 0 where the offset is live.
 fn offset_test(memory: &[u8], books: &[u32], map: &[u64], offset: usize) -> u32
-    ensures { λ r. ⌜ (r ≡ inOrder (shapeNumber (heapOf (now (memory .entry)) (now (books .entry)) (now (map .entry)))) 0
-        (offsetNumber 8 (heapOf (now (memory .entry)) (now (books .entry)) (now (map .entry))) offset) 0)
+    ensures { λ r. ⌜ (r ≡ offsetTests 8 (heapOf (now (memory .entry)) (now (books .entry)) (now (map .entry))) offset)
         × (r ≡ 0 → Passed (now (memory .entry)) (now (books .entry)) (now (map .entry)) offset) ⌝ }
 {
     let number = shape_number(memory, books, map);
