@@ -1,5 +1,5 @@
-/* The cases of 01, run through heskavern.h: K1 to K10, the fills, the moves, and each number from 0 to 7. C99, and C++
-   too. */
+/* The cases of 01, run through heskavern.h: K1 to K10, the fills, the moves, and each number from 0 to 7; and what the
+   header says is good to know. C99, and C++ too. */
 #include <stdio.h>
 #include <stdlib.h>
 #include <string.h>
@@ -362,6 +362,56 @@ static void damaged(void)
     expect_untouched();
 }
 
+/* The header's sums: 300 texts of each block size up to 24 and 20 of 500 fit in 8 pools, and the blocks of a size are
+   aligned as it says, counted from memory's start. */
+static void sized_and_aligned(void)
+{
+    static const size_t sizes[] = {8, 16, 24, 500}, texts[] = {300, 300, 300, 20}, aligned[] = {8, 16, 8, 8};
+    size_t i, text;
+    fresh(1, 8);
+    for (i = 0; i < sizeof sizes / sizeof *sizes; i++) {
+        for (text = 0; text < texts[i]; text++) {
+            heskavern_answer block = ASK(sizes[i]);
+            EXPECT(block.number == HESKAVERN_DONE && block.value % aligned[i] == 0);
+        }
+    }
+    EXPECT(ROLL_CALL(HESKAVERN_ROLL_WORDS(1, 8)).value == 920);
+    EXPECT(is(ASK(32), HESKAVERN_NO_ROOM, 0));
+}
+
+/* A heap that is copied, all three buffers together, is the same heap elsewhere; and a stale offset is the block's, not
+   its holder's. */
+static void copied_and_stale(void)
+{
+    heskavern_part part;
+    fresh(1, 2);
+    EXPECT(done(ASK(4), 48));
+    EXPECT(done(WRITE(48, "owed", 4), 48));
+    remember();
+    fresh(1, 2);
+#define COPY memory_before, memory_bytes, books_before, books_words, map_before, map_words
+    part = heskavern_view(COPY, 48);
+    EXPECT(part.bytes == memory_before + 48 && part.size == 8 && memcmp(part.bytes, "owed", 4) == 0);
+    EXPECT(done(heskavern_give_back(COPY, 48), 48));
+    EXPECT(is(heskavern_give_back(COPY, 48), HESKAVERN_NOT_LIVE, 0));
+    EXPECT(done(heskavern_ask(COPY, 4), 48));
+    EXPECT(done(heskavern_give_back(COPY, 48), 48));
+#undef COPY
+}
+
+/* Books and map of a second heap of the same shape: no call can tell, and an ask writes into a block that is held. */
+static void mixed_up(void)
+{
+    fresh(1, 2);
+    remember();
+    EXPECT(done(ASK(4), 48));
+    EXPECT(done(ASK(4), 56));
+    EXPECT(done(WRITE(56, "paid", 4), 56));
+    EXPECT(done(heskavern_ask(memory, memory_bytes, books_before, books_words, map_before, map_words, 4), 48));
+    EXPECT(memcmp(heskavern_view(HEAP, 56).bytes, "\0\0\0\0", 4) == 0);
+    expect_untouched();
+}
+
 int main(void)
 {
     k1_to_k3();
@@ -376,6 +426,9 @@ int main(void)
     wrong_shapes();
     wrong_lengths();
     damaged();
+    sized_and_aligned();
+    copied_and_stale();
+    mixed_up();
     printf("%lu facts\n", facts);
     return 0;
 }
