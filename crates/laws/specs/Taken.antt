@@ -68,7 +68,8 @@ spend-is al A P c a x = go (none? (at (put (arenaWord freePools a) (at (x .books
   where
     go : (t : Bool)
         → only t (arenaLeaves usableHead a)
-        (heapOf (x .memory) (put (arenaWord freePools a) (at (x .books) (arenaWord freePools a) - 1) (x .books)) (x .map))
+        (heapOf (x .memory) (put (arenaWord freePools a) (at (x .books) (arenaWord freePools a) - 1) (x .books))
+        (x .map))
         ≡ heapOf (x .memory)
         (only t (leave arenaLinks usableHead a)
         (put (arenaWord freePools a) (at (x .books) (arenaWord freePools a) - 1) (x .books)))

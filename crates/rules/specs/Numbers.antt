@@ -67,8 +67,8 @@ abbrev pub sizedOf : ℕ → ℕ → Sized
 sizedOf k s = record { number = k; size = s }
 
 module _ (al : ℕ) where
-  -- by the heap's own books and map: 5, of an offset; all tests of a call on an offset; the size of the block there; the
-  -- roll
+  -- by the heap's own books and map: 5, of an offset; all tests of a call on an offset; the size of the block there;
+  -- the roll
   abbrev pub offsetNumber : Heap → ℕ → ℕ
   offsetNumber h o = liveNumber al (arenas h) (pools h) (h .books) (h .map) o
 
