@@ -39,7 +39,8 @@ fn archive_folder() -> Result<PathBuf, String> {
     build_archive(&Path::new(&package).join("../.."))
 }
 
-/// The folder of the repository's archive, once its script has seen to it that the archive is no older than the crates. Proving them takes some minutes.
+/// The folder of the repository's archive, once its script has seen to it that the archive is no older than the
+/// crates. Proving them takes some minutes.
 fn build_archive(root: &Path) -> Result<PathBuf, String> {
     for source in ["build", "crates", "crates.txt", "KIT"] {
         println!("cargo:rerun-if-changed={}", root.join(source).display());
@@ -48,7 +49,8 @@ fn build_archive(root: &Path) -> Result<PathBuf, String> {
     match Command::new(&script).arg("library").stdout(Stdio::null()).status() {
         Ok(status) if status.success() => Ok(root.join("target/staticlib")),
         Ok(_) => Err(format!(
-            "`{} library` could not build {ARCHIVE}; set HESKAVERN_ARCHIVE_DIR to a folder that has it, or see what it says above",
+            "`{} library` could not build {ARCHIVE}; set HESKAVERN_ARCHIVE_DIR to a folder that has it, \
+             or see what it says above",
             script.display()
         )),
         Err(error) => Err(format!("{}: {error}", script.display())),

@@ -35,7 +35,12 @@ pub const NAMED: &[Slip] = &[
         "if n <= s && 4 * n > 3 * s {",
         "if class_of(n) == block.class || n <= s && 4 * n > 3 * s {",
     ),
-    slip("a start counts although its block runs past the pool", Some("R17:"), "start <= POOL - size", "start <= POOL - 8"),
+    slip(
+        "a start counts although its block runs past the pool",
+        Some("R17:"),
+        "start <= POOL - size",
+        "start <= POOL - 8",
+    ),
     slip(
         "the old block is given back before the new one is asked for",
         Some("refused resize"),
@@ -71,7 +76,12 @@ pub const READINGS: &[Slip] = &[
         "let old = self.follow(list.head, list.most, rule)?;",
         "let old = self.read(list.head).checked_sub(1).filter(|old| *old < list.most);",
     ),
-    slip("the front member's previous is not used", Some("R4:"), "match previous {", "match previous.filter(|_| self.read(list.head) != member + 1) {"),
+    slip(
+        "the front member's previous is not used",
+        Some("R4:"),
+        "match previous {",
+        "match previous.filter(|_| self.read(list.head) != member + 1) {",
+    ),
     slip(
         "opening an arena zeroes words 6 and 7",
         Some("R5:"),
@@ -88,7 +98,12 @@ pub const READINGS: &[Slip] = &[
         "self.rule(link != start, rules[4])?;
          if link != 0 {",
     ),
-    slip("a nextoffset equal to the block handed out is 6", Some("R6:"), "self.walk(Path::MakeReady);", "self.rule(nextoffset != start, Rule::ReadyLive)?;"),
+    slip(
+        "a nextoffset equal to the block handed out is 6",
+        Some("R6:"),
+        "self.walk(Path::MakeReady);",
+        "self.rule(nextoffset != start, Rule::ReadyLive)?;",
+    ),
     slip("a full pool whose count falls to 0 is freed", Some("R7:"), "if old == 0 {", "if old == 0 && count != 1 {"),
     slip(
         "a give-back tests freeblock's bit",
@@ -111,9 +126,24 @@ pub const READINGS: &[Slip] = &[
         "self.live(offset).and_then(|block| self.step(|heap| heap.give_back(offset, block)));",
         "self.step(|heap| heap.give_back(offset, block));",
     ),
-    slip("an ask holds count against the blocks of its class", Some("R11:"), "count <= 505", "count < (POOL - HEADER) / size"),
-    slip("a give-back holds count against the blocks of its class", Some("R11:"), "count <= 506", "count <= (POOL - HEADER) / block_size(class)"),
-    slip("a freed pool must lie in its arena", Some("R12:"), "self.walk(Path::FreedPool);", "self.rule(freed / self.pools == arena, Rule::FreedHead)?;"),
+    slip(
+        "an ask holds count against the blocks of its class",
+        Some("R11:"),
+        "count <= 505",
+        "count < (POOL - HEADER) / size",
+    ),
+    slip(
+        "a give-back holds count against the blocks of its class",
+        Some("R11:"),
+        "count <= 506",
+        "count <= (POOL - HEADER) / block_size(class)",
+    ),
+    slip(
+        "a freed pool must lie in its arena",
+        Some("R12:"),
+        "self.walk(Path::FreedPool);",
+        "self.rule(freed / self.pools == arena, Rule::FreedHead)?;",
+    ),
     slip(
         "a usable arena must be open",
         Some("R12:"),
@@ -169,11 +199,31 @@ pub const READINGS: &[Slip] = &[
         "if class > 63 {
             return refuse(6);",
     ),
-    slip("the roll lists bits past the last block", Some("R17:"), "for k in (0..(POOL - HEADER) / size)", "for k in (0..POOL / size)"),
-    slip("an empty text is 7", Some("R22:"), "text.len() > block.size()", "text.is_empty() || text.len() > block.size()"),
-    slip("an empty roll is 7", Some("R22:"), "roll.len() < 2 * blocks.len()", "roll.is_empty() || roll.len() < 2 * blocks.len()"),
+    slip(
+        "the roll lists bits past the last block",
+        Some("R17:"),
+        "for k in (0..(POOL - HEADER) / size)",
+        "for k in (0..POOL / size)",
+    ),
+    slip(
+        "an empty text is 7",
+        Some("R22:"),
+        "text.len() > block.size()",
+        "text.is_empty() || text.len() > block.size()",
+    ),
+    slip(
+        "an empty roll is 7",
+        Some("R22:"),
+        "roll.len() < 2 * blocks.len()",
+        "roll.is_empty() || roll.len() < 2 * blocks.len()",
+    ),
     slip("P is cut to 32 bits", Some("R23:"), "contains(&pools)", "contains(&(pools as u32 as usize))"),
-    slip("an offset is cut to 32 bits", Some("R23:"), "Ok(heap.live(offset)?.size())", "Ok(heap.live(offset as u32 as usize)?.size())"),
+    slip(
+        "an offset is cut to 32 bits",
+        Some("R23:"),
+        "Ok(heap.live(offset)?.size())",
+        "Ok(heap.live(offset as u32 as usize)?.size())",
+    ),
     slip(
         "a returning pool doesn't test the freed-pool head",
         Some("a returning pool"),
@@ -184,8 +234,18 @@ pub const READINGS: &[Slip] = &[
 
 /// The slips of a tired hand.
 pub const TIRED: &[Slip] = &[
-    slip("a refused step is not undone", None, "if outcome.is_err() {", "if outcome.is_err() && self.notes.is_empty() {"),
-    slip("a refused step is undone first to last", None, "while let Some(was) = self.notes.pop() {", "for was in std::mem::take(self.notes) {"),
+    slip(
+        "a refused step is not undone",
+        None,
+        "if outcome.is_err() {",
+        "if outcome.is_err() && self.notes.is_empty() {",
+    ),
+    slip(
+        "a refused step is undone first to last",
+        None,
+        "while let Some(was) = self.notes.pop() {",
+        "for was in std::mem::take(self.notes) {",
+    ),
     slip("books of under two words are 1", Some("order"), "return refuse(2);", "return refuse(1);"),
     slip("a map that is too long is taken", None, "lent.map.len() == 8 * all", "lent.map.len() >= 8 * all"),
     slip(
@@ -204,10 +264,25 @@ pub const TIRED: &[Slip] = &[
     slip("an ask takes a count of 506", None, "count <= 505", "count <= 506"),
     slip("a give-back refuses a count of 506", None, "count <= 506", "count <= 505"),
     slip("any class will do for the front pool", None, "== class, Rule::FrontClass", "<= 63, Rule::FrontClass"),
-    slip("maxnextoffset may be lower", None, "== POOL - size, Rule::FrontMaximum", "<= POOL - size, Rule::FrontMaximum"),
+    slip(
+        "maxnextoffset may be lower",
+        None,
+        "== POOL - size, Rule::FrontMaximum",
+        "<= POOL - size, Rule::FrontMaximum",
+    ),
     slip("the last pool is not carved", None, "mark < self.pools", "mark + 1 < self.pools"),
-    slip("P + 1 free pools will do when taking", None, "free <= self.pools, Rule::M", "free <= self.pools + 1, Rule::M"),
-    slip("P free pools will do when one returns", None, "free <= self.pools, Rule::B", "free <= self.pools + 1, Rule::B"),
+    slip(
+        "P + 1 free pools will do when taking",
+        None,
+        "free <= self.pools, Rule::M",
+        "free <= self.pools + 1, Rule::M",
+    ),
+    slip(
+        "P free pools will do when one returns",
+        None,
+        "free <= self.pools, Rule::B",
+        "free <= self.pools + 1, Rule::B",
+    ),
     slip("the block made ready keeps its bytes", None, "self.write_link(pool, nextoffset, 0);", ""),
     slip("a pool alone on its list keeps its next", None, "self.put(self.pool(pool, POOL_NEXT), 0);", ""),
     slip(
@@ -217,11 +292,26 @@ pub const TIRED: &[Slip] = &[
         "self.put(freed_head, link_to(Some(pool)));
          if let Some(old) = old { self.put(self.pool(old, POOL_PREVIOUS), link_to(Some(pool))); }",
     ),
-    slip("who joins leaves the old head's previous", Some("R3:"), "self.put(list.previous(old), link_to(Some(member)));", "let _ = old;"),
+    slip(
+        "who joins leaves the old head's previous",
+        Some("R3:"),
+        "self.put(list.previous(old), link_to(Some(member)));",
+        "let _ = old;",
+    ),
     slip("three quarters is near enough", Some("K8"), "4 * n > 3 * s", "4 * n >= 3 * s"),
-    slip("a resize copies whole blocks", None, "offset + n.min(s), new", "offset + block_size(class_of(n)).min(s), new"),
+    slip(
+        "a resize copies whole blocks",
+        None,
+        "offset + n.min(s), new",
+        "offset + block_size(class_of(n)).min(s), new",
+    ),
     slip("a half-done resize answers offset 0", Some("R9:"), "value: new as u32", "value: 0"),
-    slip("a half-done resize answers 5", Some("R9:"), "Answer { number: 6, value: new", "Answer { number: refusal.number, value: new"),
+    slip(
+        "a half-done resize answers 5",
+        Some("R9:"),
+        "Answer { number: 6, value: new",
+        "Answer { number: refusal.number, value: new",
+    ),
     slip(
         "write clears the rest of the block",
         Some("write and view"),
@@ -236,6 +326,16 @@ pub const TIRED: &[Slip] = &[
         "roll[2 * blocks.len()..].fill(0);
          for (i, (offset, block)) in",
     ),
-    slip("format leaves the spare words", Some("format"), "lent.books.fill(0);", "lent.books[..68].fill(0); lent.books[72..].fill(0);"),
-    slip("format links the arenas one way", Some("format"), "lent.books[next + 1] = link_to(arena.checked_sub(1)) as u32;", ""),
+    slip(
+        "format leaves the spare words",
+        Some("format"),
+        "lent.books.fill(0);",
+        "lent.books[..68].fill(0); lent.books[72..].fill(0);",
+    ),
+    slip(
+        "format links the arenas one way",
+        Some("format"),
+        "lent.books[next + 1] = link_to(arena.checked_sub(1)) as u32;",
+        "",
+    ),
 ];

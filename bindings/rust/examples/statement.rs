@@ -1,5 +1,5 @@
-//! A talking statement keeps each text in a block. The block of the word "owed" is given back twice: the second time is refused, the payee's name gets a
-//! block of its own, and the roll call says what every block that is out holds.
+//! A talking statement keeps each text in a block. The block of the word "owed" is given back twice: the second time
+//! is refused, the payee's name gets a block of its own, and the roll call says what every block that is out holds.
 //!
 //! cargo run --manifest-path bindings/rust/Cargo.toml --example statement
 

@@ -1,16 +1,20 @@
-//! The calls as the library has them, over any three slices: the number, and the value beside it. [`Heap`](crate::Heap) says the same with types.
+//! The calls as the library has them, over any three slices: the number, and the value beside it.
+//! [`Heap`](crate::Heap) says the same with types.
 //!
-//! Each takes any lengths, any contents of the buffers and any arguments, and answers by its rules: [`Answer::number`] is 0 when it is done.
+//! Each takes any lengths, any contents of the buffers and any arguments, and answers by its rules:
+//! [`Answer::number`] is 0 when it is done.
 //!
 //! ```
 //! use heskavern::calls::{ask, Answer};
 //! assert_eq!(ask(&mut [], &mut [], &mut [], 8), Answer { number: 2, value: 0 });
 //! ```
 //!
-//! All the unsafe code of this crate stands here, and each call is sound for one reason. include/heskavern.h asks of its caller that pointers are valid
-//! for their lengths, aligned and not null, that a buffer which the call may write overlaps no other, that nothing else reads or writes that one during
-//! the call, and that nothing else writes the others. A buffer that the call may write is `&mut` here and every other `&`, and that is what Rust's slices
-//! are: `&mut` slices overlap nothing, `&` ones may overlap each other. The library keeps no pointer, calls nothing back and touches nothing but the buffers.
+//! All the unsafe code of this crate stands here, and each call is sound for one reason. include/heskavern.h asks of
+//! its caller that pointers are valid for their lengths, aligned and not null, that a buffer which the call may write
+//! overlaps no other, that nothing else reads or writes that one during the call, and that nothing else writes the
+//! others. A buffer that the call may write is `&mut` here and every other `&`, and that is what Rust's slices are:
+//! `&mut` slices overlap nothing, `&` ones may overlap each other. The library keeps no pointer, calls nothing back
+//! and touches nothing but the buffers.
 
 /// What a call answers.
 #[repr(C)]
@@ -34,9 +38,24 @@ extern "C" {
         arenas: usize,
         pools: usize,
     ) -> Answer;
-    fn heskavern_ask(memory: *mut u8, memory_bytes: usize, books: *mut u32, books_words: usize, map: *mut u64, map_words: usize, size: usize) -> Answer;
-    fn heskavern_give_back(memory: *mut u8, memory_bytes: usize, books: *mut u32, books_words: usize, map: *mut u64, map_words: usize, offset: usize)
-        -> Answer;
+    fn heskavern_ask(
+        memory: *mut u8,
+        memory_bytes: usize,
+        books: *mut u32,
+        books_words: usize,
+        map: *mut u64,
+        map_words: usize,
+        size: usize,
+    ) -> Answer;
+    fn heskavern_give_back(
+        memory: *mut u8,
+        memory_bytes: usize,
+        books: *mut u32,
+        books_words: usize,
+        map: *mut u64,
+        map_words: usize,
+        offset: usize,
+    ) -> Answer;
     fn heskavern_resize(
         memory: *mut u8,
         memory_bytes: usize,
@@ -82,41 +101,109 @@ extern "C" {
 /// Format: a fresh heap of A arenas of P pools. Value 0.
 pub fn format(memory: &[u8], books: &mut [u32], map: &mut [u64], arenas: usize, pools: usize) -> Answer {
     // SAFETY: see the module.
-    unsafe { heskavern_format(memory.as_ptr(), memory.len(), books.as_mut_ptr(), books.len(), map.as_mut_ptr(), map.len(), arenas, pools) }
+    unsafe {
+        heskavern_format(
+            memory.as_ptr(),
+            memory.len(),
+            books.as_mut_ptr(),
+            books.len(),
+            map.as_mut_ptr(),
+            map.len(),
+            arenas,
+            pools,
+        )
+    }
 }
 
 /// Ask for a block of at least `size` bytes. The value is its offset.
 pub fn ask(memory: &mut [u8], books: &mut [u32], map: &mut [u64], size: usize) -> Answer {
     // SAFETY: see the module.
-    unsafe { heskavern_ask(memory.as_mut_ptr(), memory.len(), books.as_mut_ptr(), books.len(), map.as_mut_ptr(), map.len(), size) }
+    unsafe {
+        heskavern_ask(
+            memory.as_mut_ptr(),
+            memory.len(),
+            books.as_mut_ptr(),
+            books.len(),
+            map.as_mut_ptr(),
+            map.len(),
+            size,
+        )
+    }
 }
 
 /// Give the block at `offset` back. The value is the offset.
 pub fn give_back(memory: &mut [u8], books: &mut [u32], map: &mut [u64], offset: usize) -> Answer {
     // SAFETY: see the module.
-    unsafe { heskavern_give_back(memory.as_mut_ptr(), memory.len(), books.as_mut_ptr(), books.len(), map.as_mut_ptr(), map.len(), offset) }
+    unsafe {
+        heskavern_give_back(
+            memory.as_mut_ptr(),
+            memory.len(),
+            books.as_mut_ptr(),
+            books.len(),
+            map.as_mut_ptr(),
+            map.len(),
+            offset,
+        )
+    }
 }
 
 /// Resize the block at `offset` to `size` bytes. The value is the offset of the block that the text is then in.
 pub fn resize(memory: &mut [u8], books: &mut [u32], map: &mut [u64], offset: usize, size: usize) -> Answer {
     // SAFETY: see the module.
-    unsafe { heskavern_resize(memory.as_mut_ptr(), memory.len(), books.as_mut_ptr(), books.len(), map.as_mut_ptr(), map.len(), offset, size) }
+    unsafe {
+        heskavern_resize(
+            memory.as_mut_ptr(),
+            memory.len(),
+            books.as_mut_ptr(),
+            books.len(),
+            map.as_mut_ptr(),
+            map.len(),
+            offset,
+            size,
+        )
+    }
 }
 
 /// View's companion: the value is the size of the live block at `offset`.
 pub fn view_size(memory: &[u8], books: &[u32], map: &[u64], offset: usize) -> Answer {
     // SAFETY: see the module.
-    unsafe { heskavern_view_size(memory.as_ptr(), memory.len(), books.as_ptr(), books.len(), map.as_ptr(), map.len(), offset) }
+    unsafe {
+        heskavern_view_size(memory.as_ptr(), memory.len(), books.as_ptr(), books.len(), map.as_ptr(), map.len(), offset)
+    }
 }
 
 /// Write the text to the start of the live block at `offset`. The value is the offset.
 pub fn write(memory: &mut [u8], books: &[u32], map: &[u64], offset: usize, text: &[u8]) -> Answer {
     // SAFETY: see the module.
-    unsafe { heskavern_write(memory.as_mut_ptr(), memory.len(), books.as_ptr(), books.len(), map.as_ptr(), map.len(), offset, text.as_ptr(), text.len()) }
+    unsafe {
+        heskavern_write(
+            memory.as_mut_ptr(),
+            memory.len(),
+            books.as_ptr(),
+            books.len(),
+            map.as_ptr(),
+            map.len(),
+            offset,
+            text.as_ptr(),
+            text.len(),
+        )
+    }
 }
 
-/// Roll call: offset and block size of each live block, by rising offset, to the lent words. The value is how many blocks are live.
+/// Roll call: offset and block size of each live block, by rising offset, to the lent words. The value is how many
+/// blocks are live.
 pub fn roll_call(memory: &[u8], books: &[u32], map: &[u64], roll: &mut [u32]) -> Answer {
     // SAFETY: see the module.
-    unsafe { heskavern_roll_call(memory.as_ptr(), memory.len(), books.as_ptr(), books.len(), map.as_ptr(), map.len(), roll.as_mut_ptr(), roll.len()) }
+    unsafe {
+        heskavern_roll_call(
+            memory.as_ptr(),
+            memory.len(),
+            books.as_ptr(),
+            books.len(),
+            map.as_ptr(),
+            map.len(),
+            roll.as_mut_ptr(),
+            roll.len(),
+        )
+    }
 }

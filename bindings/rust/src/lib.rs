@@ -1,8 +1,9 @@
 //! Heskavern: a small-block allocator over memory that its caller lends, with every promise proved.
 //!
-//! A heap has A arenas (1 to 16) of P pools (2 to 64); a pool is 4,096 bytes. Three buffers are lent to it: memory, which holds the blocks, books and
-//! map, each of an exact length ([`memory_bytes`], [`books_words`], [`map_words`]). A block is known by its offset in memory. A call that cannot be done is
-//! refused with a number, which a [`Refusal`] names, and changes nothing.
+//! A heap has A arenas (1 to 16) of P pools (2 to 64); a pool is 4,096 bytes. Three buffers are lent to it: memory,
+//! which holds the blocks, books and map, each of an exact length ([`memory_bytes`], [`books_words`], [`map_words`]).
+//! A block is known by its offset in memory. A call that cannot be done is refused with a number, which a [`Refusal`]
+//! names, and changes nothing.
 //!
 //! ```
 //! use heskavern::{books_words, map_words, memory_bytes, Heap, Refusal};
@@ -20,10 +21,11 @@
 //! # Ok::<(), Refusal>(())
 //! ```
 //!
-//! The calls are those of `libheskavern.a`, for x86-64 Linux, whose source is proved (docs/PROMISES.md in the repository). This crate adds types, and nothing
-//! to what they do.
+//! The calls are those of `libheskavern.a`, for x86-64 Linux, whose source is proved (docs/PROMISES.md in the
+//! repository). This crate adds types, and nothing to what they do.
 //!
-//! Without the feature `std`, which is on by default, the crate needs `core` alone; then [`Refusal`] is no `std::error::Error`.
+//! Without the feature `std`, which is on by default, the crate needs `core` alone; then [`Refusal`] is no
+//! `std::error::Error`.
 #![no_std]
 #![deny(missing_docs)]
 #![deny(unsafe_code)]
@@ -62,7 +64,8 @@ pub const fn map_words(arenas: usize, pools: usize) -> usize {
     8 * arenas * pools
 }
 
-/// Roll words that are enough for every roll call on A arenas of P pools: two for each block, were all of them of 8 bytes and live.
+/// Roll words that are enough for every roll call on A arenas of P pools: two for each block, were all of them of 8
+/// bytes and live.
 #[must_use]
 pub const fn roll_words(arenas: usize, pools: usize) -> usize {
     2 * 506 * arenas * pools
@@ -70,8 +73,9 @@ pub const fn roll_words(arenas: usize, pools: usize) -> usize {
 
 /// A heap over three lent buffers.
 ///
-/// While it stands, nothing else can read or write them. A holder writes to its own block by [`write`](Heap::write) or [`view_mut`](Heap::view_mut). So, from
-/// [`format`](Heap::format) on, a block is never handed out twice and no call gives 6. Only [`open`](Heap::open) can bring in books that something damaged.
+/// While it stands, nothing else can read or write them. A holder writes to its own block by [`write`](Heap::write)
+/// or [`view_mut`](Heap::view_mut). So, from [`format`](Heap::format) on, a block is never handed out twice and no
+/// call gives 6. Only [`open`](Heap::open) can bring in books that something damaged.
 pub struct Heap<'a> {
     memory: &'a mut [u8],
     books: &'a mut [u32],
@@ -83,22 +87,30 @@ impl<'a> Heap<'a> {
     ///
     /// ```
     /// # use heskavern::{books_words, map_words, memory_bytes, Heap, Refusal};
-    /// # let (mut memory, mut books, mut map) = ([0; memory_bytes(1, 2)], [0; books_words(1, 2)], [0; map_words(1, 2)]);
+    /// # let (mut memory, mut books, mut map) =
+    /// #     ([0; memory_bytes(1, 2)], [0; books_words(1, 2)], [0; map_words(1, 2)]);
     /// assert!(Heap::format(&mut memory, &mut books, &mut map, 1, 2).is_ok());
     /// assert_eq!(Heap::format(&mut memory, &mut books, &mut map, 1, 1).unwrap_err(), Refusal::OutOfRange);
     /// assert_eq!(Heap::format(&mut memory, &mut books, &mut map, 1, 3).unwrap_err(), Refusal::NotExact);
     /// ```
-    pub fn format(memory: &'a mut [u8], books: &'a mut [u32], map: &'a mut [u64], arenas: usize, pools: usize) -> Result<Self, Refusal> {
+    pub fn format(
+        memory: &'a mut [u8],
+        books: &'a mut [u32],
+        map: &'a mut [u64],
+        arenas: usize,
+        pools: usize,
+    ) -> Result<Self, Refusal> {
         done(calls::format(memory, books, map, arenas, pools))?;
         Ok(Heap { memory, books, map })
     }
 
-    /// A heap that was formatted before, with the blocks that are live in it. Writes nothing. Refused with 1 or 2, by the A and P that stand in the books;
-    /// other damage to them is met by the call that comes upon it.
+    /// A heap that was formatted before, with the blocks that are live in it. Writes nothing. Refused with 1 or 2, by
+    /// the A and P that stand in the books; other damage to them is met by the call that comes upon it.
     ///
     /// ```
     /// # use heskavern::{books_words, map_words, memory_bytes, Heap, Refusal};
-    /// # let (mut memory, mut books, mut map) = ([0; memory_bytes(1, 2)], [0; books_words(1, 2)], [0; map_words(1, 2)]);
+    /// # let (mut memory, mut books, mut map) =
+    /// #     ([0; memory_bytes(1, 2)], [0; books_words(1, 2)], [0; map_words(1, 2)]);
     /// let mut heap = Heap::format(&mut memory, &mut books, &mut map, 1, 2)?;
     /// let word = heap.ask(4)?;
     ///
@@ -115,11 +127,13 @@ impl<'a> Heap<'a> {
         }
     }
 
-    /// Ask: hands out a block of at least `size` bytes and answers its offset. Its bytes are not cleared. Refused with 3, 4 or 6.
+    /// Ask: hands out a block of at least `size` bytes and answers its offset. Its bytes are not cleared. Refused
+    /// with 3, 4 or 6.
     ///
     /// ```
     /// # use heskavern::{books_words, map_words, memory_bytes, Heap, Refusal, LARGEST};
-    /// # let (mut memory, mut books, mut map) = ([0; memory_bytes(1, 2)], [0; books_words(1, 2)], [0; map_words(1, 2)]);
+    /// # let (mut memory, mut books, mut map) =
+    /// #     ([0; memory_bytes(1, 2)], [0; books_words(1, 2)], [0; map_words(1, 2)]);
     /// # let mut heap = Heap::format(&mut memory, &mut books, &mut map, 1, 2)?;
     /// assert_eq!(heap.ask(8), Ok(48));
     /// assert_eq!(heap.ask(8), Ok(56));
@@ -135,7 +149,8 @@ impl<'a> Heap<'a> {
     ///
     /// ```
     /// # use heskavern::{books_words, map_words, memory_bytes, Heap, Refusal};
-    /// # let (mut memory, mut books, mut map) = ([0; memory_bytes(1, 2)], [0; books_words(1, 2)], [0; map_words(1, 2)]);
+    /// # let (mut memory, mut books, mut map) =
+    /// #     ([0; memory_bytes(1, 2)], [0; books_words(1, 2)], [0; map_words(1, 2)]);
     /// # let mut heap = Heap::format(&mut memory, &mut books, &mut map, 1, 2)?;
     /// let word = heap.ask(4)?;
     /// assert_eq!(heap.give_back(word), Ok(()));
@@ -146,13 +161,15 @@ impl<'a> Heap<'a> {
         done(calls::give_back(self.memory, self.books, self.map, offset as usize)).map(drop)
     }
 
-    /// Resize: makes room for `size` bytes and answers the offset of the block that the text is then in. Of a block of s bytes, the offset is kept where
-    /// `size <= s` and `4 * size > 3 * s`. Otherwise a block is asked for, the first bytes are copied to it, and the old block is given back. Refused with
-    /// 3, 5, 4 or 6; [`Refusal::HalfDone`] has the new offset where only the give-back could not be done.
+    /// Resize: makes room for `size` bytes and answers the offset of the block that the text is then in. Of a block
+    /// of s bytes, the offset is kept where `size <= s` and `4 * size > 3 * s`. Otherwise a block is asked for, the
+    /// first bytes are copied to it, and the old block is given back. Refused with 3, 5, 4 or 6;
+    /// [`Refusal::HalfDone`] has the new offset where only the give-back could not be done.
     ///
     /// ```
     /// # use heskavern::{books_words, map_words, memory_bytes, Heap, Refusal};
-    /// # let (mut memory, mut books, mut map) = ([0; memory_bytes(1, 2)], [0; books_words(1, 2)], [0; map_words(1, 2)]);
+    /// # let (mut memory, mut books, mut map) =
+    /// #     ([0; memory_bytes(1, 2)], [0; books_words(1, 2)], [0; map_words(1, 2)]);
     /// # let mut heap = Heap::format(&mut memory, &mut books, &mut map, 1, 2)?;
     /// let word = heap.ask(100)?;
     /// heap.write(word, b"owed")?;
@@ -170,7 +187,8 @@ impl<'a> Heap<'a> {
     ///
     /// ```
     /// # use heskavern::{books_words, map_words, memory_bytes, Heap, Refusal};
-    /// # let (mut memory, mut books, mut map) = ([0; memory_bytes(1, 2)], [0; books_words(1, 2)], [0; map_words(1, 2)]);
+    /// # let (mut memory, mut books, mut map) =
+    /// #     ([0; memory_bytes(1, 2)], [0; books_words(1, 2)], [0; map_words(1, 2)]);
     /// # let mut heap = Heap::format(&mut memory, &mut books, &mut map, 1, 2)?;
     /// let word = heap.ask(4)?;
     /// assert_eq!(heap.view(word)?.len(), 8);
@@ -186,7 +204,8 @@ impl<'a> Heap<'a> {
     ///
     /// ```
     /// # use heskavern::{books_words, map_words, memory_bytes, Heap, Refusal};
-    /// # let (mut memory, mut books, mut map) = ([0; memory_bytes(1, 2)], [0; books_words(1, 2)], [0; map_words(1, 2)]);
+    /// # let (mut memory, mut books, mut map) =
+    /// #     ([0; memory_bytes(1, 2)], [0; books_words(1, 2)], [0; map_words(1, 2)]);
     /// # let mut heap = Heap::format(&mut memory, &mut books, &mut map, 1, 2)?;
     /// let word = heap.ask(4)?;
     /// heap.view_mut(word)?.fill(b'-');
@@ -202,7 +221,8 @@ impl<'a> Heap<'a> {
     ///
     /// ```
     /// # use heskavern::{books_words, map_words, memory_bytes, Heap, Refusal};
-    /// # let (mut memory, mut books, mut map) = ([0; memory_bytes(1, 2)], [0; books_words(1, 2)], [0; map_words(1, 2)]);
+    /// # let (mut memory, mut books, mut map) =
+    /// #     ([0; memory_bytes(1, 2)], [0; books_words(1, 2)], [0; map_words(1, 2)]);
     /// # let mut heap = Heap::format(&mut memory, &mut books, &mut map, 1, 2)?;
     /// let word = heap.ask(4)?;
     /// heap.write(word, b"owed")?;
@@ -214,12 +234,14 @@ impl<'a> Heap<'a> {
         done(calls::write(self.memory, self.books, self.map, offset as usize, text)).map(drop)
     }
 
-    /// Roll call: lists offset and block size of each live block, by rising offset. They are written to the lent words, two for each block; the words after
-    /// them stay. Refused with 7 where there are too few; [`roll_words`] are always enough.
+    /// Roll call: lists offset and block size of each live block, by rising offset. They are written to the lent
+    /// words, two for each block; the words after them stay. Refused with 7 where there are too few; [`roll_words`]
+    /// are always enough.
     ///
     /// ```
     /// # use heskavern::{books_words, map_words, memory_bytes, roll_words, Heap, Refusal};
-    /// # let (mut memory, mut books, mut map) = ([0; memory_bytes(1, 2)], [0; books_words(1, 2)], [0; map_words(1, 2)]);
+    /// # let (mut memory, mut books, mut map) =
+    /// #     ([0; memory_bytes(1, 2)], [0; books_words(1, 2)], [0; map_words(1, 2)]);
     /// # let mut heap = Heap::format(&mut memory, &mut books, &mut map, 1, 2)?;
     /// heap.ask(4)?;
     /// heap.ask(100)?;

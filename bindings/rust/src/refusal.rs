@@ -2,7 +2,8 @@
 
 use core::fmt;
 
-/// Why a call is refused: each of the library's numbers under a name. A refused call leaves every byte and word as it was, but for [`HalfDone`].
+/// Why a call is refused: each of the library's numbers under a name. A refused call leaves every byte and word as it
+/// was, but for [`HalfDone`].
 ///
 /// ```
 /// use heskavern::Refusal;
@@ -26,7 +27,8 @@ pub enum Refusal {
     NotLive,
     /// 6: books damaged.
     Damaged,
-    /// 6 of a resize that was half done: the text stands in the new block, at this offset, and the old block could not be given back.
+    /// 6 of a resize that was half done: the text stands in the new block, at this offset, and the old block could
+    /// not be given back.
     HalfDone(u32),
     /// 7: text longer than its block, or fewer than two roll words for each live block.
     DoesNotFit,
@@ -49,7 +51,8 @@ impl Refusal {
         }
     }
 
-    /// The refusal that has this number, with the value beside it. No block starts at 0, so a 6 with another value is a half-done resize.
+    /// The refusal that has this number, with the value beside it. No block starts at 0, so a 6 with another value is
+    /// a half-done resize.
     pub(crate) const fn of(number: u32, value: u32) -> Refusal {
         match (number, value) {
             (1, _) => Refusal::OutOfRange,
@@ -77,7 +80,9 @@ impl fmt::Display for Refusal {
             Refusal::HalfDone(offset) => {
                 write!(f, "books damaged: the text is now at {offset}, and its old block could not be given back")
             }
-            Refusal::DoesNotFit => f.write_str("text longer than its block, or fewer than two roll words for each live block"),
+            Refusal::DoesNotFit => {
+                f.write_str("text longer than its block, or fewer than two roll words for each live block")
+            }
             Refusal::Unknown(number) => write!(f, "refused with the unknown number {number}"),
         }
     }

@@ -3,7 +3,8 @@
 use core::iter::FusedIterator;
 use core::slice::ChunksExact;
 
-/// The live blocks by rising offset: the offset and the block size of each. Made by [`Heap::roll_call`](crate::Heap::roll_call).
+/// The live blocks by rising offset: the offset and the block size of each. Made by
+/// [`Heap::roll_call`](crate::Heap::roll_call).
 #[derive(Clone, Debug)]
 pub struct Roll<'r> {
     pairs: ChunksExact<'r, u32>,

@@ -10,7 +10,11 @@ struct Lent {
 }
 
 fn lent(arenas: usize, pools: usize) -> Lent {
-    Lent { memory: vec![0xA5; memory_bytes(arenas, pools)], books: vec![0xA5; books_words(arenas, pools)], map: vec![0xA5; map_words(arenas, pools)] }
+    Lent {
+        memory: vec![0xA5; memory_bytes(arenas, pools)],
+        books: vec![0xA5; books_words(arenas, pools)],
+        map: vec![0xA5; map_words(arenas, pools)],
+    }
 }
 
 impl Lent {

@@ -109,7 +109,13 @@ pub struct Difference {
 }
 
 /// Runs the same sequences, at least this many calls, through both programs, until they differ.
-pub fn compare(left: &mut dyn Calls, right: &mut dyn Calls, seed: u64, calls: u64, tally: &mut Tally) -> Result<(), Difference> {
+pub fn compare(
+    left: &mut dyn Calls,
+    right: &mut dyn Calls,
+    seed: u64,
+    calls: u64,
+    tally: &mut Tally,
+) -> Result<(), Difference> {
     let end = tally.calls + calls;
     let mut seed = seed;
     let mut steps = Vec::new();
@@ -213,7 +219,11 @@ impl Pair<'_> {
     }
 }
 
-fn first<T: PartialEq + fmt::LowerHex + fmt::Display>(left: &[T], right: &[T], name: impl Fn(usize) -> String) -> Option<String> {
+fn first<T: PartialEq + fmt::LowerHex + fmt::Display>(
+    left: &[T],
+    right: &[T],
+    name: impl Fn(usize) -> String,
+) -> Option<String> {
     let mut differ = (0..left.len()).filter(|&at| left[at] != right[at]);
     let at = differ.next()?;
     let (paper, other) = (&left[at], &right[at]);

@@ -270,7 +270,8 @@ impl Source {
     fn roll_words(&mut self, heap: &Buffers) -> usize {
         let bits: u32 = heap.map.iter().map(|word| word.count_ones()).sum();
         let live = self.rng.pick(&[bits as usize, self.held.len()]);
-        let words = self.rng.pick(&[2 * live, 2 * live, 2 * live + 1, 2 * live + 5, (2 * live).saturating_sub(1), live]);
+        let words =
+            self.rng.pick(&[2 * live, 2 * live, 2 * live + 1, 2 * live + 5, (2 * live).saturating_sub(1), live]);
         if self.rng.one_in(16) {
             0
         } else {

@@ -33,7 +33,9 @@ impl Calls for Library {
     fn view(&mut self, lent: Lent, offset: usize) -> (usize, usize) {
         let start = lent.memory.as_ptr() as usize;
         match (Heap::open(lent.memory, lent.books, lent.map), u32::try_from(offset)) {
-            (Ok(heap), Ok(offset)) => heap.view(offset).map_or((0, 0), |part| (part.as_ptr() as usize - start, part.len())),
+            (Ok(heap), Ok(offset)) => {
+                heap.view(offset).map_or((0, 0), |part| (part.as_ptr() as usize - start, part.len()))
+            }
             _ => (0, 0),
         }
     }

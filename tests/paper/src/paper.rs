@@ -320,9 +320,11 @@ fn format(lent: Lent, arenas: usize, pools: usize) -> Refused<usize> {
     Ok(0)
 }
 
-/// The rules that a block handed out from freeblock can break: it is 0, no start, or live; its link is no start, or live.
-const FROM_FRONT: [Rule; 5] = [Rule::FrontNone, Rule::FrontNoStart, Rule::FrontLive, Rule::FrontLinkNoStart, Rule::FrontLinkLive];
-const FROM_FREED: [Rule; 5] = [Rule::FreedNone, Rule::FreedNoStart, Rule::FreedLive, Rule::FreedLinkNoStart, Rule::FreedLinkLive];
+/// The rules that a block handed out from freeblock can break: it is 0, no start, or live; its link no start, or live.
+const FROM_FRONT: [Rule; 5] =
+    [Rule::FrontNone, Rule::FrontNoStart, Rule::FrontLive, Rule::FrontLinkNoStart, Rule::FrontLinkLive];
+const FROM_FREED: [Rule; 5] =
+    [Rule::FreedNone, Rule::FreedNoStart, Rule::FreedLive, Rule::FreedLinkNoStart, Rule::FreedLinkLive];
 
 impl Heap<'_> {
     /// **Ask.**

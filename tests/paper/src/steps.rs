@@ -19,7 +19,8 @@ pub enum Call {
 }
 
 impl Call {
-    pub const NAMES: [&'static str; 8] = ["format", "ask", "give back", "resize", "view", "view's size", "write", "roll call"];
+    pub const NAMES: [&'static str; 8] =
+        ["format", "ask", "give back", "resize", "view", "view's size", "write", "roll call"];
 
     /// Which of the names is its own.
     pub fn kind(&self) -> usize {
@@ -146,8 +147,10 @@ fn text(length: usize, first: u8) -> Vec<u8> {
 
 /// What the word of the books at this place is, in a heap of this many arenas.
 pub fn word_name(at: usize, arenas: usize) -> String {
-    const ARENA: [&str; 8] = ["open", "carve mark", "free pools", "freed-pool head", "next", "previous", "word 6", "word 7"];
-    const POOL: [&str; 8] = ["count", "freeblock", "next", "previous", "class", "nextoffset", "maxnextoffset", "word 7"];
+    const ARENA: [&str; 8] =
+        ["open", "carve mark", "free pools", "freed-pool head", "next", "previous", "word 6", "word 7"];
+    const POOL: [&str; 8] =
+        ["count", "freeblock", "next", "previous", "class", "nextoffset", "maxnextoffset", "word 7"];
     match at {
         0 => "A".into(),
         1 => "P".into(),

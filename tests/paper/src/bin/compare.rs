@@ -71,7 +71,10 @@ fn against(other: &mut dyn Calls, wanted: &Wanted) -> ExitCode {
     match compare(&mut paper, other, wanted.seed, wanted.calls, &mut tally) {
         Ok(()) => {
             let seconds = begun.elapsed().as_secs_f32();
-            println!("the library and the paper agree on {} calls over {} heaps ({seconds:.0} s)", tally.calls, tally.heaps);
+            println!(
+                "the library and the paper agree on {} calls over {} heaps ({seconds:.0} s)",
+                tally.calls, tally.heaps
+            );
             ExitCode::SUCCESS
         }
         Err(mut difference) => {
