@@ -1,5 +1,5 @@
-/* A talking statement keeps each text in a block. The block of the word "owed" is given back twice: the second time is refused, the payee's name gets
-   a block of its own, and the roll call says what every block that is out holds.
+/* A talking statement keeps each text in a block. The block of the word "owed" is given back twice: the second time
+   is refused, the payee's name gets a block of its own, and the roll call says what every block that is out holds.
 
    gcc -Iinclude examples/statement.c target/staticlib/libheskavern.a -o target/statement && target/statement */
 #include <stdio.h>
@@ -49,7 +49,8 @@ int main(void)
     uint32_t live = value_of(heskavern_roll_call(HEAP, roll, HESKAVERN_ROLL_WORDS(1, 2)));
     for (uint32_t i = 0; i < live; i++) {
         heskavern_part part = heskavern_view(HEAP, roll[2 * i]);
-        printf("roll call: %u, %u bytes, \"%.*s\"\n", roll[2 * i], roll[2 * i + 1], (int)part.size, (const char *)part.bytes);
+        printf("roll call: %u, %u bytes, \"%.*s\"\n", roll[2 * i], roll[2 * i + 1],
+               (int)part.size, (const char *)part.bytes);
     }
     return 0;
 }

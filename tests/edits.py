@@ -1,4 +1,5 @@
-"""Changes of single lines, as tests/clauses and tests/laws keep them: how their files are read, how a change is made, and which lines are clauses."""
+"""Changes of single lines, as tests/clauses and tests/laws keep them: how their files are read, how a change is made,
+and which lines are clauses."""
 import os, re
 
 # what is no clause, on however many lines: an import, and the names that a definition unfolds
@@ -21,7 +22,8 @@ def write(path, text):
 
 
 def clauses(text):
-    """The clauses of a file of definitions: (number of the line, the line). A field is one where its record has parameters, for then it says something of them."""
+    """The clauses of a file of definitions: (number of the line, the line). A field is one where its record has
+    parameters, for then it says something of them."""
     says = False
     text = NAMES.sub(lambda names: '\n' * names.group().count('\n'), text)
     for i, line in enumerate(text.split('\n')):
@@ -44,7 +46,8 @@ def blocks(path):
 
 
 def places(text, edit):
-    """The numbers of the lines that are an edit's old line. Where it stands more than once, the edit's `which` chooses one."""
+    """The numbers of the lines that are an edit's old line. Where it stands more than once, the edit's `which` chooses
+    one."""
     found = [i for i, line in enumerate(text.split('\n')) if line == edit['old']]
     return found[int(edit['which']) - 1:][:1] if 'which' in edit else found
 

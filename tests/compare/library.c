@@ -22,7 +22,9 @@ static void answer(const unsigned char *record, unsigned char *reply, uint32_t *
     unsigned op = record[0];
     uint32_t size = get32(record + 4), offset = get32(record + 8);
     uint32_t given = op == GIVE_BACK ? heskavern_view_size(HEAP, offset).value : 0;
-    heskavern_answer a = op == ASK ? heskavern_ask(HEAP, size) : op == GIVE_BACK ? heskavern_give_back(HEAP, offset) : heskavern_resize(HEAP, offset, size);
+    heskavern_answer a = op == ASK ? heskavern_ask(HEAP, size)
+        : op == GIVE_BACK ? heskavern_give_back(HEAP, offset)
+        : heskavern_resize(HEAP, offset, size);
     int done = a.number == HESKAVERN_DONE;
     if (done && op == ASK)
         ++*live;

@@ -112,7 +112,7 @@ static uint32_t some_block(void)
     return live[below(count)];
 }
 
-/* How often a phase does its thing. A sequence starts with short phases, so that a difference shows after few records. */
+/* How often a phase does its thing. A sequence starts with short phases, so a difference shows after few records. */
 static uint32_t times(uint32_t most)
 {
     uint64_t now = 2 + calls / 8;
@@ -236,7 +236,8 @@ static void refusals(void)
 
 static void phase(void)
 {
-    static void (*const phases[])(void) = {churn, churn, empty_pools, empty_pools, resizes, refusals, empty_heap, fill_and_drain};
+    static void (*const phases[])(void) = {
+        churn, churn, empty_pools, empty_pools, resizes, refusals, empty_heap, fill_and_drain};
     mix = below(MIXES);
     class = below(NB_SMALL_SIZE_CLASSES);
     phases[below(calls < 500 ? 7 : 8)]();       /* a heap is not filled at the start of a sequence */

@@ -1,5 +1,5 @@
-"""The replay program's answers, from 01's rules: a heap of one arena of 16 pools, and the records. No memory and no books: a pool
-keeps its freed blocks as a list whose last is freeblock, and a list's front is a Python list's first."""
+"""The replay program's answers, from 01's rules: a heap of one arena of 16 pools, and the records. No memory and no
+books: a pool keeps its freed blocks as a list whose last is freeblock, and a list's front is a Python list's first."""
 import struct
 
 POOLS, POOL, HEADER, RECORD = 16, 4096, 48, 16
@@ -24,7 +24,8 @@ class Pool:
         self.nextoffset = HEADER + 2 * size
 
     def take(self):
-        """Hands a block out. The next that was never used becomes freeblock where no freed one is left, and where it still fits."""
+        """Hands a block out. The next that was never used becomes freeblock where no freed one is left, and where it
+        still fits."""
         block = self.freed.pop()
         if not self.freed and self.nextoffset <= POOL - self.size:
             self.freed = [self.nextoffset]
@@ -38,7 +39,7 @@ class Pool:
 
 
 class Heap:
-    """One arena. While it is not open its mark is 0 and no pool is freed, so that it need not be told from an open one."""
+    """One arena. While it is not open its mark is 0 and no pool is freed: so it need not be told from an open one."""
 
     def __init__(self):
         self.pools = [Pool(n) for n in range(POOLS)]
@@ -70,7 +71,8 @@ class Heap:
         return offset, size
 
     def new_pool(self, size):
-        """The pool freed last, or else the next one carved. It keeps its blocks where its class is the wanted one already."""
+        """The pool freed last, or else the next one carved. It keeps its blocks where its class is the wanted one
+        already."""
         if self.freed_pools:
             pool = self.freed_pools.pop(0)
         elif self.mark < POOLS:
@@ -115,7 +117,8 @@ def reply(heap, record):
         if op not in (ASK, GIVE_BACK, RESIZE) or any(record[1:4] + record[12:]):
             raise Refused(9)
         number = 0
-        offset, size = heap.ask(size) if op == ASK else heap.give_back(offset) if op == GIVE_BACK else heap.resize(offset, size)
+        offset, size = (heap.ask(size) if op == ASK else
+                        heap.give_back(offset) if op == GIVE_BACK else heap.resize(offset, size))
     except Refused as refused:
         number = refused.args[0]
         offset, size = 0 if op == ASK else offset, 0

@@ -32,7 +32,8 @@ def record_words(data):
     if len(data) < RECORD:
         return f'short record of {len(data)} bytes'
     op, s1, s2, s3, size, offset, s4 = struct.unpack('<4B3I', data)
-    words = {1: f'ask {size}', 2: f'give back {offset}', 3: f'resize {offset} to {size}'}.get(op, f'op {op}, size {size}, offset {offset}')
+    known = {1: f'ask {size}', 2: f'give back {offset}', 3: f'resize {offset} to {size}'}
+    words = known.get(op, f'op {op}, size {size}, offset {offset}')
     return words + (' with a spare byte' if s1 or s2 or s3 or s4 else '')
 
 
@@ -40,7 +41,8 @@ def reply_words(data):
     if len(data) != RECORD:
         return f'{len(data)} bytes, not one reply' if data else 'no reply'
     op, number, zeros, offset, size, live = struct.unpack('<BBH3I', data)
-    return f'op {op}, number {number}, offset {offset}, size {size}, live {live}' + (' and spare bytes not 0' if zeros else '')
+    words = f'op {op}, number {number}, offset {offset}, size {size}, live {live}'
+    return words + (' and spare bytes not 0' if zeros else '')
 
 
 def as_hex(data):
@@ -50,8 +52,9 @@ def as_hex(data):
 
 @functools.lru_cache(None)
 def program():
-    """The command that reads records on standard input and writes replies to standard output: what HESKAVERN_REPLAY names, or the
-    repository's own, which is built first: a build in the middle of a test would take too long, and say so where the test wants silence."""
+    """The command that reads records on standard input and writes replies to standard output: what HESKAVERN_REPLAY
+    names, or the repository's own, which is built first: a build in the middle of a test would take too long, and say
+    so where the test wants silence."""
     named = os.environ.get('HESKAVERN_REPLAY')
     if not named:
         built = subprocess.run([os.path.join(TOP, 'build'), 'replay'], stdout=subprocess.DEVNULL)

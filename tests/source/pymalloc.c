@@ -1,5 +1,6 @@
-/* The allocator of CPython's Objects/obmalloc.c, with 01's two changes: the usable arenas are not sorted, and there is a
- * fixed number of arenas, all in one lent area. Where the source turns to the system's allocator, there is no room. */
+/* The allocator of CPython's Objects/obmalloc.c, with 01's two changes: the usable arenas are not sorted, and there
+ * is a fixed number of arenas, all in one lent area. Where the source turns to the system's allocator, there is no
+ * room. */
 #include "pymalloc.h"
 
 #include <stdint.h>
@@ -83,7 +84,8 @@ static poolp take_pool(struct pymalloc *heap)
 }
 
 /* Puts a pool with no live block to use for a class whose list is empty, and hands out its first block. A pool that had
- * this class before keeps its freed blocks. Otherwise only two blocks are set up: memory is not touched before it is needed. */
+ * this class before keeps its freed blocks. Otherwise only two blocks are set up: memory is not touched before it is
+ * needed. */
 static void *init_pool(struct pymalloc *heap, poolp pool, unsigned size)
 {
     poolp next = heap->usedpools[size + size];      /* the list's head, as the list is empty */

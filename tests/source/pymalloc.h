@@ -1,5 +1,6 @@
-/* The small-block allocator of CPython's Objects/obmalloc.c, over memory that its caller lends. Names of types, members and
- * constants are the source's; the calls are named as in 01. It trusts its caller: a pointer given to it is of a live block. */
+/* The small-block allocator of CPython's Objects/obmalloc.c, over memory that its caller lends. Names of types,
+ * members and constants are the source's; the calls are named as in 01. It trusts its caller: a pointer given to it
+ * is of a live block. */
 #ifndef PYMALLOC_H
 #define PYMALLOC_H
 

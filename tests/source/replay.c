@@ -123,7 +123,8 @@ static void put_reply(unsigned char *out, unsigned op, struct answer a, uint32_t
     put32(out + 12, count);
 }
 
-/* The replies to a piece of the input; a record that it breaks off is the input's short last one. Answers their length. */
+/* The replies to a piece of the input; a record that it breaks off is the input's short last one. Answers their
+ * length. */
 static size_t replies(struct ledger *l, const unsigned char *in, size_t length, unsigned char *out)
 {
     size_t at = 0;
