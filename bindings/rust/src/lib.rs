@@ -24,6 +24,29 @@
 //! The calls are those of `libheskavern.a`, for x86-64 Linux, whose source is proved (docs/PROMISES.md in the
 //! repository). This crate adds types, and nothing to what they do.
 //!
+//! # What is good to know
+//!
+//! - An offset names a block and not its holder. While the block is not out, every call refuses it with
+//!   [`NotLive`](Refusal::NotLive). Once it is out again, a stale offset is the new holder's: a view shows its text, a
+//!   write or a give-back changes it.
+//! - A [`Heap`] holds its three buffers, so those of two heaps cannot be mixed up in a call; [`Heap::open`] and
+//!   [`calls`] can be lent a mixture. It is refused where lengths differ. Where A and P are the same, no call can tell:
+//!   it answers by the three buffers as they are lent and touches no others, but it may write into a block that is
+//!   held, and leave both heaps damaged.
+//! - A [`Heap`] may go to another thread, between calls, and blocks be given back there: nothing is kept outside the
+//!   buffers. Several threads share one under a lock of theirs.
+//! - A block is aligned to 8 where memory is; to 16 where memory is and the block size is a multiple of 16, as for
+//!   every size asked for that is one; to no more. A `[u8]` is aligned to 1 unless you say more.
+//! - A heap may be saved and loaded, at another address too: all three buffers together, as they are between two calls,
+//!   and then [`Heap::open`]. They hold offsets and no pointers; books and map are words of a little-endian machine.
+//! - How large: a text of n bytes takes a block of n rounded up to a multiple of 8, and a pool has 4,048 / size of
+//!   them, rounded down. For each block size divide the most texts that are live at one time by that, and round up: the
+//!   sum is the pools that are always enough. 300 texts of 1 to 24 bytes and 20 of 500 want 1 + 2 + 2 + 3 pools: A = 1
+//!   and P = 8.
+//! - After a [`Damaged`](Refusal::Damaged) something else has written to books, map or a freed block. Ask for nothing
+//!   more: copy the texts out by [`roll_call`](Heap::roll_call) and [`view`](Heap::view), which never give it, and
+//!   format anew.
+//!
 //! Without the feature `std`, which is on by default, the crate needs `core` alone; then [`Refusal`] is no
 //! `std::error::Error`.
 #![no_std]

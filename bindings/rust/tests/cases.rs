@@ -98,6 +98,31 @@ fn open_asks_for_a_formatted_heap() -> Result<(), Refusal> {
 }
 
 #[test]
+fn another_thread_gives_back_between_calls() -> Result<(), Refusal> {
+    let mut lent = lent(1, 2);
+    let mut heap = lent.format(1, 2)?;
+    let word = heap.ask(4)?;
+    let mut heap = std::thread::scope(|threads| {
+        let there = threads.spawn(move || heap.give_back(word).map(|()| heap));
+        there.join().expect("the thread ends")
+    })?;
+    assert_eq!(heap.give_back(word), Err(Refusal::NotLive));
+    Ok(())
+}
+
+#[test]
+fn a_heap_is_the_same_at_another_address() -> Result<(), Refusal> {
+    let mut here = lent(1, 2);
+    let mut heap = here.format(1, 2)?;
+    let word = heap.ask(4)?;
+    heap.write(word, b"owed")?;
+    let mut there = Lent { memory: here.memory.clone(), books: here.books.clone(), map: here.map.clone() };
+    let mut heap = there.open()?;
+    assert!(heap.view(word)?.starts_with(b"owed"));
+    heap.give_back(word)
+}
+
+#[test]
 fn a_short_roll_is_left_as_it_was() -> Result<(), Refusal> {
     let mut lent = lent(1, 2);
     let mut heap = lent.format(1, 2)?;
