@@ -1,5 +1,5 @@
-// What a step answers. An ask's answer is one number, since that comes back in a register: the offset, or the refusal's number, which is
-// below every offset.
+// What a step answers. An ask's answer is one number, since that comes back in a register: the offset, or the refusal's
+// number, which is below every offset.
 use rules::Answer;
 ghost use mathlib.Core.Path.{_≡_};
 ghost use Rattle.rules.specs.Outcome.{answerOf};

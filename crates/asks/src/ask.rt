@@ -1,4 +1,5 @@
-// An ask: from its class list, or from a new pool. Here are the writes of a new pool, in the order of the rules: a function for each part of a path.
+// An ask: from its class list, or from a new pool. Here are the writes of a new pool, in the order of the rules: a
+// function for each part of a path.
 use crate::ask_listed::ask_listed;
 use crate::ask_listed::hand_out;
 use books::blocks::class_of;
@@ -31,7 +32,8 @@ ghost use mathlib.Core.Path.{_≡_};
 ghost use Prim.Native.Nat.{ℕ, _+_, _*_, _<_, _≤_};
 ghost use lib.ListN.{length};
 ghost use Rattle.rules.specs.Say.{_▷_};
-ghost use Rattle.rules.specs.Books.{at, put, onBooks, usableHead, carveMark, freedHead, arenaWord, arena, freeblock, poolNext, class as poolClass, nextoffset, maxnextoffset, poolWord, pool, putWord};
+ghost use Rattle.rules.specs.Books.{at, put, onBooks, putWord, usableHead, carveMark, freedHead, arenaWord, arena};
+ghost use Rattle.rules.specs.Books.{freeblock, poolNext, class as poolClass, nextoffset, maxnextoffset, poolWord, pool};
 ghost use Rattle.rules.specs.Blocks.{lastStart};
 ghost use Rattle.rules.specs.Lists.{arenaLinks};
 ghost use Rattle.rules.specs.Outcome.{heapOf, outcome};
@@ -46,7 +48,8 @@ ghost use Rattle.asks.specs.HandOut.{Writes, opened, Spends};
 // The first freed pool p of arena a is taken: the next one becomes the head.
 fn take_freed(books: &mut [u32], arenas: usize, a: usize, p: usize)
     requires { ⌜ (a < arenas) × (poolWord arenas 8 p ≤ length (now books)) ⌝ }
-    ensures { λ _. ⌜ Writes (onBooks (λ b. put (arenaWord freedHead a) (pool arenas b poolNext p) b)) (now (books .entry)) (now (books .exit)) ⌝ }
+    ensures { λ _. ⌜ Writes (onBooks (λ b. put (arenaWord freedHead a) (pool arenas b poolNext p) b))
+        (now (books .entry)) (now (books .exit)) ⌝ }
 {
     let at = RECORDS + 8 * arenas + 8 * p;
     let next = books[at + NEXT];
@@ -65,7 +68,8 @@ fn carve(books: &mut [u32], arenas: usize, a: usize, p: usize)
     books[mark] += 1;
 }
 
-// The unused arena a is opened, where no arena is usable: it changes lists, and has all its pools free and none carved or freed.
+// The unused arena a is opened, where no arena is usable: it changes lists, and has all its pools free and none
+// carved or freed.
 fn open_arena(books: &mut [u32], arenas: usize, pools: usize, a: usize)
     requires { ⌜ (a < arenas) × (arenas ≤ 16) × (pools ≤ 64) × (72 + 8 * arenas ≤ length (now books))
         × Links arenas arenaLinks a (now books) × (at (now books) usableHead ≡ 0) ⌝ }
@@ -82,8 +86,10 @@ fn open_arena(books: &mut [u32], arenas: usize, pools: usize, a: usize)
 
 // Pool p is taken from its source, whose arena is the answer.
 fn take_from(books: &mut [u32], arenas: usize, pools: usize, source: Source, p: usize) -> usize
-    requires { ⌜ (arenas ≤ 16) × (2 ≤ pools) × (pools ≤ 64) × (poolWord arenas 8 p ≤ length (now books)) × FitsSource arenas pools (now books) source p ⌝ }
-    ensures { λ r. ⌜ ((c : ℕ) → (r ≡ arenaOf 8 arenas pools c source) × Writes (takeFrom 8 arenas pools c source p) (now (books .entry)) (now (books .exit))) ⌝ }
+    requires { ⌜ (arenas ≤ 16) × (2 ≤ pools) × (pools ≤ 64) × (poolWord arenas 8 p ≤ length (now books))
+        × FitsSource arenas pools (now books) source p ⌝ }
+    ensures { λ r. ⌜ ((c : ℕ) → (r ≡ arenaOf 8 arenas pools c source)
+        × Writes (takeFrom 8 arenas pools c source p) (now (books .entry)) (now (books .exit))) ⌝ }
 {
     match source {
         Source::Freed(a) => {
@@ -130,7 +136,8 @@ fn list_again(books: &mut [u32], arenas: usize, class: usize, p: usize, l: usize
 fn list_anew(books: &mut [u32], arenas: usize, class: usize, size: usize, p: usize)
     requires { ⌜ (class ≤ 63) × (size ≤ 512) × (p ≤ 1024) × (poolWord arenas 8 p ≤ length (now books)) ⌝ }
     ensures { λ _. ⌜ ((P : ℕ) → Writes (λ h. h ▷ alone 8 arenas P class p ▷ putWord (poolWord arenas poolClass p) class
-        ▷ putWord (poolWord arenas nextoffset p) (48 + 2 * size) ▷ putWord (poolWord arenas maxnextoffset p) (lastStart size)
+        ▷ putWord (poolWord arenas nextoffset p) (48 + 2 * size)
+        ▷ putWord (poolWord arenas maxnextoffset p) (lastStart size)
         ▷ putWord (poolWord arenas freeblock p) (48 + size)) (now (books .entry)) (now (books .exit))) ⌝ }
 {
     books[CLASS_HEADS + class] = link_to(p);
@@ -184,7 +191,8 @@ pub fn ask_step(
     pools: usize,
     n: usize,
 ) -> u32
-    requires { ⌜ Shaped arenas pools (length (now memory)) (length (now books)) (length (now map)) × (1 ≤ n) × (n ≤ 512) ⌝ }
+    requires { ⌜ Shaped arenas pools (length (now memory)) (length (now books)) (length (now map))
+        × (1 ≤ n) × (n ≤ 512) ⌝ }
     ensures { λ r. ⌜ outcome (answered r) (heapOf (now (memory .exit)) (now (books .exit)) (now (map .exit)))
         ≡ askStep 8 arenas pools (heapOf (now (memory .entry)) (now (books .entry)) (now (map .entry))) n ⌝ }
 {

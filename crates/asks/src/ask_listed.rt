@@ -36,8 +36,8 @@ pub fn hand_out(map: &mut [u64], size: usize, p: usize, f: usize) -> u32
     (4096 * p + f) as u32
 }
 
-// The freeblock of the front pool p, whose record is given, has no link: the block at nextoffset follows it, or the pool
-// is full and leaves its list.
+// The freeblock of the front pool p, whose record is given, has no link: the block at nextoffset follows it, or the
+// pool is full and leaves its list.
 fn ask_unlinked(
     memory: &mut [u8],
     books: &mut [u32],
@@ -49,7 +49,8 @@ fn ask_unlinked(
     p: usize,
     pool: Pool,
 ) -> u32
-    requires { ⌜ Shaped arenas pools (length (now memory)) (length (now books)) (length (now map)) × Class class size × Front arenas pools size p pool (now books) ⌝ }
+    requires { ⌜ Shaped arenas pools (length (now memory)) (length (now books)) (length (now map))
+        × Class class size × Front arenas pools size p pool (now books) ⌝ }
     ensures { λ r. ⌜ outcome (answered r) (heapOf (now (memory .exit)) (now (books .exit)) (now (map .exit)))
         ≡ asked 8 arenas pools class (heapOf (now (memory .entry)) (now (books .entry)) (now (map .entry)))
         (noLink 8 arenas pools (heapOf (now (memory .entry)) (now (books .entry)) (now (map .entry))) class p) ⌝ }
@@ -90,7 +91,8 @@ pub fn ask_listed(
     size: usize,
     p: usize,
 ) -> u32
-    requires { ⌜ Shaped arenas pools (length (now memory)) (length (now books)) (length (now map)) × Class class size × (p < arenas * pools) ⌝ }
+    requires { ⌜ Shaped arenas pools (length (now memory)) (length (now books)) (length (now map))
+        × Class class size × (p < arenas * pools) ⌝ }
     ensures { λ r. ⌜ outcome (answered r) (heapOf (now (memory .exit)) (now (books .exit)) (now (map .exit)))
         ≡ asked 8 arenas pools class (heapOf (now (memory .entry)) (now (books .entry)) (now (map .entry)))
         (fromListed 8 arenas pools (heapOf (now (memory .entry)) (now (books .entry)) (now (map .entry))) class p) ⌝ }

@@ -1,4 +1,5 @@
-// The path of an ask whose class list is empty, decided from the heap before it: a function for each part of the rules' path.
+// The path of an ask whose class list is empty, decided from the heap before it: a function for each part of the
+// rules' path.
 use bits::is_set;
 use books::blocks::block_no;
 use books::blocks::is_start;
@@ -84,9 +85,10 @@ fn same_class(
     p: usize,
     pool: Pool,
 ) -> AskPlan
-    requires { ⌜ Shaped arenas pools (length (now memory)) (length (now books)) (length (now map)) × Class class size × (p < arenas * pools)
-        × (pool ≡ poolAt arenas (now books) p) ⌝ }
-    ensures { λ r. ⌜ r ≡ sameClass 8 arenas pools (heapOf (now (memory .entry)) (now (books .entry)) (now (map .entry))) class a p ⌝ }
+    requires { ⌜ Shaped arenas pools (length (now memory)) (length (now books)) (length (now map))
+        × Class class size × (p < arenas * pools) × (pool ≡ poolAt arenas (now books) p) ⌝ }
+    ensures { λ r. ⌜ r
+        ≡ sameClass 8 arenas pools (heapOf (now (memory .entry)) (now (books .entry)) (now (map .entry))) class a p ⌝ }
 {
     let f = index(pool.freeblock);
     if spare(map, p, size, f) {
@@ -109,9 +111,10 @@ fn take_again(
     p: usize,
     pool: Pool,
 ) -> AskPlan
-    requires { ⌜ Shaped arenas pools (length (now memory)) (length (now books)) (length (now map)) × Class class size × (p < arenas * pools)
-        × (pool ≡ poolAt arenas (now books) p) ⌝ }
-    ensures { λ r. ⌜ r ≡ takeAgain 8 arenas pools (heapOf (now (memory .entry)) (now (books .entry)) (now (map .entry))) class a p ⌝ }
+    requires { ⌜ Shaped arenas pools (length (now memory)) (length (now books)) (length (now map))
+        × Class class size × (p < arenas * pools) × (pool ≡ poolAt arenas (now books) p) ⌝ }
+    ensures { λ r. ⌜ r
+        ≡ takeAgain 8 arenas pools (heapOf (now (memory .entry)) (now (books .entry)) (now (map .entry))) class a p ⌝ }
 {
     if index(pool.class) == class {
         return same_class(memory, books, map, arenas, pools, class, size, a, p, pool);
@@ -119,10 +122,12 @@ fn take_again(
     set_anew(map, size, Source::Freed(a), p)
 }
 
-// Arena a, which gives a pool, has some to give, and can leave its list if that was the last; then the rest of the path.
+// Arena a, which gives a pool, has some to give, and can leave its list if that was the last; then the rest
+// of the path.
 fn counted(books: &[u32], arenas: usize, pools: usize, a: usize, rest: AskPlan) -> AskPlan
     requires { ⌜ (a < arenas) × (72 + 8 * arenas ≤ length (now books)) × (arenas ≤ 16) ⌝ }
-    ensures { λ r. ⌜ r ≡ ((leb 1 (arena (now (books .entry)) freePools a) && leb (arena (now (books .entry)) freePools a) pools)
+    ensures { λ r. ⌜ r
+        ≡ ((leb 1 (arena (now (books .entry)) freePools a) && leb (arena (now (books .entry)) freePools a) pools)
         ⇛ (not (eqb (arena (now (books .entry)) freePools a) 1) || mayLeave arenas arenaLinks a (now (books .entry)))
         ⇛ rest) ⌝ }
 {
@@ -150,8 +155,10 @@ fn from_mark(
     size: usize,
     a: usize,
 ) -> AskPlan
-    requires { ⌜ Shaped arenas pools (length (now memory)) (length (now books)) (length (now map)) × Class class size × (a < arenas) ⌝ }
-    ensures { λ r. ⌜ r ≡ fromMark 8 arenas pools (heapOf (now (memory .entry)) (now (books .entry)) (now (map .entry))) class a ⌝ }
+    requires { ⌜ Shaped arenas pools (length (now memory)) (length (now books)) (length (now map))
+        × Class class size × (a < arenas) ⌝ }
+    ensures { λ r. ⌜ r
+        ≡ fromMark 8 arenas pools (heapOf (now (memory .entry)) (now (books .entry)) (now (map .entry))) class a ⌝ }
 {
     let mark = arena_word(books, CARVE_MARK, a);
     if mark < pools {
@@ -179,8 +186,10 @@ fn from_freed(
     a: usize,
     p: usize,
 ) -> AskPlan
-    requires { ⌜ Shaped arenas pools (length (now memory)) (length (now books)) (length (now map)) × Class class size × (a < arenas) × (p < arenas * pools) ⌝ }
-    ensures { λ r. ⌜ r ≡ fromFreed 8 arenas pools (heapOf (now (memory .entry)) (now (books .entry)) (now (map .entry))) class a p ⌝ }
+    requires { ⌜ Shaped arenas pools (length (now memory)) (length (now books)) (length (now map))
+        × Class class size × (a < arenas) × (p < arenas * pools) ⌝ }
+    ensures { λ r. ⌜ r
+        ≡ fromFreed 8 arenas pools (heapOf (now (memory .entry)) (now (books .entry)) (now (map .entry))) class a p ⌝ }
 {
     let pool = load_pool(books, arenas, p);
     let again = take_again(memory, books, map, arenas, pools, class, size, a, p, pool);
@@ -201,8 +210,10 @@ fn from_usable(
     size: usize,
     a: usize,
 ) -> AskPlan
-    requires { ⌜ Shaped arenas pools (length (now memory)) (length (now books)) (length (now map)) × Class class size × (a < arenas) ⌝ }
-    ensures { λ r. ⌜ r ≡ fromUsable 8 arenas pools (heapOf (now (memory .entry)) (now (books .entry)) (now (map .entry))) class a ⌝ }
+    requires { ⌜ Shaped arenas pools (length (now memory)) (length (now books)) (length (now map))
+        × Class class size × (a < arenas) ⌝ }
+    ensures { λ r. ⌜ r
+        ≡ fromUsable 8 arenas pools (heapOf (now (memory .entry)) (now (books .entry)) (now (map .entry))) class a ⌝ }
 {
     let l = arena_word(books, FREED_HEAD, a);
     if l == 0 {
@@ -225,8 +236,10 @@ fn from_unused(
     size: usize,
     a: usize,
 ) -> AskPlan
-    requires { ⌜ Shaped arenas pools (length (now memory)) (length (now books)) (length (now map)) × Class class size × (a < arenas) ⌝ }
-    ensures { λ r. ⌜ r ≡ fromUnused 8 arenas pools (heapOf (now (memory .entry)) (now (books .entry)) (now (map .entry))) class a ⌝ }
+    requires { ⌜ Shaped arenas pools (length (now memory)) (length (now books)) (length (now map))
+        × Class class size × (a < arenas) ⌝ }
+    ensures { λ r. ⌜ r
+        ≡ fromUnused 8 arenas pools (heapOf (now (memory .entry)) (now (books .entry)) (now (map .entry))) class a ⌝ }
 {
     let p = pool_at(arenas, pools, a, 0);
     keeps(
@@ -245,9 +258,11 @@ fn plan_unused(
     class: usize,
     size: usize,
 ) -> AskPlan
-    requires { ⌜ Shaped arenas pools (length (now memory)) (length (now books)) (length (now map)) × Class class size ⌝ }
+    requires { ⌜ Shaped arenas pools (length (now memory)) (length (now books)) (length (now map))
+        × Class class size ⌝ }
     ensures { λ r. ⌜ r ≡ frontOf (at (now (books .entry)) unusedHead) arenas
-        (fromUnused 8 arenas pools (heapOf (now (memory .entry)) (now (books .entry)) (now (map .entry))) class) AskPlan.NoRoom ⌝ }
+        (fromUnused 8 arenas pools (heapOf (now (memory .entry)) (now (books .entry)) (now (map .entry))) class)
+        AskPlan.NoRoom ⌝ }
 {
     let l = word(books, UNUSED_HEAD);
     if l == 0 {
@@ -269,8 +284,10 @@ pub fn plan_new(
     class: usize,
     size: usize,
 ) -> AskPlan
-    requires { ⌜ Shaped arenas pools (length (now memory)) (length (now books)) (length (now map)) × Class class size ⌝ }
-    ensures { λ r. ⌜ r ≡ planNew 8 arenas pools (heapOf (now (memory .entry)) (now (books .entry)) (now (map .entry))) class ⌝ }
+    requires { ⌜ Shaped arenas pools (length (now memory)) (length (now books)) (length (now map))
+        × Class class size ⌝ }
+    ensures { λ r. ⌜ r
+        ≡ planNew 8 arenas pools (heapOf (now (memory .entry)) (now (books .entry)) (now (map .entry))) class ⌝ }
 {
     let l = word(books, USABLE_HEAD);
     if l == 0 {

@@ -1,6 +1,6 @@
-// A give-back: the record of the block's pool is loaded once, the path is decided from it and from the books before, and
-// then written: the block, then its pool's list, then its arena's. The path is no value in between, and the answer is a
-// number, which comes back in a register.
+// A give-back: the record of the block's pool is loaded once, the path is decided from it and from the books before,
+// and then written: the block, then its pool's list, then its arena's. The path is no value in between, and the answer
+// is a number, which comes back in a register.
 use bits::clear_bit;
 use books::blocks::is_start;
 use books::blocks::size_of;
@@ -45,7 +45,8 @@ ghost use Rattle.rules.specs.Resize.{giveOld};
 ghost use Rattle.books.specs.Known.{Shaped, LiveBlock};
 ghost use Rattle.plans.specs.Class.{Range};
 ghost use Rattle.books.specs.Lists.{Links};
-ghost use Rattle.steps.specs.Backs.{gave, Counted, mayEmpty, FitsEmpty, freedFirst, emptied, released, maySettle, settled};
+ghost use Rattle.steps.specs.Backs.{gave, Counted, mayEmpty, FitsEmpty, freedFirst, emptied};
+ghost use Rattle.steps.specs.Backs.{released, maySettle, settled};
 
 // The block at f, of number k, goes to the front of the freed blocks of pool p, whose record is given.
 fn take_back(
@@ -59,9 +60,11 @@ fn take_back(
     f: usize,
     k: usize,
 )
-    requires { ⌜ Shaped arenas pools (length (now memory)) (length (now books)) (length (now map)) × Counted arenas pools p f k pool (now books) ⌝ }
+    requires { ⌜ Shaped arenas pools (length (now memory)) (length (now books)) (length (now map))
+        × Counted arenas pools p f k pool (now books) ⌝ }
     ensures { λ _. ⌜ heapOf (now (memory .exit)) (now (books .exit)) (now (map .exit))
-        ≡ takeBack 8 arenas pools (pool .class) p f (heapOf (now (memory .entry)) (now (books .entry)) (now (map .entry))) ⌝ }
+        ≡ takeBack 8 arenas pools (pool .class) p f
+        (heapOf (now (memory .entry)) (now (books .entry)) (now (map .entry))) ⌝ }
 {
     store_pool(books, arenas, p, pool.give(f as u32));
     put_link(memory, 4096 * p + f, pool.freeblock);
@@ -78,7 +81,8 @@ fn arena_of(arenas: usize, pools: usize, p: usize) -> usize
 
 // Pool p goes to the front of arena a's freed pools.
 fn free_pool(books: &mut [u32], arenas: usize, a: usize, p: usize)
-    requires { ⌜ (a < arenas) × (arenas ≤ 16) × (p < 1024) × (poolWord arenas 8 p ≤ length (now books)) × (arena (now books) freePools a ≤ 64) ⌝ }
+    requires { ⌜ (a < arenas) × (arenas ≤ 16) × (p < 1024) × (poolWord arenas 8 p ≤ length (now books))
+        × (arena (now books) freePools a ≤ 64) ⌝ }
     ensures { λ _. ⌜ now (books .exit) ≡ freedFirst arenas a p (now (books .entry)) ⌝ }
 {
     let first = books[RECORDS + 8 * a + FREED_HEAD];
@@ -89,11 +93,11 @@ fn free_pool(books: &mut [u32], arenas: usize, a: usize, p: usize)
     books[RECORDS + 8 * a + FREE_POOLS] = free + 1;
 }
 
-// Pool p of arena a, at count 0, leaves its class list, by the links of its record, and goes to the front of the arena's
-// freed pools.
+// Pool p of arena a, at count 0, leaves its class list, by the links of its record, and goes to the front of the
+// arena's freed pools.
 fn empty_pool(books: &mut [u32], arenas: usize, pools: usize, a: usize, p: usize, pool: Pool)
-    requires { ⌜ Range arenas pools × (length (now books) ≡ booksLength arenas pools) × (a ≡ p / pools) × (a < arenas) × (p < arenas * pools)
-        × (pool .class ≤ 63) × FitsEmpty arenas pools p pool (now books) ⌝ }
+    requires { ⌜ Range arenas pools × (length (now books) ≡ booksLength arenas pools) × (a ≡ p / pools) × (a < arenas)
+        × (p < arenas * pools) × (pool .class ≤ 63) × FitsEmpty arenas pools p pool (now books) ⌝ }
     ensures { λ _. ⌜ now (books .exit) ≡ emptied arenas pools (pool .class) p (now (books .entry)) ⌝ }
 {
     leave_by(
@@ -109,7 +113,8 @@ fn empty_pool(books: &mut [u32], arenas: usize, pools: usize, a: usize, p: usize
 
 // Arena a leaves the usable list, and its record becomes 0 but for its place at the front of the unused list.
 fn release(books: &mut [u32], arenas: usize, pools: usize, a: usize)
-    requires { ⌜ Range arenas pools × (length (now books) ≡ booksLength arenas pools) × (a < arenas) × Links arenas arenaLinks a (now books) × (at (now books) unusedHead ≤ arenas) ⌝ }
+    requires { ⌜ Range arenas pools × (length (now books) ≡ booksLength arenas pools) × (a < arenas)
+        × Links arenas arenaLinks a (now books) × (at (now books) unusedHead ≤ arenas) ⌝ }
     ensures { λ _. ⌜ now (books .exit) ≡ released a (now (books .entry)) ⌝ }
 {
     leave(books, arenas, ARENA_LINKS, USABLE_HEAD, a);
@@ -118,7 +123,8 @@ fn release(books: &mut [u32], arenas: usize, pools: usize, a: usize)
     join(books, arenas, ARENA_LINKS, UNUSED_HEAD, a);
 }
 
-// Arena a, which had so many free pools, has one more: where all are free it is released, where it had none it is usable again.
+// Arena a, which had so many free pools, has one more: where all are free it is released, where it had none it is
+// usable again.
 fn settle(books: &mut [u32], arenas: usize, pools: usize, a: usize, free: usize)
     requires { ⌜ Range arenas pools × (length (now books) ≡ booksLength arenas pools) × (a < arenas) × (free < 2 ^ 32)
         × (maySettle arenas pools a free (now books) ≡ true) ⌝ }
@@ -144,7 +150,8 @@ fn may_empty(books: &[u32], arenas: usize, pools: usize, a: usize, pool: Pool, f
 
 // The arena's links, and the head of the list that it would join, lead somewhere.
 fn may_settle(books: &[u32], arenas: usize, pools: usize, a: usize, free: usize) -> bool
-    requires { ⌜ Range arenas pools × (length (now books) ≡ booksLength arenas pools) × (a < arenas) × (free < 2 ^ 32) ⌝ }
+    requires { ⌜ Range arenas pools × (length (now books) ≡ booksLength arenas pools)
+        × (a < arenas) × (free < 2 ^ 32) ⌝ }
     ensures { λ r. ⌜ r ≡ maySettle arenas pools a free (now (books .entry)) ⌝ }
 {
     if free + 1 == pools {
@@ -170,7 +177,8 @@ fn back_last(
     requires { ⌜ Shaped arenas pools (length (now memory)) (length (now books)) (length (now map))
         × Counted arenas pools (offset / 4096) (offset % 4096) k pool (now books) ⌝ }
     ensures { λ r. ⌜ outcome (gave offset r) (heapOf (now (memory .exit)) (now (books .exit)) (now (map .exit)))
-        ≡ givenBack 8 arenas pools (pool .class) (heapOf (now (memory .entry)) (now (books .entry)) (now (map .entry))) offset
+        ≡ givenBack 8 arenas pools (pool .class)
+        (heapOf (now (memory .entry)) (now (books .entry)) (now (map .entry))) offset
         (emptying 8 arenas pools (now (books .entry)) (pool .class) (offset / 4096)) ⌝ }
 {
     let p = offset / 4096;
@@ -197,7 +205,8 @@ fn back_step(
     offset: usize,
     k: usize,
 ) -> u32
-    requires { ⌜ Shaped arenas pools (length (now memory)) (length (now books)) (length (now map)) × LiveBlock 8 arenas pools (now books) (now map) offset
+    requires { ⌜ Shaped arenas pools (length (now memory)) (length (now books)) (length (now map))
+        × LiveBlock 8 arenas pools (now books) (now map) offset
         × (k ≡ blockNo (sizeAt 8 arenas (now books) offset) (offset % 4096)) ⌝ }
     ensures { λ r. ⌜ outcome (gave offset r) (heapOf (now (memory .exit)) (now (books .exit)) (now (map .exit)))
         ≡ backStep 8 arenas pools (heapOf (now (memory .entry)) (now (books .entry)) (now (map .entry))) offset ⌝ }

@@ -15,7 +15,8 @@ ghost use Rattle.rules.specs.Resize.{copy, giveOld, halfDone, resizeStep};
 ghost use Rattle.books.specs.Known.{Shaped, LiveBlock};
 ghost use Rattle.loops.specs.Copy.{Apart};
 
-// k bytes move from the old block to the new one, and the old one is given back; if it can't be, the new one stands all the same.
+// k bytes move from the old block to the new one, and the old one is given back; if it can't be, the new one stands
+// all the same.
 fn move_block(
     memory: &mut [u8],
     books: &mut [u32],
