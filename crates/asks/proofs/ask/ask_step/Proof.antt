@@ -1,4 +1,5 @@
--- `asks::ask::ask_step` goes by the class head, as the rules do; what a new pool's path knows of its numbers follows from the plan being the rules' own.
+-- `asks::ask::ask_step` goes by the class head, as the rules do; what a new pool's path knows of its numbers follows
+-- from the plan being the rules' own.
 -- Assumes nothing.
 use Prim.Native.Nat.{_*_}
 use native.Mathlib.Omega.{arith}
@@ -9,6 +10,17 @@ use Rattle.plans.specs.Fits.{fits-new}
 use borrow.Author.Needs.{needs}
 use Rattle.asks.proofs.ask.ask_step.Statement.{statement}
 use Rattle.asks.proofs.ask.ask_step.Tie as tie
+
+-- the function's start, seen from its first call; an argument more shifts this line alone
+abbrev start : tie.After-class-of → tie.Start
+start c = c .before .before .before .before
+
+-- the writes of a new pool, and the ask of a listed one, each seen from the return after it
+abbrev written : tie.After-slice-known6 → tie.After-write-new
+written c = c .before .before .before .before .before .before
+
+abbrev listed : tie.After-slice-known9 → tie.After-ask-listed
+listed c = c .before .before .before .before .before .before
 
 class-of-requires : tie.Need-class-of-requires
 class-of-requires c κs = search needs
@@ -28,9 +40,10 @@ plan-new-requires c κs = search needs
 write-new-requires : tie.Need-write-new-requires
 write-new-requires c κs =
     let at-plan-new = c .before .before .before in
-    let at-size-of = at-plan-new .before .before .before .before .before .before .before in
+    let at-if1 = at-plan-new .before .before .before .before in
+    let at-size-of = at-if1 .before .before .before in
     let at-class-of = at-size-of .before in
-    let at-start = at-class-of .before .before .before .before in
+    let at-start = start at-class-of in
     let a = at-start .args in
     let h = heapOf (a .memory .now) (a .books .now) (a .map .now) in
     let size = at-size-of .size-of .ensures .0 in
@@ -49,7 +62,7 @@ same-length-3 c = search needs
 returns : tie.Need-returns
 unfolding askStep planAsk
 returns c =
-    let at-write-new = c .before .before .before .before .before .before in
+    let at-write-new = written c in
     let at-plan-new = at-write-new .before .before .before .before in
     let at-if1 = at-plan-new .before .before .before .before in
     let at-word = at-if1 .before in
@@ -82,12 +95,12 @@ same-length-6 c = search needs
 returns-2 : tie.Need-returns-2
 unfolding askStep planAsk
 returns-2 c =
-    let at-ask-listed = c .before .before .before .before .before .before in
+    let at-ask-listed = listed c in
     let at-if2 = at-ask-listed .before .before .before .before in
     let at-if1 = at-if2 .before in
     let at-word = at-if1 .before in
     let at-class-of = at-word .before .before .before in
-    let at-start = at-class-of .before .before .before .before in
+    let at-start = start at-class-of in
     let a = at-start .args in
     rw (
       ← at-class-of .class-of .ensures .0,
@@ -104,7 +117,7 @@ unfolding askStep planAsk askAnswer afterAsk
 returns-3 c =
     let at-word = c .before .before in
     let at-class-of = at-word .before .before .before in
-    let at-start = at-class-of .before .before .before .before in
+    let at-start = start at-class-of in
     let a = at-start .args in
     rw (
       ← at-class-of .class-of .ensures .0,

@@ -1,4 +1,5 @@
--- `asks::ask::list_anew` writes the class head, and stores the record loaded after it, which writes `alone` and what the class sets.
+-- `asks::ask::list_anew` writes the class head, and stores the record loaded after it, which writes
+-- `alone` and what the class sets.
 -- Assumes nothing.
 use mathlib.Core.Path.{refl, ap}
 use mathlib.Core.List.{List}
@@ -43,14 +44,18 @@ same-length c = simp (length-set, c .before .before .store-pool .kept .0)
 
 returns : tie.Need-returns
 returns c P =
-    let a = c .before .before .before .before .before .before .before .before .before .args in
+    let at-store-pool = c .before .before in
+    let at-anew = at-store-pool .before in
+    let at-load-pool = at-anew .before .before in
+    let at-link-to = at-load-pool .before .before in
+    let a = at-link-to .before .before .args in
     let b = put (classHead (a .class)) (linkTo (a .p)) (a .books .now) in
     record {
       same = λ m k. simp (
-        c .before .before .store-pool .ensures,
-        c .before .before .before .anew .ensures,
-        c .before .before .before .before .before .load-pool .ensures,
-        c .before .before .before .before .before .before .before .link-to .ensures,
+        at-store-pool .store-pool .ensures,
+        at-anew .anew .ensures,
+        at-load-pool .load-pool .ensures,
+        at-link-to .link-to .ensures,
       )
           (ap (λ (x : List ℕ). heapOf m x k) (anew-stored (a .arenas) (a .p) b b (a .class) (a .size) refl));
     }

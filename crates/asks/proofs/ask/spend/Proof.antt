@@ -11,6 +11,10 @@ use Rattle.asks.specs.HandOut.{spend-stays, spend-leaves, spend-links}
 use Rattle.asks.proofs.ask.spend.Statement.{statement}
 use Rattle.asks.proofs.ask.spend.Tie as tie
 
+-- the function's start, seen from its test; an argument more shifts this line alone
+abbrev start : tie.After-slice-known2 → tie.Start
+start c = c .before .before
+
 mul-at : tie.Need-mul-at
 mul-at c = search needs
 
@@ -37,9 +41,9 @@ slice-write-books c = search needs
 
 leave-requires : tie.Need-leave-requires
 leave-requires c κs =
-    let start = c .before .before .before .before in
-    let a = start .args in
-    let l = spend-links (a .arenas) (a .a) (a .books .now) (omega arith) (start .pre .2 .links (omega arith)) in
+    let at-start = start (c .before .before) in
+    let a = at-start .args in
+    let l = spend-links (a .arenas) (a .a) (a .books .now) (omega arith) (at-start .pre .2 .links (omega arith)) in
     simp length-set (omega arith)
 
 same-length : tie.Need-same-length
@@ -47,16 +51,17 @@ same-length c = simp (length-set, c .before .before .leave .kept .0)
 
 returns : tie.Need-returns
 returns c P class =
-    let a = c .before .before .before .before .before .before .before .args in
+    let at-leave = c .before .before in
+    let a = start (at-leave .before .before .before) .args in
     let left = spend-leaves (a .arenas) (a .a) (a .books .now) (omega arith) P class (omega arith) in
-    record { same = λ m k. ap (λ (x : List ℕ). heapOf m x k) (c .before .before .leave .ensures) ∙ left .same m k }
+    record { same = λ m k. ap (λ (x : List ℕ). heapOf m x k) (at-leave .leave .ensures) ∙ left .same m k }
 
 same-length-2 : tie.Need-same-length-2
 same-length-2 c = search needs
 
 returns-2 : tie.Need-returns-2
 returns-2 c P class =
-    let a = c .before .before .before .args in
+    let a = start (c .before) .args in
     spend-stays (a .arenas) (a .a) (a .books .now) (omega arith) P class (c .if1 .left)
 
 pub spend-spec : {M : Type 1} → statement M

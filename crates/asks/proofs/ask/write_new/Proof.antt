@@ -1,7 +1,7 @@
--- `asks::ask::write_new` writes, in each arm, the arm's chain of changes in its order: what the path knows of its numbers meets each
--- callee, and the callees' changes are chained. No path of a new pool is one of a listed pool.
+-- `asks::ask::write_new` writes, in each arm, the arm's chain of changes in its order: what the path knows of its
+-- numbers meets each callee, and the callees' changes are chained. No path of a new pool is one of a listed pool.
 -- Assumes nothing.
-use mathlib.Core.Path.{_≡_, refl}
+use mathlib.Core.Path.{_≡_, refl, subst}
 use mathlib.Core.Logic.{inl, inr}
 use mathlib.Core.List.{[], _∷_}
 use Prim.Native.Nat.{ℕ, _≤_}
@@ -23,6 +23,20 @@ use borrow.Author.Needs.{needs}
 use Rattle.asks.proofs.ask.write_new.Statement.{statement}
 use Rattle.asks.proofs.ask.write_new.Tie as tie
 
+-- the function's start, seen from its match; an argument more shifts this line alone
+abbrev start : tie.After-slice-known3 → tie.Start
+start c = c .before .before .before
+
+-- the places on the way that answers go back to, each named after what was done there
+abbrev planned : tie.After-spend → tie.After-plan
+planned c = c .before .before .before .before .before .before .before
+
+abbrev planned-2 : tie.After-spend2 → tie.After-plan2
+planned-2 c = c .before .before .before .before .before .before .before
+
+abbrev gave : tie.After-put-link-arg → tie.After-spend2
+gave c = c .before .before .before .before .before .before .before
+
 -- the variants that have no arm of their own
 between : (tag : ℕ) → OneOf (1 ∷ 2 ∷ 3 ∷ 4 ∷ []) tag → (1 ≤ tag) × (tag ≤ 4)
 between tag (inl e) = omega arith
@@ -38,6 +52,14 @@ refused-path A P s c h Damaged tag fits = refl
 refused-path A P s c h (Again a p f l) tag fits = absurd (omega arith)
 refused-path A P s c h (Anew source p) tag fits = absurd (omega arith)
 
+-- what the path knows of its numbers, by the plan's form; `rw .. at` would rewrite the plan all over the start
+known : (c : tie.After-slice-known3) (q : AskPlan) → start c .args .plan ≡ q
+    → let a = start c .args in
+    FitsNew (a .arenas) (a .pools) (a .size) (a .class) (a .books .now) (a .map .now) q
+known c q e =
+    let a = start c .args in
+    subst (λ (x : AskPlan). FitsNew (a .arenas) (a .pools) (a .size) (a .class) (a .books .now) (a .map .now) x) e (start c .pre .2)
+
 enum-told : tie.Need-enum-told
 enum-told c = search needs
 
@@ -51,8 +73,7 @@ enum-known-plan c = search needs
 take-freed-requires : tie.Need-take-freed-requires
 take-freed-requires c κs =
     let at-plan = c .before .before in
-    let at-start = at-plan .before .before .before .before .before in
-    let fits = rw (at-plan .plan .given .1) at (at-start .pre .2) in
+    let fits = known (at-plan .before .before) _ (at-plan .plan .given .1) in
     search needs
 
 spend-requires : tie.Need-spend-requires
@@ -60,9 +81,9 @@ unfolding takeFrom
 spend-requires c κs =
     let at-take-freed = c .before .before .before in
     let at-plan = at-take-freed .before .before .before in
-    let at-start = at-plan .before .before .before .before .before in
+    let at-start = start (at-plan .before .before) in
     let a = at-start .args in
-    let fits = rw (at-plan .plan .given .1) at (at-start .pre .2) in
+    let fits = known (at-plan .before .before) _ (at-plan .plan .given .1) in
     let values = at-plan .plan .given .0 in
     let spends = taken-spends (a .arenas) (a .pools) (a .class) (values .1 .0) (a .books .now) _ (Freed (values .0)) (at-start .pre .0 .pools-low)
     (omega arith) (fits .0) (at-take-freed .take-freed .ensures) in
@@ -70,16 +91,15 @@ spend-requires c κs =
 
 list-again-requires : tie.Need-list-again-requires
 list-again-requires c κs =
-    let at-plan = c .before .before .before .before .before .before .before .before .before .before in
-    let at-start = at-plan .before .before .before .before .before in
-    let fits = rw (at-plan .plan .given .1) at (at-start .pre .2) in
+    let at-plan = planned (c .before .before .before) in
+    let fits = known (at-plan .before .before) _ (at-plan .plan .given .1) in
     search needs
 
 hand-out-requires : tie.Need-hand-out-requires
 hand-out-requires c κs =
-    let at-plan = c .before .before .before .before .before .before .before .before .before .before .before .before .before .before in
-    let at-start = at-plan .before .before .before .before .before in
-    let fits = rw (at-plan .plan .given .1) at (at-start .pre .2) in
+    let at-list-again = c .before .before .before in
+    let at-plan = planned (at-list-again .before .before .before .before) in
+    let fits = known (at-plan .before .before) _ (at-plan .plan .given .1) in
     search needs
 
 same-length : tie.Need-same-length
@@ -96,9 +116,9 @@ returns-2 c =
     let at-spend = at-list-again .before .before .before .before in
     let at-take-freed = at-spend .before .before .before .before in
     let at-plan = at-take-freed .before .before .before in
-    let at-start = at-plan .before .before .before .before .before in
+    let at-start = start (at-plan .before .before) in
     let a = at-start .args in
-    let fits = rw (at-plan .plan .given .1) at (at-start .pre .2) in
+    let fits = known (at-plan .before .before) _ (at-plan .plan .given .1) in
     let spent = at-spend .spend .ensures (a .pools) (a .class) in
     let listed = at-list-again .list-again in
     rw (at-plan .plan .given .1, ← at-start .pre .1 .size)
@@ -113,26 +133,24 @@ enum-known-plan-2 c = search needs
 take-from-requires : tie.Need-take-from-requires
 take-from-requires c κs =
     let at-plan2 = c .before .before in
-    let at-start = at-plan2 .before .before .before .before .before in
-    let fits = rw (at-plan2 .plan2 .given .1) at (at-start .pre .2) in
+    let fits = known (at-plan2 .before .before) _ (at-plan2 .plan2 .given .1) in
     search needs
 
 spend-requires-2 : tie.Need-spend-requires-2
 spend-requires-2 c κs =
     let at-take-from = c .before .before .before in
     let at-plan2 = at-take-from .before .before .before in
-    let at-start = at-plan2 .before .before .before .before .before in
+    let at-start = start (at-plan2 .before .before) in
     let a = at-start .args in
-    let fits = rw (at-plan2 .plan2 .given .1) at (at-start .pre .2) in
+    let fits = known (at-plan2 .before .before) _ (at-plan2 .plan2 .given .1) in
     let taken = at-take-from .take-from .ensures (a .class) in
     let spends = taken-spends (a .arenas) (a .pools) (a .class) _ (a .books .now) _ _ (at-start .pre .0 .pools-low) (omega arith) (fits .0) (taken .1) in
     (at-start .pre .0 .arenas-high, omega arith, rw (taken .0) spends)
 
 list-anew-requires : tie.Need-list-anew-requires
 list-anew-requires c κs =
-    let at-plan2 = c .before .before .before .before .before .before .before .before .before .before in
-    let at-start = at-plan2 .before .before .before .before .before in
-    let fits = rw (at-plan2 .plan2 .given .1) at (at-start .pre .2) in
+    let at-plan2 = planned-2 (c .before .before .before) in
+    let fits = known (at-plan2 .before .before) _ (at-plan2 .plan2 .given .1) in
     search needs
 
 add-second : tie.Need-add-second
@@ -140,31 +158,26 @@ add-second c = search needs
 
 mul-put-link : tie.Need-mul-put-link
 mul-put-link c =
-    let at-plan2 = c .before .before .before .before .before .before .before .before .before .before .before .before .before .before in
-    let at-start = at-plan2 .before .before .before .before .before in
-    let fits = rw (at-plan2 .plan2 .given .1) at (at-start .pre .2) in
+    let at-plan2 = planned-2 (gave c) in
+    let fits = known (at-plan2 .before .before) _ (at-plan2 .plan2 .given .1) in
     search needs
 
 add-put-link : tie.Need-add-put-link
 add-put-link c =
-    let at-plan2 = c .before .before .before .before .before .before .before .before .before .before .before .before .before .before in
-    let at-start = at-plan2 .before .before .before .before .before in
-    let fits = rw (at-plan2 .plan2 .given .1) at (at-start .pre .2) in
+    let at-plan2 = planned-2 (gave c) in
+    let fits = known (at-plan2 .before .before) _ (at-plan2 .plan2 .given .1) in
     search needs
 
 put-link-requires : tie.Need-put-link-requires
 put-link-requires c κs =
-    let at-plan2 = c .before .before .before .before .before .before .before .before .before .before .before .before .before .before in
-    let at-start = at-plan2 .before .before .before .before .before in
-    let fits = rw (at-plan2 .plan2 .given .1) at (at-start .pre .2) in
+    let at-plan2 = planned-2 (gave c) in
+    let fits = known (at-plan2 .before .before) _ (at-plan2 .plan2 .given .1) in
     search needs
 
 hand-out-requires-2 : tie.Need-hand-out-requires-2
 hand-out-requires-2 c κs =
-    let at-plan2 = c .before .before .before .before .before .before .before .before .before .before .before .before .before .before .before .before
-    .before .before in
-    let at-start = at-plan2 .before .before .before .before .before in
-    let fits = rw (at-plan2 .plan2 .given .1) at (at-start .pre .2) in
+    let at-plan2 = planned-2 (gave (c .before .before .before .before)) in
+    let fits = known (at-plan2 .before .before) _ (at-plan2 .plan2 .given .1) in
     search needs
 
 same-length-3 : tie.Need-same-length-3
@@ -185,7 +198,7 @@ returns-3 c =
     let at-spend2 = at-list-anew .before .before .before .before in
     let at-take-from = at-spend2 .before .before .before .before in
     let at-plan2 = at-take-from .before .before .before in
-    let at-start = at-plan2 .before .before .before .before .before in
+    let at-start = start (at-plan2 .before .before) in
     let a = at-start .args in
     let taken = at-take-from .take-from .ensures (a .class) in
     let spent = rw (taken .0) at (at-spend2 .spend2 .ensures (a .pools) (a .class)) in
@@ -200,7 +213,7 @@ returns-3 c =
 
 returns-4 : tie.Need-returns-4
 returns-4 c =
-    let at-start = c .before .before .before .before in
+    let at-start = start (c .before) in
     let a = at-start .args in
     let h = heapOf (a .memory .now) (a .books .now) (a .map .now) in
     refused-path (a .arenas) (a .pools) (a .size) (a .class) h (a .plan) (between _ (c .match .keys4)) (at-start .pre .2)

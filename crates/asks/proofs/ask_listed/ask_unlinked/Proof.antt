@@ -1,4 +1,5 @@
--- `asks::ask_listed::ask_unlinked` meets its contract: nextoffset decides between two paths, and each has one more rule.
+-- `asks::ask_listed::ask_unlinked` meets its contract: nextoffset decides between two paths, and each has
+-- one more rule.
 -- Assumes nothing.
 use mathlib.Core.Path.{refl}
 use Prim.Native.Nat.{_*_}
@@ -7,12 +8,27 @@ use Rattle.rules.specs.Ask.{askAnswer, afterAsk}
 use Rattle.rules.specs.Blocks.{putLink}
 use Rattle.rules.specs.Outcome.{heapOf}
 use Rattle.books.specs.Records.{leads}
+use Rattle.books.specs.Starts.{Start}
 use Rattle.books.specs.Tests.{held, failed}
 use Rattle.asks.specs.AskPath.{damaged, begins, not-ready, is-ready, stuck, is-last}
 use Rattle.asks.specs.HandOut.{with-link, expose-writes, last-writes, handed}
 use borrow.Author.Needs.{needs}
 use Rattle.asks.proofs.ask_listed.ask_unlinked.Statement.{statement}
 use Rattle.asks.proofs.ask_listed.ask_unlinked.Tie as tie
+
+-- the function's start, seen from its first call; an argument more shifts this line alone
+abbrev start : tie.After-index → tie.Start
+start c = c .before .before .before .before
+
+-- the places on the way that answers go back to, each named after what was done there
+abbrev indexed : tie.Else2 → tie.After-index
+indexed c = c .before .before .before .before .before .before
+
+abbrev spared : tie.After-put-link-arg → tie.Else2
+spared c = c .before .before .before .before .before .before
+
+abbrev tested : tie.After-pool-links → tie.Else3
+tested c = c .before .before .before .before .before .before .before
 
 index-requires : tie.Need-index-requires
 index-requires c κs = search needs
@@ -32,7 +48,7 @@ returns c =
     let at-index2 = at-spare .before .before in
     let at-if1 = at-index2 .before in
     let at-index = at-if1 .before .before in
-    let at-start = at-index .before .before .before .before in
+    let at-start = start at-index in
     let a = at-start .args in
     let h = heapOf (a .memory .now) (a .books .now) (a .map .now) in
     damaged 8 (a .arenas) (a .pools) (a .class) h _
@@ -40,20 +56,24 @@ returns c =
     (at-index .index .result) (at-index .index .ensures .0)
     (at-index2 .index2 .result) (at-index2 .index2 .ensures .0) (at-if1 .if1 .taken) (failed (at-spare .spare .ensures) (c .if2 .taken)))
 
+-- the block at nextoffset, once it has passed
+next : (c : tie.Else2) → Start (start (indexed c) .args .size) (c .before .before .before .index2 .result)
+next c =
+    let at-spare = c .before in
+    let at-start = start (indexed c) in
+    let a = at-start .args in
+    let h = heapOf (a .memory .now) (a .books .now) (a .map .now) in
+    begins h (a .p) (a .size) _ (omega (arith, at-start .pre .1 .size)) (held (at-spare .spare .ensures) (c .if2 .left))
+
 cast-expose : tie.Need-cast-expose
 cast-expose c = search needs
 
 expose-requires : tie.Need-expose-requires
 expose-requires c κs =
     let at-if2 = c .before in
-    let at-spare = at-if2 .before in
-    let at-index2 = at-spare .before .before in
-    let at-start = at-index2 .before .before .before .before .before .before .before in
-    let a = at-start .args in
-    let h = heapOf (a .memory .now) (a .books .now) (a .map .now) in
-    let next = begins h (a .p) (a .size) (at-index2 .index2 .result)
-    (omega (arith, at-start .pre .1 .size)) (held (at-spare .spare .ensures) (at-if2 .if2 .left)) in
-    (at-start .pre .2 .count, omega (arith, next .ends, at-index2 .index2 .ensures .0, at-start .pre .1 .size, at-start .pre .1 .class))
+    let at-index2 = at-if2 .before .before .before in
+    let at-start = start (indexed at-if2) in
+    (at-start .pre .2 .count, omega (arith, next at-if2 .ends, at-index2 .index2 .ensures .0, at-start .pre .1 .size, at-start .pre .1 .class))
 
 store-pool-requires : tie.Need-store-pool-requires
 store-pool-requires c κs = search needs
@@ -66,20 +86,14 @@ add-put-link c = search needs
 
 put-link-requires : tie.Need-put-link-requires
 put-link-requires c κs =
-    let at-if2 = c .before .before .before .before .before .before in
-    let at-spare = at-if2 .before in
-    let at-index2 = at-spare .before .before in
-    let at-start = at-index2 .before .before .before .before .before .before .before in
-    let a = at-start .args in
-    let h = heapOf (a .memory .now) (a .books .now) (a .map .now) in
-    let next = begins h (a .p) (a .size) (at-index2 .index2 .result)
-    (omega (arith, at-start .pre .1 .size)) (held (at-spare .spare .ensures) (at-if2 .if2 .left)) in
-    omega (arith, next .ends, at-start .pre .1 .size, at-start .pre .2 .there, at-start .pre .0 .memory)
+    let at-if2 = spared c in
+    let at-start = start (indexed at-if2) in
+    omega (arith, next at-if2 .ends, at-start .pre .1 .size, at-start .pre .2 .there, at-start .pre .0 .memory)
 
 hand-out-requires : tie.Need-hand-out-requires
 hand-out-requires c κs =
-    let at-index = c .before .before .before .before .before .before .before .before .before .before .before .before .before .before .before .before in
-    let at-start = at-index .before .before .before .before in (
+    let at-index = indexed (spared (c .before .before .before .before)) in
+    let at-start = start at-index in (
       omega (arith, at-start .pre .1 .size),
       omega (arith, at-start .pre .1 .size, at-start .pre .1 .class),
       rw (at-index .index .ensures .0) (at-start .pre .2 .start),
@@ -108,7 +122,7 @@ returns-2 c =
     let at-index2 = at-spare .before .before in
     let at-if1 = at-index2 .before in
     let at-index = at-if1 .before .before in
-    let at-start = at-index .before .before .before .before in
+    let at-start = start at-index in
     let a = at-start .args in
     let h = heapOf (a .memory .now) (a .books .now) (a .map .now) in
     rw (
@@ -136,7 +150,7 @@ returns-3 c =
     let at-may-leave = c .before in
     let at-if1 = at-may-leave .before in
     let at-index = at-if1 .before .before in
-    let at-start = at-index .before .before .before .before in
+    let at-start = start at-index in
     let a = at-start .args in
     let h = heapOf (a .memory .now) (a .books .now) (a .map .now) in
     damaged 8 (a .arenas) (a .pools) (a .class) h _
@@ -158,17 +172,18 @@ add-leave-by c = search needs
 
 leave-by-requires : tie.Need-leave-by-requires
 leave-by-requires c κs =
-    let at-if3 = c .before .before .before .before .before .before .before in
+    let at-if3 = tested c in
     let at-may-leave = at-if3 .before in
-    let at-start = at-may-leave .before .before .before .before .before .before .before in
+    let at-start = start (at-may-leave .before .before .before) in
     let a = at-start .args in
     let l = leads (a .pool) (a .arenas * a .pools) (held (at-may-leave .may-leave .ensures) (at-if3 .if3 .left)) in
     rw (c .pool-links .ensures) (omega (arith, l .0, l .1, at-start .pre .0 .books, at-start .pre .2 .there, at-start .pre .1 .class))
 
 hand-out-requires-2 : tie.Need-hand-out-requires-2
 hand-out-requires-2 c κs =
-    let at-index = c .before .before .before .before .before .before .before .before .before .before .before .before .before .before .before in
-    let at-start = at-index .before .before .before .before in (
+    let at-if3 = tested (c .before .before .before .before) in
+    let at-index = at-if3 .before .before .before .before in
+    let at-start = start at-index in (
       omega (arith, at-start .pre .1 .size),
       omega (arith, at-start .pre .1 .size, at-start .pre .1 .class),
       rw (at-index .index .ensures .0) (at-start .pre .2 .start),
@@ -194,7 +209,7 @@ returns-4 c =
     let at-may-leave = at-if3 .before in
     let at-if1 = at-may-leave .before in
     let at-index = at-if1 .before .before in
-    let at-start = at-index .before .before .before .before in
+    let at-start = start at-index in
     let a = at-start .args in
     let h = heapOf (a .memory .now) (a .books .now) (a .map .now) in
     rw (

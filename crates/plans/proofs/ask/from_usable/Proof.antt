@@ -1,4 +1,5 @@
--- `plans::ask::from_usable` meets its contract: it takes the path that the rules take by the freed-pool head: none, one of the pools, or none of them.
+-- `plans::ask::from_usable` meets its contract: it takes the path that the rules take by the freed-pool head:
+-- none, one of the pools, or none of them.
 -- Assumes nothing.
 use Prim.Native.Nat.{_*_}
 use native.Mathlib.Omega.{arith}
@@ -7,6 +8,10 @@ use borrow.Author.Tests.{le-leb, lt-leb, eq-eqb, ne-eqb}
 use Rattle.rules.specs.Ask.{fromUsable}
 use Rattle.plans.proofs.ask.from_usable.Statement.{statement}
 use Rattle.plans.proofs.ask.from_usable.Tie as tie
+
+-- the function's start, seen from its first call; an argument more shifts this line alone
+abbrev start : tie.After-arena-word → tie.Start
+start c = c .before .before .before .before
 
 arena-word-requires : tie.Need-arena-word-requires
 arena-word-requires c κs = search needs
@@ -33,7 +38,7 @@ returns-2 : tie.Need-returns-2
 unfolding fromUsable
 returns-2 c =
     let at-arena-word = c .before .before .before in
-    let at-start = at-arena-word .before .before .before .before in
+    let at-start = start at-arena-word in
     let a = at-start .args in
     rw (
       ← at-arena-word .arena-word .ensures .0,
@@ -45,7 +50,7 @@ returns-3 : tie.Need-returns-3
 unfolding fromUsable
 returns-3 c =
     let at-arena-word = c .before .before in
-    let at-start = at-arena-word .before .before .before .before in
+    let at-start = start at-arena-word in
     let a = at-start .args in
     rw (
       ← at-arena-word .arena-word .ensures .0,

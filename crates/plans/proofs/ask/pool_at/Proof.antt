@@ -1,4 +1,5 @@
--- `plans::ask::pool_at` meets its contract: it stays below the number of all pools: the arena is one of A, and the mark below P.
+-- `plans::ask::pool_at` meets its contract: it stays below the number of all pools: the arena is one of A, and
+-- the mark below P.
 -- Assumes nothing.
 use mathlib.Core.Path.{refl}
 use native.Mathlib.Nat.{mul-le-mul-right}

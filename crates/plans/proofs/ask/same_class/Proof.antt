@@ -4,11 +4,15 @@ use mathlib.Core.Path.{sym, ap, _∙_}
 use native.Mathlib.Omega.{arith}
 use Rattle.rules.specs.Ask.{sameClass}
 use Rattle.books.specs.declared.pool.Pool.{Pool}
-use Rattle.books.specs.Starts.{start}
+use Rattle.books.specs.Starts.{start as begins}
 use Rattle.books.specs.Tests.{both}
 use borrow.Author.Needs.{needs}
 use Rattle.plans.proofs.ask.same_class.Statement.{statement}
 use Rattle.plans.proofs.ask.same_class.Tie as tie
+
+-- the function's start, seen from its first call; an argument more shifts this line alone
+abbrev start : tie.After-index → tie.Start
+start c = c .before .before .before .before
 
 index-requires : tie.Need-index-requires
 index-requires c κs = search needs
@@ -26,8 +30,8 @@ link-at-requires : tie.Need-link-at-requires
 link-at-requires c κs =
     let at-spare = c .before in
     let at-index = at-spare .before in
-    let at-start = at-index .before .before .before .before in
-    let s = start (at-start .args .size) (at-index .index .result) (omega arith) (both _ _ (sym (at-spare .spare .ensures) ∙ c .if1 .taken) .0) in
+    let at-start = start at-index in
+    let s = begins (at-start .args .size) (at-index .index .result) (omega arith) (both _ _ (sym (at-spare .spare .ensures) ∙ c .if1 .taken) .0) in
     omega (arith, s .ends)
 
 index-requires-2 : tie.Need-index-requires-2
@@ -47,7 +51,7 @@ returns c =
     let at-if1 = at-link-at .before in
     let at-spare = at-if1 .before in
     let at-index = at-spare .before in
-    let at-start = at-index .before .before .before .before in
+    let at-start = start at-index in
     simp (
       ← at-index .index .ensures .0 ∙ ap (λ (q : Pool). q .freeblock) (at-start .pre .3),
       ← at-link-at .link-at .ensures,
@@ -61,7 +65,7 @@ unfolding sameClass
 returns-2 c =
     let at-spare = c .before in
     let at-index = at-spare .before in
-    let at-start = at-index .before .before .before .before in
+    let at-start = start at-index in
     simp (
       ← at-index .index .ensures .0 ∙ ap (λ (q : Pool). q .freeblock) (at-start .pre .3),
       ← at-start .pre .1 .size,

@@ -1,4 +1,5 @@
--- `plans::ask::spare` meets its contract: it asks for a start before it reads the bit, since only a start has a block number.
+-- `plans::ask::spare` meets its contract: it asks for a start before it reads the bit, since only a start has
+-- a block number.
 -- Assumes nothing.
 use mathlib.Core.Path.{sym, _∙_}
 use borrow.Author.Needs.{needs}

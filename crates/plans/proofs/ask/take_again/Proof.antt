@@ -9,6 +9,10 @@ use borrow.Author.Needs.{needs}
 use Rattle.plans.proofs.ask.take_again.Statement.{statement}
 use Rattle.plans.proofs.ask.take_again.Tie as tie
 
+-- the function's start, seen from its first call; an argument more shifts this line alone
+abbrev start : tie.After-index → tie.Start
+start c = c .before .before .before .before
+
 index-requires : tie.Need-index-requires
 index-requires c κs = search needs
 
@@ -19,8 +23,11 @@ returns : tie.Need-returns
 unfolding takeAgain setAnew
 returns c =
     let at-index = c .before .before in
-    let at-start = at-index .before .before .before .before in
-    simp (← at-index .index .ensures .0 ∙ ap (λ (q : Pool). q .class) (at-start .pre .3), eq-eqb (at-index .index .result) (at-start .args .class) (omega arith))
+    let at-start = start at-index in
+    simp (
+      ← at-index .index .ensures .0 ∙ ap (λ (q : Pool). q .class) (at-start .pre .3),
+      eq-eqb (at-index .index .result) (at-start .args .class) (omega arith),
+    )
     (c .same-class .ensures)
 
 set-anew-requires : tie.Need-set-anew-requires
@@ -30,8 +37,12 @@ returns-2 : tie.Need-returns-2
 unfolding takeAgain setAnew
 returns-2 c =
     let at-index = c .before .before in
-    let at-start = at-index .before .before .before .before in
-    simp (← at-index .index .ensures .0 ∙ ap (λ (q : Pool). q .class) (at-start .pre .3), ne-eqb (at-index .index .result) (at-start .args .class) (omega arith), ← at-start .pre .1 .size)
+    let at-start = start at-index in
+    simp (
+      ← at-index .index .ensures .0 ∙ ap (λ (q : Pool). q .class) (at-start .pre .3),
+      ne-eqb (at-index .index .result) (at-start .args .class) (omega arith),
+      ← at-start .pre .1 .size,
+    )
     (c .set-anew .ensures)
 
 pub take-again-spec : {M : Type 1} → statement M

@@ -1,4 +1,5 @@
--- `steps::give_back::back_last` meets its contract: its one test makes the rules of the path, and none of its writes changes what a later one has been tested for.
+-- `steps::give_back::back_last` meets its contract: its one test makes the rules of the path, and none of its writes
+-- changes what a later one has been tested for.
 -- Assumes nothing.
 use mathlib.Core.List.{List}
 use mathlib.Core.Path.{_≡_, sym, ap, ap₂, _∙_}
@@ -17,6 +18,20 @@ use borrow.Author.Needs.{needs}
 use Rattle.steps.proofs.give_back.back_last.Statement.{statement}
 use Rattle.steps.proofs.give_back.back_last.Tie as tie
 
+-- the function's start, seen from its first call; an argument more shifts this line alone
+abbrev start : tie.After-arena-of → tie.Start
+start c = c .before .before .before .before
+
+-- the places on the way that answers go back to, each named after what was done there
+abbrev read : tie.After-may-settle → tie.After-arena-word
+read c = c .before .before .before .before
+
+abbrev allowed : tie.After-take-back → tie.Else1
+allowed c = c .before .before .before .before
+
+abbrev taken : tie.After-empty-pool-arg → tie.After-take-back
+taken c = c .before .before .before .before .before .before .before
+
 arena-of-requires : tie.Need-arena-of-requires
 arena-of-requires c κs = search needs
 
@@ -34,9 +49,9 @@ same-length c = search needs
 
 -- the answers to the two tests are the rules' own
 tested : (c : tie.After-may-settle)
-    → let at-arena-word = c .before .before .before .before in
+    → let at-arena-word = read c in
     let at-arena-of = at-arena-word .before .before in
-    let a = at-arena-of .before .before .before .before .args in
+    let a = start at-arena-of .args in
     c .before .before .may-empty .result && c .may-settle .result
     ≡ mayEmpty (a .arenas) (a .pools) (at-arena-of .arena-of .result) (a .pool) (at-arena-word .arena-word .result) (a .books .now)
     && maySettle (a .arenas) (a .pools) (at-arena-of .arena-of .result) (at-arena-word .arena-word .result) (a .books .now)
@@ -44,9 +59,9 @@ tested c = ap₂ _&&_ (c .before .before .may-empty .ensures) (c .may-settle .en
 
 returns : tie.Need-returns
 returns c =
-    let at-arena-word = c .before .before .before .before .before in
+    let at-arena-word = read (c .before) in
     let at-arena-of = at-arena-word .before .before in
-    let at-start = at-arena-of .before .before .before .before in
+    let at-start = start at-arena-of in
     let a = at-start .args in
     let h = heapOf (a .memory .now) (a .books .now) (a .map .now) in
     let broken = stuck 8 (a .arenas) (a .pools) (a .books .now) (a .pool .class) (a .offset / 4096) (at-arena-of .arena-of .result)
@@ -57,9 +72,9 @@ returns c =
 
 -- once the test has passed, each of the two holds
 passed : (c : tie.Else1)
-    → let at-arena-word = c .before .before .before .before .before in
+    → let at-arena-word = read (c .before) in
     let at-arena-of = at-arena-word .before .before in
-    let a = at-arena-of .before .before .before .before .args in
+    let a = start at-arena-of .args in
     (mayEmpty (a .arenas) (a .pools) (at-arena-of .arena-of .result) (a .pool) (at-arena-word .arena-word .result) (a .books .now) ≡ true)
     × (maySettle (a .arenas) (a .pools) (at-arena-of .arena-of .result) (at-arena-word .arena-word .result) (a .books .now) ≡ true)
 passed c = both _ _ (held (tested (c .before)) (c .if1 .left))
@@ -69,11 +84,11 @@ take-back-requires c κs = search needs
 
 empty-pool-requires : tie.Need-empty-pool-requires
 empty-pool-requires c κs =
-    let at-take-back = c .before .before .before .before .before .before .before in
-    let at-if1 = at-take-back .before .before .before .before in
-    let at-arena-word = at-if1 .before .before .before .before .before in
+    let at-take-back = taken c in
+    let at-if1 = allowed at-take-back in
+    let at-arena-word = read (at-if1 .before) in
     let at-arena-of = at-arena-word .before .before in
-    let at-start = at-arena-of .before .before .before .before in
+    let at-start = start at-arena-of in
     let a = at-start .args in
     let p = a .offset / 4096 in
     let f = a .offset % 4096 in
@@ -93,34 +108,38 @@ empty-pool-requires c κs =
 
 -- the books after the pool is emptied
 last-books : (c : tie.After-empty-pool)
-    → let at-take-back = c .before .before .before .before .before .before .before .before in
-    let a = at-take-back .before .before .before .before .before .before .before .before .before .before .before .before .before .before .before .args in
+    → let at-if1 = allowed (taken (c .before)) in
+    let a = start (read (at-if1 .before) .before .before) .args in
     c .empty-pool .last .0
     ≡ emptied (a .arenas) (a .pools) (a .pool .class) (a .offset / 4096) (takenBack (a .arenas) (a .offset / 4096) (a .offset % 4096) (a .books .now))
 last-books c =
-    let at-take-back = c .before .before .before .before .before .before .before .before in
-    let at-start = at-take-back .before .before .before .before .before .before .before .before .before .before .before .before .before .before .before in
-    let a = at-start .args in
-    c .empty-pool .ensures ∙ ap (emptied (a .arenas) (a .pools) (a .pool .class) (a .offset / 4096)) (ap (λ (h : Heap). h .books) (at-take-back .take-back .ensures))
+    let at-take-back = taken (c .before) in
+    let at-if1 = allowed at-take-back in
+    let a = start (read (at-if1 .before) .before .before) .args in
+    c .empty-pool .ensures
+    ∙ ap (emptied (a .arenas) (a .pools) (a .pool .class) (a .offset / 4096)) (ap (λ (h : Heap). h .books) (at-take-back .take-back .ensures))
 
 settle-requires : tie.Need-settle-requires
 settle-requires c κs =
     let at-empty-pool = c .before .before .before in
-    let at-if1 = at-empty-pool .before .before .before .before .before .before .before .before .before .before .before .before in
-    let at-arena-word = at-if1 .before .before .before .before .before in
+    let at-if1 = allowed (taken (at-empty-pool .before)) in
+    let at-arena-word = read (at-if1 .before) in
     let at-arena-of = at-arena-word .before .before in
-    let at-start = at-arena-of .before .before .before .before in
+    let at-start = start at-arena-of in
     let a = at-start .args in
     let p = a .offset / 4096 in
     let f = a .offset % 4096 in
+    let free = at-arena-word .arena-word .result in
+    let home = at-arena-of .arena-of .ensures .0 in
     let e = last-books at-empty-pool in
     let kept = may-settle-last (a .arenas) (a .pools) (a .pool .class) p f (a .books .now) (at-start .pre .1 .class)
-    (omega (arith, at-arena-of .arena-of .ensures .0, at-arena-of .arena-of .ensures .1)) (at-arena-word .arena-word .result) in (
+    (omega (arith, home, at-arena-of .arena-of .ensures .1)) free in (
       ranged (at-start .pre .0),
       omega (arith, ap length e, last-length (a .arenas) (a .pools) (a .pool .class) p f (a .books .now), at-start .pre .0 .books),
       at-arena-of .arena-of .ensures .1,
       at-arena-word .arena-word .ensures .1,
-      rw (e, at-arena-of .arena-of .ensures .0, kept, ← at-arena-of .arena-of .ensures .0) (passed at-if1 .1),
+      ap₂ (λ (n : ℕ) (x : List ℕ). maySettle (a .arenas) (a .pools) n free x) home e ∙ kept
+          ∙ ap (λ (n : ℕ). maySettle (a .arenas) (a .pools) n free (a .books .now)) (sym home) ∙ passed at-if1 .1,
     )
 
 same-length-2 : tie.Need-same-length-2
@@ -136,12 +155,12 @@ returns-2 : tie.Need-returns-2
 returns-2 c =
     let at-settle = c .before .before in
     let at-empty-pool = at-settle .before .before .before .before in
-    let at-take-back = at-empty-pool .before .before .before .before .before .before .before .before in
-    let at-if1 = at-take-back .before .before .before .before in
+    let at-take-back = taken (at-empty-pool .before) in
+    let at-if1 = allowed at-take-back in
     let at-may-settle = at-if1 .before in
-    let at-arena-word = at-may-settle .before .before .before .before in
+    let at-arena-word = read at-may-settle in
     let at-arena-of = at-arena-word .before .before in
-    let at-start = at-arena-of .before .before .before .before in
+    let at-start = start at-arena-of in
     let a = at-start .args in
     let p = a .offset / 4096 in
     let f = a .offset % 4096 in

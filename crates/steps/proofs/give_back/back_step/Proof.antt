@@ -1,8 +1,9 @@
--- `steps::give_back::back_step` meets its contract: each of its tests is the next rule of the path, and the writes at its end are the path's. A live
--- offset has a class, a start and a pool.
+-- `steps::give_back::back_step` meets its contract: each of its tests is the next rule of the path, and the writes at
+-- its end are the path's. A live offset has a class, a start and a pool.
 -- Assumes nothing.
 use mathlib.Core.List.{List}
-use mathlib.Core.Path.{ap, ap₂, _∙_}
+use mathlib.Core.Path.{_≡_, sym, ap, ap₂, _∙_}
+use mathlib.Core.Bool.{true}
 use Prim.Native.Nat.{ℕ, _+_, _*_, _/_, _%_, _≤_}
 use native.Mathlib.Omega.{arith}
 use lib.ListN.{length}
@@ -13,12 +14,39 @@ use Rattle.rules.specs.Lists as L
 use Rattle.rules.specs.GiveBack.{afterBack, backAnswer}
 use Rattle.rules.specs.Outcome.{heapOf, outcome, answerOf}
 use Rattle.books.specs.declared.pool.Pool.{Pool}
+use Rattle.books.specs.Records.{mayGive}
 use Rattle.books.specs.Tests.{held, failed}
 use Rattle.steps.specs.Backs.{Counted, counted, length-taken, taken-before}
 use Rattle.steps.specs.BackPath.{step-is, damaged, miscounted, listless, joins, no-start, falls-empty, stays}
 use borrow.Author.Needs.{needs}
 use Rattle.steps.proofs.give_back.back_step.Statement.{statement}
 use Rattle.steps.proofs.give_back.back_step.Tie as tie
+
+-- the function's start, seen from its first call; an argument more shifts this line alone
+abbrev start : tie.After-load-pool → tie.Start
+start c = c .before .before .before .before .before
+
+-- the places on the way that answers go back to, each named after what was done there
+abbrev loaded : tie.Else1 → tie.After-load-pool
+loaded c = c .before .before
+
+abbrev passed : tie.Else3 → tie.Else1
+passed c = c .before .before .before .before .before .before
+
+abbrev joinable : tie.After-take-back → tie.Else3
+joinable c = c .before .before .before .before
+
+abbrev taken : tie.After-join-arg → tie.After-take-back
+taken c = c .before .before .before .before .before .before .before
+
+abbrev passed-2 : tie.Else4 → tie.Else1
+passed-2 c = c .before .before .before .before .before .before .before
+
+abbrev emptied : tie.After-slice-known10 → tie.After-back-last
+emptied c = c .before .before .before .before .before .before
+
+abbrev taken-2 : tie.After-slice-known13 → tie.After-take-back2
+taken-2 c = c .before .before .before .before .before .before
 
 load-pool-requires : tie.Need-load-pool-requires
 load-pool-requires c κs = search needs
@@ -33,7 +61,7 @@ returns : tie.Need-returns
 returns c =
     let at-may-give = c .before in
     let at-load-pool = at-may-give .before in
-    let at-start = at-load-pool .before .before .before .before .before in
+    let at-start = start at-load-pool in
     let a = at-start .args in
     let h = heapOf (a .memory .now) (a .books .now) (a .map .now) in
     let q = at-load-pool .load-pool .result in
@@ -42,17 +70,20 @@ returns c =
     step-is 8 (a .arenas) (a .pools) (q .class) h (a .offset) _ _ (ap (λ (x : Pool). x .class) (at-load-pool .load-pool .ensures)) path
     (damaged 8 (a .arenas) (a .pools) (q .class) h (a .offset))
 
+-- the pool's count has passed
+gives : (c : tie.Else1) → mayGive (loaded c .load-pool .result) ≡ true
+gives c = held (c .before .may-give .ensures) (c .if1 .left)
+
 -- the block, once its pool's count has passed
 block : (c : tie.Else1)
-    → let a = c .before .before .before .before .before .before .before .args in
-    Counted (a .arenas) (a .pools) (a .offset / 4096) (a .offset % 4096) (a .k) (c .before .before .load-pool .result) (a .books .now)
+    → let a = start (loaded c) .args in
+    Counted (a .arenas) (a .pools) (a .offset / 4096) (a .offset % 4096) (a .k) (loaded c .load-pool .result) (a .books .now)
 block c =
-    let at-may-give = c .before in
-    let at-load-pool = at-may-give .before in
-    let at-start = at-load-pool .before .before .before .before .before in
+    let at-load-pool = loaded c in
+    let at-start = start at-load-pool in
     let a = at-start .args in
     counted (a .arenas) (a .pools) (a .k) (a .offset) (at-load-pool .load-pool .result) (a .books .now) (a .map .now)
-    (at-load-pool .load-pool .ensures) (at-start .pre .1) (at-start .pre .2) (held (at-may-give .may-give .ensures) (c .if1 .left))
+    (at-load-pool .load-pool .ensures) (at-start .pre .1) (at-start .pre .2) (gives c)
 
 index-requires : tie.Need-index-requires
 index-requires c κs = search needs
@@ -67,7 +98,7 @@ may-join-requires : tie.Need-may-join-requires
 may-join-requires c κs =
     let at-index = c .before .before .before in
     let at-if1 = at-index .before in
-    let at-start = at-if1 .before .before .before .before .before .before .before in
+    let at-start = start (loaded at-if1) in
     omega (arith, block at-if1 .class, at-index .index .ensures .0, at-start .pre .0 .books)
 
 same-length-2 : tie.Need-same-length-2
@@ -79,48 +110,43 @@ returns-2 c =
     let at-if2 = at-may-join .before .before in
     let at-index = at-if2 .before .before in
     let at-if1 = at-index .before in
-    let at-may-give = at-if1 .before in
-    let at-load-pool = at-may-give .before in
-    let at-start = at-load-pool .before .before .before .before .before in
+    let at-load-pool = loaded at-if1 in
+    let at-start = start at-load-pool in
     let a = at-start .args in
     let h = heapOf (a .memory .now) (a .books .now) (a .map .now) in
     let q = at-load-pool .load-pool .result in
     let path = listless 8 (a .arenas) (a .pools) (a .books .now) (q .class) (a .offset / 4096) q (at-load-pool .load-pool .ensures)
-    (held (at-may-give .may-give .ensures) (at-if1 .if1 .left)) (at-if2 .if2 .taken)
+    (gives at-if1) (at-if2 .if2 .taken)
     (rw (at-index .index .ensures .0) at (failed (at-may-join .may-join .ensures) (c .if3 .taken))) in
     step-is 8 (a .arenas) (a .pools) (q .class) h (a .offset) _ _ (ap (λ (x : Pool). x .class) (at-load-pool .load-pool .ensures)) path
     (damaged 8 (a .arenas) (a .pools) (q .class) h (a .offset))
 
 take-back-requires : tie.Need-take-back-requires
 take-back-requires c κs =
-    let at-if1 = c .before .before .before .before .before .before .before .before .before in
-    let at-start = at-if1 .before .before .before .before .before .before .before in
-    (at-start .pre .0, block at-if1)
+    let at-if1 = passed (c .before .before .before) in
+    (start (loaded at-if1) .pre .0, block at-if1)
 
 mul-join : tie.Need-mul-join
 mul-join c =
-    let at-load-pool = c .before .before .before .before .before .before .before .before .before .before .before .before .before .before .before .before .before .before .before in
-    let at-start = at-load-pool .before .before .before .before .before in
-    omega (arith, at-start .pre .0 .all)
+    let at-if1 = passed (joinable (taken c)) in
+    omega (arith, start (loaded at-if1) .pre .0 .all)
 
 pool-links-requires : tie.Need-pool-links-requires
 pool-links-requires c κs =
-    let at-load-pool = c .before .before .before .before .before .before .before .before .before .before .before .before .before .before .before .before .before .before .before in
-    let at-start = at-load-pool .before .before .before .before .before in
-    at-start .pre .0 .arenas-high
+    let at-if1 = passed (joinable (taken c)) in
+    start (loaded at-if1) .pre .0 .arenas-high
 
 add-join : tie.Need-add-join
 add-join c = search needs
 
 join-requires : tie.Need-join-requires
 join-requires c κs =
-    let at-take-back = c .before .before .before .before .before .before .before .before in
-    let at-if3 = at-take-back .before .before .before .before in
+    let at-take-back = taken (c .before) in
+    let at-if3 = joinable at-take-back in
     let at-may-join = at-if3 .before in
     let at-index = at-may-join .before .before .before .before in
     let at-if1 = at-index .before in
-    let at-load-pool = at-if1 .before .before in
-    let at-start = at-load-pool .before .before .before .before .before in
+    let at-start = start (loaded at-if1) in
     let a = at-start .args in
     let p = a .offset / 4096 in
     let f = a .offset % 4096 in
@@ -152,21 +178,21 @@ unfolding afterBack backAnswer
 returns-3 c =
     let at-join = c .before .before in
     let at-pool-links = at-join .before in
-    let at-take-back = at-pool-links .before .before .before .before .before .before .before .before in
-    let at-if3 = at-take-back .before .before .before .before in
+    let at-take-back = taken (at-pool-links .before) in
+    let at-if3 = joinable at-take-back in
     let at-may-join = at-if3 .before in
     let at-if2 = at-may-join .before .before in
     let at-index = at-if2 .before .before in
     let at-if1 = at-index .before in
-    let at-may-give = at-if1 .before in
-    let at-load-pool = at-may-give .before in
-    let at-start = at-load-pool .before .before .before .before .before in
+    let at-load-pool = loaded at-if1 in
+    let at-start = start at-load-pool in
     let a = at-start .args in
     let h = heapOf (a .memory .now) (a .books .now) (a .map .now) in
     let q = at-load-pool .load-pool .result in
     let path = joins 8 (a .arenas) (a .pools) (a .books .now) (q .class) (a .offset / 4096) q (at-load-pool .load-pool .ensures)
-    (held (at-may-give .may-give .ensures) (at-if1 .if1 .left)) (at-if2 .if2 .taken)
-    (rw (at-index .index .ensures .0) at (held (at-may-join .may-join .ensures) (at-if3 .if3 .left))) in
+    (gives at-if1) (at-if2 .if2 .taken)
+    (ap (λ (x : ℕ). L.mayJoin (a .arenas * a .pools) (classHead x) (a .books .now)) (sym (at-index .index .ensures .0))
+    ∙ held (at-may-join .may-join .ensures) (at-if3 .if3 .left)) in
     step-is 8 (a .arenas) (a .pools) (q .class) h (a .offset) _ _ (ap (λ (x : Pool). x .class) (at-load-pool .load-pool .ensures)) path
     (ap (λ (x : List ℕ). outcome (answerOf 0 (a .offset)) (heapOf (at-take-back .take-back .last .0) x (at-take-back .take-back .last .1 .1 .0)))
     (at-join .join .ensures
@@ -180,6 +206,10 @@ size-of-requires c κs =
     let at-index = c .before .before in
     let at-if1 = at-index .before in
     omega (arith, block at-if1 .class, at-index .index .ensures .0)
+
+-- the size is that of the pool's class
+size : (c : tie.After-size-of) → c .size-of .result ≡ sizeOf 8 (loaded (c .before .before .before .before) .load-pool .result .class)
+size c = c .size-of .ensures .0 ∙ ap (sizeOf 8) (c .before .before .before .index .ensures .0)
 
 index-requires-2 : tie.Need-index-requires-2
 index-requires-2 c κs = search needs
@@ -196,24 +226,22 @@ returns-4 c =
     let at-index2 = at-is-start .before in
     let at-size-of = at-index2 .before in
     let at-if2 = at-size-of .before in
-    let at-index = at-if2 .before .before in
-    let at-load-pool = at-index .before .before .before in
-    let at-start = at-load-pool .before .before .before .before .before in
+    let at-load-pool = loaded (at-if2 .before .before .before) in
+    let at-start = start at-load-pool in
     let a = at-start .args in
     let h = heapOf (a .memory .now) (a .books .now) (a .map .now) in
     let q = at-load-pool .load-pool .result in
     let path = no-start 8 (a .arenas) (a .pools) (a .books .now) (q .class) (a .offset / 4096) q (at-load-pool .load-pool .ensures)
-    (at-size-of .size-of .result) (at-index2 .index2 .result)
-    (at-size-of .size-of .ensures .0 ∙ ap (sizeOf 8) (at-index .index .ensures .0)) (at-index2 .index2 .ensures .0)
+    (at-size-of .size-of .result) (at-index2 .index2 .result) (size at-size-of) (at-index2 .index2 .ensures .0)
     (at-if2 .if2 .left) (failed (at-is-start .is-start .ensures) (c .if4 .taken)) in
     step-is 8 (a .arenas) (a .pools) (q .class) h (a .offset) _ _ (ap (λ (x : Pool). x .class) (at-load-pool .load-pool .ensures)) path
     (damaged 8 (a .arenas) (a .pools) (q .class) h (a .offset))
 
 back-last-requires : tie.Need-back-last-requires
 back-last-requires c κs =
-    let at-if1 = c .before .before .before .before .before .before .before .before .before .before .before .before in
-    let at-start = at-if1 .before .before .before .before .before .before .before in
-    (at-start .pre .0, block at-if1)
+    let at-if5 = c .before .before .before in
+    let at-if1 = passed-2 (at-if5 .before .before) in
+    (start (loaded at-if1) .pre .0, block at-if1)
 
 same-length-7 : tie.Need-same-length-7
 same-length-7 c = search needs
@@ -226,33 +254,30 @@ same-length-9 c = search needs
 
 returns-5 : tie.Need-returns-5
 returns-5 c =
-    let at-back-last = c .before .before .before .before .before .before in
+    let at-back-last = emptied c in
     let at-if5 = at-back-last .before .before .before .before in
     let at-if4 = at-if5 .before .before in
     let at-is-start = at-if4 .before in
     let at-index2 = at-is-start .before in
     let at-size-of = at-index2 .before in
     let at-if2 = at-size-of .before in
-    let at-index = at-if2 .before .before in
-    let at-if1 = at-index .before in
-    let at-may-give = at-if1 .before in
-    let at-load-pool = at-may-give .before in
-    let at-start = at-load-pool .before .before .before .before .before in
+    let at-if1 = at-if2 .before .before .before in
+    let at-load-pool = loaded at-if1 in
+    let at-start = start at-load-pool in
     let a = at-start .args in
     let h = heapOf (a .memory .now) (a .books .now) (a .map .now) in
     let q = at-load-pool .load-pool .result in
     let path = falls-empty 8 (a .arenas) (a .pools) (a .books .now) (q .class) (a .offset / 4096) q (at-load-pool .load-pool .ensures)
-    (at-size-of .size-of .result) (at-index2 .index2 .result)
-    (at-size-of .size-of .ensures .0 ∙ ap (sizeOf 8) (at-index .index .ensures .0)) (at-index2 .index2 .ensures .0)
-    (held (at-may-give .may-give .ensures) (at-if1 .if1 .left)) (at-if2 .if2 .left) (held (at-is-start .is-start .ensures) (at-if4 .if4 .left)) (at-if5 .if5 .taken) in
+    (at-size-of .size-of .result) (at-index2 .index2 .result) (size at-size-of) (at-index2 .index2 .ensures .0)
+    (gives at-if1) (at-if2 .if2 .left) (held (at-is-start .is-start .ensures) (at-if4 .if4 .left)) (at-if5 .if5 .taken) in
     step-is 8 (a .arenas) (a .pools) (q .class) h (a .offset) _ _ (ap (λ (x : Pool). x .class) (at-load-pool .load-pool .ensures)) path
     (at-back-last .back-last .ensures)
 
 take-back-requires-2 : tie.Need-take-back-requires-2
 take-back-requires-2 c κs =
-    let at-if1 = c .before .before .before .before .before .before .before .before .before .before .before .before in
-    let at-start = at-if1 .before .before .before .before .before .before .before in
-    (at-start .pre .0, block at-if1)
+    let at-if5 = c .before .before .before in
+    let at-if1 = passed-2 (at-if5 .before .before) in
+    (start (loaded at-if1) .pre .0, block at-if1)
 
 same-length-10 : tie.Need-same-length-10
 same-length-10 c = search needs
@@ -266,25 +291,22 @@ same-length-12 c = search needs
 returns-6 : tie.Need-returns-6
 unfolding afterBack backAnswer
 returns-6 c =
-    let at-take-back2 = c .before .before .before .before .before .before in
+    let at-take-back2 = taken-2 c in
     let at-if5 = at-take-back2 .before .before .before .before in
     let at-if4 = at-if5 .before .before in
     let at-is-start = at-if4 .before in
     let at-index2 = at-is-start .before in
     let at-size-of = at-index2 .before in
     let at-if2 = at-size-of .before in
-    let at-index = at-if2 .before .before in
-    let at-if1 = at-index .before in
-    let at-may-give = at-if1 .before in
-    let at-load-pool = at-may-give .before in
-    let at-start = at-load-pool .before .before .before .before .before in
+    let at-if1 = at-if2 .before .before .before in
+    let at-load-pool = loaded at-if1 in
+    let at-start = start at-load-pool in
     let a = at-start .args in
     let h = heapOf (a .memory .now) (a .books .now) (a .map .now) in
     let q = at-load-pool .load-pool .result in
     let path = stays 8 (a .arenas) (a .pools) (a .books .now) (q .class) (a .offset / 4096) q (at-load-pool .load-pool .ensures)
-    (at-size-of .size-of .result) (at-index2 .index2 .result)
-    (at-size-of .size-of .ensures .0 ∙ ap (sizeOf 8) (at-index .index .ensures .0)) (at-index2 .index2 .ensures .0)
-    (held (at-may-give .may-give .ensures) (at-if1 .if1 .left)) (at-if2 .if2 .left) (held (at-is-start .is-start .ensures) (at-if4 .if4 .left)) (at-if5 .if5 .left) in
+    (at-size-of .size-of .result) (at-index2 .index2 .result) (size at-size-of) (at-index2 .index2 .ensures .0)
+    (gives at-if1) (at-if2 .if2 .left) (held (at-is-start .is-start .ensures) (at-if4 .if4 .left)) (at-if5 .if5 .left) in
     step-is 8 (a .arenas) (a .pools) (q .class) h (a .offset) _ _ (ap (λ (x : Pool). x .class) (at-load-pool .load-pool .ensures)) path
     (ap (λ (x : Heap). outcome (answerOf 0 (a .offset)) x) (at-take-back2 .take-back2 .ensures))
 

@@ -1,5 +1,5 @@
--- `steps::give_back::empty_pool` meets its contract: the pool leaves the class list by its record's links, which are those that the books hold, and then joins
--- the freed pools; leaving keeps the arena's words.
+-- `steps::give_back::empty_pool` meets its contract: the pool leaves the class list by its record's links, which are
+-- those that the books hold, and then joins the freed pools; leaving keeps the arena's words.
 -- Assumes nothing.
 use mathlib.Core.Path.{_≡_, sym, ap, ap₂, _∙_}
 use Prim.Native.Nat.{ℕ, _+_}
@@ -12,6 +12,10 @@ use Rattle.steps.specs.Backs.{left-keeps, freedFirst}
 use borrow.Author.Needs.{needs}
 use Rattle.steps.proofs.give_back.empty_pool.Statement.{statement}
 use Rattle.steps.proofs.give_back.empty_pool.Tie as tie
+
+-- the function's start, seen from its first call; an argument more shifts this line alone
+abbrev start : tie.After-pool-links → tie.Start
+start c = c .before .before .before
 
 pool-links-requires : tie.Need-pool-links-requires
 pool-links-requires c κs = search needs
@@ -27,12 +31,12 @@ leave-by-requires c κs = search needs
 
 -- the books after leaving are the rules'
 left : (c : tie.After-leave-by)
-    → let a = c .before .before .before .before .before .args in
+    → let a = start (c .before .before) .args in
     c .leave-by .last .0 ≡ L.leave (L.poolLinks (a .arenas)) (4 + a .pool .class) (a .p) (a .books .now)
 left c =
     let at-index = c .before in
     let at-pool-links = at-index .before in
-    let at-start = at-pool-links .before .before .before in
+    let at-start = start at-pool-links in
     let a = at-start .args in
     c .leave-by .ensures
     ∙ ap₂ (λ (x y : ℕ). L.leaveBy x (4 + y) (a .pool .next) (a .pool .previous) (a .p) (a .books .now))
@@ -43,7 +47,7 @@ left c =
 free-pool-requires : tie.Need-free-pool-requires
 free-pool-requires c κs =
     let at-leave-by = c .before .before .before in
-    let at-start = at-leave-by .before .before .before .before .before in
+    let at-start = start (at-leave-by .before .before) in
     let a = at-start .args in
     let e = left at-leave-by in
     let k = left-keeps (a .arenas) (a .pool .class) (a .p) (a .a) (a .books .now) (omega arith) (omega arith) in
@@ -57,7 +61,7 @@ returns : tie.Need-returns
 returns c =
     let at-free-pool = c .before .before in
     let at-leave-by = at-free-pool .before .before .before .before in
-    let at-start = at-leave-by .before .before .before .before .before in
+    let at-start = start (at-leave-by .before .before) in
     let a = at-start .args in
     at-free-pool .free-pool .ensures
     ∙ ap (freedFirst (a .arenas) (a .a) (a .p)) (left at-leave-by)

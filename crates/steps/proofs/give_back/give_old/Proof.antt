@@ -1,4 +1,5 @@
--- `steps::give_back::give_old` meets its contract: it tests whether the offset is live and then takes the step, in that order.
+-- `steps::give_back::give_old` meets its contract: it tests whether the offset is live and then takes the step, in
+-- that order.
 -- Assumes nothing.
 use mathlib.Core.Path.{refl, sym, _∙_}
 use native.Mathlib.Omega.{arith}
@@ -10,6 +11,14 @@ use Rattle.books.specs.Passing.{refusal, step}
 use borrow.Author.Needs.{needs}
 use Rattle.steps.proofs.give_back.give_old.Statement.{statement}
 use Rattle.steps.proofs.give_back.give_old.Tie as tie
+
+-- the function's start, seen from its first call; an argument more shifts this line alone
+abbrev start : tie.After-live-block → tie.Start
+start c = c .before .before .before .before .before .before .before
+
+-- the step, seen from the last return
+abbrev stepped : tie.After-slice-known6 → tie.After-back-step
+stepped c = c .before .before .before .before .before .before
 
 live-block-requires : tie.Need-live-block-requires
 live-block-requires c κs = search needs
@@ -26,7 +35,7 @@ same-length-3 c = search needs
 returns : tie.Need-returns
 unfolding giveOld
 returns c =
-    let at-start = c .before .before .before .before .before .before .before .before in
+    let at-start = start (c .before) in
     let a = at-start .args in
     let h = heapOf (a .memory .now) (a .books .now) (a .map .now) in (
       refusal h _ (gave (a .offset) 5) 5 _ refl
@@ -39,7 +48,7 @@ back-step-requires : tie.Need-back-step-requires
 back-step-requires c κs =
     let at-if1 = c .before .before .before in
     let at-live-block = at-if1 .before in
-    let at-start = at-live-block .before .before .before .before .before .before .before in
+    let at-start = start at-live-block in
     let a = at-start .args in
     let f = found 8 (a .arenas) (a .pools) (a .books .now) (a .map .now) (a .offset) (omega arith) (omega arith)
     (λ z. at-if1 .if1 .left (at-live-block .live-block .ensures ∙ z)) in
@@ -57,10 +66,10 @@ same-length-6 c = search needs
 returns-2 : tie.Need-returns-2
 unfolding giveOld
 returns-2 c =
-    let at-back-step = c .before .before .before .before .before .before in
+    let at-back-step = stepped c in
     let at-if1 = at-back-step .before .before .before .before in
     let at-live-block = at-if1 .before in
-    let at-start = at-live-block .before .before .before .before .before .before .before in
+    let at-start = start at-live-block in
     let a = at-start .args in
     let h = heapOf (a .memory .now) (a .books .now) (a .map .now) in
     let f = found 8 (a .arenas) (a .pools) (a .books .now) (a .map .now) (a .offset) (omega arith) (omega arith)

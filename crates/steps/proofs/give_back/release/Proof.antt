@@ -1,4 +1,5 @@
--- `steps::give_back::release` meets its contract: it leaves the usable list, zeroes the record and joins the unused list, whose head the first two leave alone.
+-- `steps::give_back::release` meets its contract: it leaves the usable list, zeroes the record and joins the unused
+-- list, whose head the first two leave alone.
 -- Assumes nothing.
 use mathlib.Core.List.{List}
 use mathlib.Core.Path.{_≡_, ap, _∙_}
@@ -12,6 +13,10 @@ use Rattle.rules.specs.Lists as L
 use Rattle.steps.specs.Backs.{zeroed, zeroed-keeps}
 use Rattle.steps.proofs.give_back.release.Statement.{statement}
 use Rattle.steps.proofs.give_back.release.Tie as tie
+
+-- where the arena has left its list, seen from where its record is 0
+abbrev left : tie.After-put-words → tie.After-leave
+left c = c .before .before .before .before .before
 
 leave-requires : tie.Need-leave-requires
 leave-requires c κs = search needs
@@ -34,7 +39,7 @@ put-words-requires c κs = search needs
 join-requires : tie.Need-join-requires
 join-requires c κs =
     let at-put-words = c .before .before .before in
-    let at-leave = at-put-words .before .before .before .before .before in
+    let at-leave = left at-put-words in
     let at-start = at-leave .before .before .before in
     let a = at-start .args in
     let e : at-put-words .put-words .last .0 ≡ zeroed (a .a) (a .books .now) = at-put-words .put-words .ensures
@@ -49,7 +54,7 @@ returns : tie.Need-returns
 returns c =
     let at-join = c .before .before in
     let at-put-words = at-join .before .before .before .before in
-    let at-leave = at-put-words .before .before .before .before .before in
+    let at-leave = left at-put-words in
     let at-start = at-leave .before .before .before in
     let a = at-start .args in
     let e : at-put-words .put-words .last .0 ≡ zeroed (a .a) (a .books .now) = at-put-words .put-words .ensures ∙ ap

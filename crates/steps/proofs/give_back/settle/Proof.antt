@@ -1,4 +1,5 @@
--- `steps::give_back::settle` writes what becomes of the arena: what it needs of the links and heads is what the rules have asked.
+-- `steps::give_back::settle` writes what becomes of the arena: what it needs of the links and heads is what the
+-- rules have asked.
 -- Assumes nothing.
 use native.Mathlib.Omega.{arith}
 use Prim.Native.Nat.{_+_}

@@ -1,4 +1,5 @@
--- `steps::give_back::take_back` meets its contract: it stores the changed record, which writes freeblock and count and nothing else.
+-- `steps::give_back::take_back` meets its contract: it stores the changed record, which writes freeblock and count
+-- and nothing else.
 -- Assumes nothing.
 use mathlib.Core.Path.{ap, _∙_}
 use Prim.Native.Nat.{ℕ, _+_, _*_}

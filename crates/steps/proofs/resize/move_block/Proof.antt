@@ -11,6 +11,17 @@ use borrow.Author.Needs.{needs}
 use Rattle.steps.proofs.resize.move_block.Statement.{statement}
 use Rattle.steps.proofs.resize.move_block.Tie as tie
 
+-- the function's start, seen from its first call; an argument more shifts this line alone
+abbrev start : tie.After-copy-within → tie.Start
+start c = c .before .before .before .before .before
+
+-- the copy, seen from the give-back, and the give-back, seen from the test of its number
+abbrev copied : tie.After-give-old → tie.After-copy-within
+copied c = c .before .before .before .before .before .before
+
+abbrev given : tie.After-slice-known7 → tie.After-give-old
+given c = c .before .before .before .before .before .before
+
 copy-within-requires : tie.Need-copy-within-requires
 copy-within-requires c κs = search needs
 
@@ -31,9 +42,9 @@ same-length-3 c = search needs
 
 returns : tie.Need-returns
 returns c =
-    let at-give-old = c .before .before .before .before .before .before .before in
-    let at-copy-within = at-give-old .before .before .before .before .before .before in
-    let at-start = at-copy-within .before .before .before .before .before in
+    let at-give-old = given (c .before) in
+    let at-copy-within = copied at-give-old in
+    let at-start = start at-copy-within in
     let a = at-start .args in
     let after = heapOf (at-give-old .give-old .last .0) (at-give-old .give-old .last .1 .0) (at-give-old .give-old .last .1 .1 .0) in
     let e = at-give-old .give-old .ensures .0
@@ -56,9 +67,9 @@ same-length-6 c = search needs
 
 returns-2 : tie.Need-returns-2
 returns-2 c =
-    let at-give-old = c .before .before .before .before .before .before .before in
-    let at-copy-within = at-give-old .before .before .before .before .before .before in
-    let at-start = at-copy-within .before .before .before .before .before in
+    let at-give-old = given (c .before) in
+    let at-copy-within = copied at-give-old in
+    let at-start = start at-copy-within in
     let a = at-start .args in
     let after = heapOf (at-give-old .give-old .last .0) (at-give-old .give-old .last .1 .0) (at-give-old .give-old .last .1 .1 .0) in
     let e = at-give-old .give-old .ensures .0

@@ -1,6 +1,7 @@
--- `steps::resize::resize_step` meets its contract: it keeps the offset, or asks and then moves the block; the two runs of bytes never meet.
+-- `steps::resize::resize_step` meets its contract: it keeps the offset, or asks and then moves the block; the two runs
+-- of bytes never meet.
 -- Assumes nothing.
-use mathlib.Core.Path.{_≡_, sym, ap, _∙_}
+use mathlib.Core.Path.{_≡_, sym, ap, _∙_, subst}
 use Prim.Native.Nat.{ℕ, min}
 use native.Mathlib.Omega.{arith}
 use Rattle.rules.specs.declared.Answer.{Answer}
@@ -11,6 +12,23 @@ use Rattle.steps.specs.Moves.{Moves, moves-apart, resize-kept, resize-mo
 use borrow.Author.Needs.{needs}
 use Rattle.steps.proofs.resize.resize_step.Statement.{statement}
 use Rattle.steps.proofs.resize.resize_step.Tie as tie
+
+-- the function's start, seen from its first call; an argument more shifts this line alone
+abbrev start : tie.After-class-at → tie.Start
+start c = c .before .before .before .before .before
+
+-- the places on the way that answers go back to, each named after what was done there
+abbrev unkept : tie.After-ask-step → tie.Else1
+unkept c = c .before .before .before .before
+
+abbrev stepped : tie.After-answer → tie.After-ask-step
+stepped c = c .before .before .before .before .before .before .before
+
+abbrev served : tie.After-least → tie.Else2
+served c = c .before .before .before .before .before
+
+abbrev block-moved : tie.After-slice-known9 → tie.After-move-block
+block-moved c = c .before .before .before .before .before .before
 
 class-at-requires : tie.Need-class-at-requires
 class-at-requires c κs = search needs
@@ -24,6 +42,12 @@ mul-if1 c = search needs
 mul-if1-2 : tie.Need-mul-if1-2
 mul-if1-2 c = search needs
 
+-- the size is that of the block
+size : (c : tie.After-size-of)
+    → let a = start (c .before) .args in
+    c .size-of .result ≡ sizeAt 8 (a .arenas) (a .books .now) (a .offset)
+size c = c .size-of .ensures .0 ∙ ap (sizeOf 8) (c .before .class-at .ensures)
+
 cast-t18 : tie.Need-cast-t18
 cast-t18 c = search needs
 
@@ -33,13 +57,10 @@ same-length c = search needs
 returns : tie.Need-returns
 returns c =
     let at-size-of = c .before in
-    let at-class-at = at-size-of .before in
-    let at-start = at-class-at .before .before .before .before .before in
+    let at-start = start (at-size-of .before) in
     let a = at-start .args in
     let h = heapOf (a .memory .now) (a .books .now) (a .map .now) in
-    let s : at-size-of .size-of .result ≡ sizeAt 8 (a .arenas) (a .books .now) (a .offset) = at-size-of .size-of .ensures .0
-    ∙ ap (sizeOf 8) (at-class-at .class-at .ensures) in
-    resize-kept 8 (a .arenas) (a .pools) h (a .offset) (a .n) (ap (λ (x : ℕ). keeps x (a .n)) (sym s) ∙ c .if1 .taken)
+    resize-kept 8 (a .arenas) (a .pools) h (a .offset) (a .n) (ap (λ (x : ℕ). keeps x (a .n)) (sym (size at-size-of)) ∙ c .if1 .taken)
 
 ask-step-requires : tie.Need-ask-step-requires
 ask-step-requires c κs = search needs
@@ -59,21 +80,18 @@ same-length-4 c = search needs
 returns-2 : tie.Need-returns-2
 returns-2 c =
     let at-answer = c .before .before in
-    let at-ask-step = at-answer .before .before .before .before .before .before .before in
-    let at-if1 = at-ask-step .before .before .before .before in
+    let at-ask-step = stepped at-answer in
+    let at-if1 = unkept at-ask-step in
     let at-size-of = at-if1 .before in
-    let at-class-at = at-size-of .before in
-    let at-start = at-class-at .before .before .before .before .before in
+    let at-start = start (at-size-of .before) in
     let a = at-start .args in
     let h = heapOf (a .memory .now) (a .books .now) (a .map .now) in
-    let s : at-size-of .size-of .result ≡ sizeAt 8 (a .arenas) (a .books .now) (a .offset) = at-size-of .size-of .ensures .0
-    ∙ ap (sizeOf 8) (at-class-at .class-at .ensures) in
     let after = heapOf (at-ask-step .ask-step .last .0) (at-ask-step .ask-step .last .1 .0) (at-ask-step .ask-step .last .1 .1 .0) in
     let asked = ap (λ (x : Answer). outcome x after) (at-answer .answer .ensures) ∙ at-ask-step .ask-step .ensures in
     let k = min (a .n) (sizeAt 8 (a .arenas) (a .books .now) (a .offset)) in
     moved-refused 8 (a .arenas) (a .pools) (a .offset) k (at-answer .answer .result) after (c .if2 .taken)
     ∙ ap (moved 8 (a .arenas) (a .pools) (a .offset) k) asked
-    ∙ resize-moved 8 (a .arenas) (a .pools) h (a .offset) (a .n) (ap (λ (x : ℕ). keeps x (a .n)) (sym s) ∙ at-if1 .if1 .left)
+    ∙ resize-moved 8 (a .arenas) (a .pools) h (a .offset) (a .n) (ap (λ (x : ℕ). keeps x (a .n)) (sym (size at-size-of)) ∙ at-if1 .if1 .left)
 
 cast-to : tie.Need-cast-to
 cast-to c = search needs
@@ -83,26 +101,32 @@ least-requires c κs = search needs
 
 move-block-requires : tie.Need-move-block-requires
 move-block-requires c κs =
-    let at-if2 = c .before .before .before .before .before in
+    let at-if2 = served c in
     let at-answer = at-if2 .before .before in
-    let at-ask-step = at-answer .before .before .before .before .before .before .before in
-    let at-size-of = at-ask-step .before .before .before .before .before in
-    let at-class-at = at-size-of .before in
-    let at-start = at-class-at .before .before .before .before .before in
+    let at-ask-step = stepped at-answer in
+    let at-size-of = unkept at-ask-step .before in
+    let at-start = start (at-size-of .before) in
     let a = at-start .args in
     let h = heapOf (a .memory .now) (a .books .now) (a .map .now) in
-    let s : at-size-of .size-of .result ≡ sizeAt 8 (a .arenas) (a .books .now) (a .offset) = at-size-of .size-of .ensures .0
-    ∙ ap (sizeOf 8) (at-class-at .class-at .ensures) in
     let after = heapOf (at-ask-step .ask-step .last .0) (at-ask-step .ask-step .last .1 .0) (at-ask-step .ask-step .last .1 .1 .0) in
     let asked = ap (λ (x : Answer). outcome x after) (at-answer .answer .ensures) ∙ at-ask-step .ask-step .ensures in
     let k = min (a .n) (sizeAt 8 (a .arenas) (a .books .now) (a .offset)) in
     let done = ap (λ (x : Outcome). x .answer .number) asked in
     let place = ap (λ (x : Outcome). x .answer .offset) asked in
     let v = moves-apart 8 (a .arenas) (a .pools) h (a .offset) (a .n) (omega arith) (at-start .pre .1) (sym done ∙ at-if2 .if2 .left) in
-    let few : c .least .result ≡ k = c .least .ensures ∙ ap (min (a .n)) s in
-    let w : Moves (a .arenas) (a .pools) (a .offset) (at-answer .answer .result .offset) (c .least .result) = rw (place, few) v in (
-      record
-          { arenas-low = omega arith; arenas-high = omega arith; pools-low = omega arith; pools-high = omega arith; all = omega arith; memory = omega arith; books = omega arith; map = omega arith },
+    let few : c .least .result ≡ k = c .least .ensures ∙ ap (min (a .n)) (size at-size-of) in
+    let w = subst (λ (x : ℕ). Moves (a .arenas) (a .pools) (a .offset) x (c .least .result)) (sym place)
+    (subst (Moves (a .arenas) (a .pools) (a .offset) _) (sym few) v) in (
+      record {
+        arenas-low = omega arith;
+        arenas-high = omega arith;
+        pools-low = omega arith;
+        pools-high = omega arith;
+        all = omega arith;
+        memory = omega arith;
+        books = omega arith;
+        map = omega arith;
+      },
       omega (arith, w .old-inside),
       omega (arith, w .new-inside),
       w .apart,
@@ -120,29 +144,26 @@ same-length-7 c = search needs
 
 returns-3 : tie.Need-returns-3
 returns-3 c =
-    let at-move-block = c .before .before .before .before .before .before in
+    let at-move-block = block-moved c in
     let at-least = at-move-block .before in
-    let at-if2 = at-least .before .before .before .before .before in
+    let at-if2 = served at-least in
     let at-answer = at-if2 .before .before in
-    let at-ask-step = at-answer .before .before .before .before .before .before .before in
-    let at-if1 = at-ask-step .before .before .before .before in
+    let at-ask-step = stepped at-answer in
+    let at-if1 = unkept at-ask-step in
     let at-size-of = at-if1 .before in
-    let at-class-at = at-size-of .before in
-    let at-start = at-class-at .before .before .before .before .before in
+    let at-start = start (at-size-of .before) in
     let a = at-start .args in
     let h = heapOf (a .memory .now) (a .books .now) (a .map .now) in
-    let s : at-size-of .size-of .result ≡ sizeAt 8 (a .arenas) (a .books .now) (a .offset) = at-size-of .size-of .ensures .0
-    ∙ ap (sizeOf 8) (at-class-at .class-at .ensures) in
     let after = heapOf (at-ask-step .ask-step .last .0) (at-ask-step .ask-step .last .1 .0) (at-ask-step .ask-step .last .1 .1 .0) in
     let asked = ap (λ (x : Answer). outcome x after) (at-answer .answer .ensures) ∙ at-ask-step .ask-step .ensures in
     let k = min (a .n) (sizeAt 8 (a .arenas) (a .books .now) (a .offset)) in
     at-move-block .move-block .ensures
     ∙ ap (λ (n : ℕ). halfDone 8 (a .arenas) (a .pools) (at-answer .answer .result .offset)
     (giveOld 8 (a .arenas) (a .pools) (copy (a .offset) (at-answer .answer .result .offset) n after) (a .offset)))
-    (at-least .least .ensures ∙ ap (min (a .n)) s)
+    (at-least .least .ensures ∙ ap (min (a .n)) (size at-size-of))
     ∙ moved-done 8 (a .arenas) (a .pools) (a .offset) k (at-answer .answer .result) after (at-if2 .if2 .left)
     ∙ ap (moved 8 (a .arenas) (a .pools) (a .offset) k) asked
-    ∙ resize-moved 8 (a .arenas) (a .pools) h (a .offset) (a .n) (ap (λ (x : ℕ). keeps x (a .n)) (sym s) ∙ at-if1 .if1 .left)
+    ∙ resize-moved 8 (a .arenas) (a .pools) h (a .offset) (a .n) (ap (λ (x : ℕ). keeps x (a .n)) (sym (size at-size-of)) ∙ at-if1 .if1 .left)
 
 pub resize-step-spec : {M : Type 1} → statement M
 resize-step-spec =
