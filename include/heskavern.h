@@ -24,9 +24,9 @@ still answers by its rules, but it may meet damage and give 6, or hand out what 
 What is good to know:
 - An offset names a block and not its holder. While the block is not out, every call refuses it with 5. Once it is out
   again, a stale offset is the new holder's: a view shows its text, a write or a give-back changes it.
-- Buffers of two heaps in one call are refused with 1 or 2 where their lengths differ. Where A and P are the same, no
-  call can tell: it answers by the three buffers as they are lent and touches no others, but it may write into a block
-  that is held, and leave both heaps damaged.
+- Buffers of two heaps in one call are refused with 2 where a length does not fit the A and P that stand in the books.
+  Where all fit, as for equal A and P, no call can tell: it answers by the three buffers as they are lent and touches no
+  others, but it may write into a block that is held, and leave both heaps damaged.
 - Any thread may make the next call, a give-back too, if you order the calls on a heap, by a lock or by handing it over:
   nothing is kept outside the three buffers. Two heaps need no order between them.
 - A block is aligned to 8 where memory is; to 16 where memory is and the block size is a multiple of 16, as for every

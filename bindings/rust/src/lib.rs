@@ -30,9 +30,9 @@
 //!   [`NotLive`](Refusal::NotLive). Once it is out again, a stale offset is the new holder's: a view shows its text, a
 //!   write or a give-back changes it.
 //! - A [`Heap`] holds its three buffers, so those of two heaps cannot be mixed up in a call; [`Heap::open`] and
-//!   [`calls`] can be lent a mixture. It is refused where lengths differ. Where A and P are the same, no call can tell:
-//!   it answers by the three buffers as they are lent and touches no others, but it may write into a block that is
-//!   held, and leave both heaps damaged.
+//!   [`calls`] can be lent a mixture. It is refused where a length does not fit the A and P that stand in the books.
+//!   Where all fit, as for equal A and P, no call can tell: it answers by the three buffers as they are lent and touches
+//!   no others, but it may write into a block that is held, and leave both heaps damaged.
 //! - A [`Heap`] may go to another thread, between calls, and blocks be given back there: nothing is kept outside the
 //!   buffers. Several threads share one under a lock of theirs.
 //! - A block is aligned to 8 where memory is; to 16 where memory is and the block size is a multiple of 16, as for
