@@ -22,23 +22,27 @@ format on, and no block is handed out twice and no call gives 6. After any other
 still answers by its rules, but it may meet damage and give 6, or hand out what is in use.
 
 What is good to know:
-- An offset names a block and not its holder. While the block is not out, every call refuses it with 5. Once it is out
-  again, a stale offset is the new holder's: a view shows its text, a write or a give-back changes it.
-- Buffers of two heaps in one call are refused with 2 where a length does not fit the A and P that stand in the books.
-  Where all fit, as for equal A and P, no call can tell: it answers by the three buffers as they are lent and touches no
-  others, but it may write into a block that is held, and leave both heaps damaged.
+- An offset names a block and not its holder. While the block is not out, every call on it is refused, with 5 (a resize
+  to a size out of range with 3, which comes first). Once it is out again, a stale offset is the new holder's: a view
+  shows its text, a write or a give-back changes it.
+- Buffers of two heaps in one call, each with its own length, are refused with 2 where A x P differs. (HESKAVERN_LENT
+  makes the lengths from A and P: with a smaller heap's buffers it breaks the first rule above.) Where A x P is the same
+  no call can tell: it answers by the three buffers as they are lent and touches no others, but it may write into a
+  block that is held, and leave both heaps damaged.
 - Any thread may make the next call, a give-back too, if you order the calls on a heap, by a lock or by handing it over:
   nothing is kept outside the three buffers. Two heaps need no order between them.
-- A block is aligned to 8 where memory is; to 16 where memory is and the block size is a multiple of 16, as for every
-  size asked for that is one; to no more. An array of uint8_t is aligned to 1 unless you say more.
+- A block is aligned to 8 where memory is; to 16 where memory is and the block size is a multiple of 16, which it is for
+  sizes 9 to 16, 25 to 32, 41 to 48 and so on; to no more. An array of uint8_t is aligned to 1 unless you say more.
 - A heap may be saved and loaded, at another address too: all three buffers together, as they are between two calls.
   They hold offsets and no pointers; books and map are words of a little-endian machine.
 - How large: a text of n bytes takes a block of n rounded up to a multiple of 8, and a pool has 4,048 / size of them,
   rounded down. For each block size divide the most texts that are live at one time by that, and round up: the sum is
-  the pools that are always enough. 300 texts of 1 to 24 bytes and 20 of 500 want 1 + 2 + 2 + 3 pools: A = 1, P = 8.
-- After a 6 something else has written to books, map or a freed block. Ask for nothing more: copy the texts out by roll
-  call and view, which never give 6, and format anew. The call that gave 6 wrote nothing, unless it is a resize with a
-  value.
+  the pools that are always enough. (A resize that moves holds both blocks for a moment: count one text more of the new
+  size.) 300 texts of 1 to 24 bytes and 20 of 500 want 1 + 2 + 2 + 3 pools: A = 1, P = 8.
+- After a 6 something other than this heap's own calls has written to books, map or a block that is not out. Ask for
+  nothing more: copy the texts out by roll call and view, and format anew. Those never give 6; they go by the map and
+  the pools' classes, and show what stands there, whoever wrote it. The call that gave 6 wrote nothing, unless it is a
+  resize with a value.
 
 Example:
     #include "heskavern.h"

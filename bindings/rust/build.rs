@@ -39,8 +39,8 @@ fn archive_folder() -> Result<PathBuf, String> {
     build_archive(&Path::new(&package).join("../.."))
 }
 
-/// The folder of the repository's archive, once its script has seen to it that the archive is no older than the
-/// crates. Proving them takes some minutes.
+/// The folder of the repository's archive, once its script has seen to it that it is built from the crates as they
+/// stand. Proving them takes some minutes, and cargo shows nothing of what the script says unless it fails.
 fn build_archive(root: &Path) -> Result<PathBuf, String> {
     for source in ["build", "crates", "crates.txt", "KIT"] {
         println!("cargo:rerun-if-changed={}", root.join(source).display());

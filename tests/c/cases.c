@@ -379,6 +379,17 @@ static void sized_and_aligned(void)
     EXPECT(is(ASK(32), HESKAVERN_NO_ROOM, 0));
 }
 
+/* A resize that moves holds both blocks for a moment, so it wants one block more than there are texts. */
+static void resize_wants_one_more(void)
+{
+    fresh(1, 2);
+    EXPECT(serves_of_8(506));
+    EXPECT(done(ASK(500), 4144));
+    EXPECT(is(RESIZE(48, 6), HESKAVERN_NO_ROOM, 0));
+    EXPECT(done(GIVE_BACK(56), 56));
+    EXPECT(done(RESIZE(48, 6), 56));
+}
+
 /* A heap that is copied, all three buffers together, is the same heap elsewhere; and a stale offset is the block's, not
    its holder's. */
 static void copied_and_stale(void)
@@ -427,6 +438,7 @@ int main(void)
     wrong_lengths();
     damaged();
     sized_and_aligned();
+    resize_wants_one_more();
     copied_and_stale();
     mixed_up();
     printf("%lu facts\n", facts);

@@ -3,7 +3,7 @@
 //! A heap has A arenas (1 to 16) of P pools (2 to 64); a pool is 4,096 bytes. Three buffers are lent to it: memory,
 //! which holds the blocks, books and map, each of an exact length ([`memory_bytes`], [`books_words`], [`map_words`]).
 //! A block is known by its offset in memory. A call that cannot be done is refused with a number, which a [`Refusal`]
-//! names, and changes nothing.
+//! names, and changes nothing, but for [`HalfDone`](Refusal::HalfDone).
 //!
 //! ```
 //! use heskavern::{books_words, map_words, memory_bytes, Heap, Refusal};
@@ -26,26 +26,28 @@
 //!
 //! # What is good to know
 //!
-//! - An offset names a block and not its holder. While the block is not out, every call refuses it with
-//!   [`NotLive`](Refusal::NotLive). Once it is out again, a stale offset is the new holder's: a view shows its text, a
-//!   write or a give-back changes it.
+//! - An offset names a block and not its holder. While the block is not out, every call on it is refused with
+//!   [`NotLive`](Refusal::NotLive) (a resize to a size out of range with [`BadSize`](Refusal::BadSize), which comes
+//!   first). Once it is out again, a stale offset is the new holder's: a view shows its text, a write or a give-back
+//!   changes it.
 //! - A [`Heap`] holds its three buffers, so those of two heaps cannot be mixed up in a call; [`Heap::open`] and
-//!   [`calls`] can be lent a mixture. It is refused where a length does not fit the A and P that stand in the books.
-//!   Where all fit, as for equal A and P, no call can tell: it answers by the three buffers as they are lent and touches
-//!   no others, but it may write into a block that is held, and leave both heaps damaged.
+//!   [`calls`] can be lent a mixture. It is refused where A × P differs. Where it is the same no call can tell: it
+//!   answers by the three buffers as they are lent and touches no others, but it may write into a block that is held,
+//!   and leave both heaps damaged.
 //! - A [`Heap`] may go to another thread, between calls, and blocks be given back there: nothing is kept outside the
 //!   buffers. Several threads share one under a lock of theirs.
-//! - A block is aligned to 8 where memory is; to 16 where memory is and the block size is a multiple of 16, as for
-//!   every size asked for that is one; to no more. A `[u8]` is aligned to 1 unless you say more.
+//! - A block is aligned to 8 where memory is; to 16 where memory is and the block size is a multiple of 16, which it is
+//!   for sizes 9 to 16, 25 to 32, 41 to 48 and so on; to no more. A `[u8]` is aligned to 1 unless you say more.
 //! - A heap may be saved and loaded, at another address too: all three buffers together, as they are between two calls,
 //!   and then [`Heap::open`]. They hold offsets and no pointers; books and map are words of a little-endian machine.
 //! - How large: a text of n bytes takes a block of n rounded up to a multiple of 8, and a pool has 4,048 / size of
 //!   them, rounded down. For each block size divide the most texts that are live at one time by that, and round up: the
-//!   sum is the pools that are always enough. 300 texts of 1 to 24 bytes and 20 of 500 want 1 + 2 + 2 + 3 pools: A = 1
-//!   and P = 8.
-//! - After a [`Damaged`](Refusal::Damaged) something else has written to books, map or a freed block. Ask for nothing
-//!   more: copy the texts out by [`roll_call`](Heap::roll_call) and [`view`](Heap::view), which never give it, and
-//!   format anew.
+//!   sum is the pools that are always enough. (A resize that moves holds both blocks for a moment: count one text more
+//!   of the new size.) 300 texts of 1 to 24 bytes and 20 of 500 want 1 + 2 + 2 + 3 pools: A = 1 and P = 8.
+//! - After a [`Damaged`](Refusal::Damaged) something other than this heap's own calls has written to books, map or a
+//!   block that is not out. Ask for nothing more: copy the texts out by [`roll_call`](Heap::roll_call) and
+//!   [`view`](Heap::view), and format anew. Those never give it; they go by the map and the pools' classes, and show
+//!   what stands there, whoever wrote it.
 //!
 //! Without the feature `std`, which is on by default, the crate needs `core` alone; then [`Refusal`] is no
 //! `std::error::Error`.
