@@ -14,8 +14,8 @@ use books::numbers::live_number;
 use books::numbers::shape_number;
 use books::words::word;
 use loops::copy_in;
-use loops::count_words;
 use loops::fresh_books;
+use loops::has_room;
 use loops::put_roll;
 use loops::wipe;
 use rules::Answer;
@@ -239,14 +239,13 @@ pub fn roll_call(memory: &[u8], books: &[u32], map: &[u64], roll: &mut [u32]) ->
     }
     let arenas = word(books, 0);
     let all = arenas * word(books, 1);
-    let words = count_words(books, map, arenas, all);
-    if roll.len() < words {
+    if !has_room(books, map, arenas, all, roll.len()) {
         return Rolled {
             number: DOES_NOT_FIT,
             count: 0,
         };
     }
-    put_roll(books, map, arenas, all, roll);
+    let words = put_roll(books, map, arenas, all, roll);
     Rolled {
         number: 0,
         count: (words / 2) as u32,

@@ -4,7 +4,7 @@ use mathlib.Core.Path.{_≡_, refl, sym, ap, _∙_}
 use mathlib.Core.Bool.{Bool, true, false}
 use mathlib.Core.List.{List, [], _∷_, _++_}
 use Prim.Native.Nat.{ℕ, zero, suc, _+_, _*_, _-_, _/_, _≤_, _<_}
-use native.Mathlib.Nat.{div-mul-le-self, mul-le-mul, mul-le-mul-right, suc-mul}
+use native.Mathlib.Nat.{mul-le-mul}
 use native.Mathlib.Omega.{arith}
 use lib.Dec.{leb}
 use lib.ListN.{length, length-append}
@@ -14,6 +14,7 @@ use Rattle.rules.specs.Books.{isSet, class, poolWord, pool, offsetOf}
 use Rattle.rules.specs.Blocks.{sizeOf, lastClass, startOf, capacity, classAt}
 use Rattle.rules.specs.View.{rollBlocks, rollPool, rollPools}
 use Rattle.loops.specs.Left.{Parts, counted}
+use Rattle.loops.specs.Word.{noneSet, none-rolled}
 use Rattle.books.specs.Starts.{capacity-le}
 
 -- pool p has its record in the books of A arenas, and its words in the map
@@ -34,16 +35,25 @@ length-blocks m p s k (suc n) = go (isSet m p k) (length-blocks m p s (suc k) n)
     go true h = omega arith
     go false h = omega arith
 
--- a block lies in its pool
-pub block-inside : (s k : ℕ) → k < capacity s → k * s ≤ 4048
-block-inside s k l = omega (arith, mul-le-mul-right s l, suc-mul k s, div-mul-le-self 4048 s)
-
 -- ---- the pools
 -- the roll, pool by pool
 pub roll-parts : (al A : ℕ) (b m : List ℕ) (n : ℕ)
     → Parts (rollPools al A b m 0 n) n (λ p. rollPools al A b m p (n - p)) (λ p. rollPool al A b m p)
 unfolding rollPools
 roll-parts al A b m = counted (rollPools al A b m) (λ p n. rollPool al A b m p) (λ p. refl) (λ p n. refl)
+
+-- a pool with no bit set has none, whatever its class
+pub no-bits : (al A : ℕ) (b m : List ℕ) (p : ℕ) → 8 ≤ al → noneSet m p ≡ true → rollPool al A b m p ≡ []
+unfolding rollPool
+no-bits al A b m p h e =
+    let c = pool A b class p in
+    let s = sizeOf al c in
+    let one : 1 ≤ c + 1 = omega arith in
+    go (leb c (lastClass al)) (none-rolled m p e s 0 (capacity s) (omega (arith, capacity-le s (mul-le-mul h one))))
+  where
+    go : (t : Bool) {l : List ℕ} → l ≡ [] → (if t then l else []) ≡ []
+    go true f = f
+    go false f = refl
 
 -- pool p, whose class c is read at its first byte
 module _ (al A : ℕ) (b m : List ℕ) (p c : ℕ) (e : c ≡ classAt A b (4096 * p)) where

@@ -1,21 +1,38 @@
 -- The roll of a map word, its blocks from the lowest bit up, and a pool's roll as that of its words.
 -- Assumes nothing.
 use mathlib.Core.Path.{_≡_, refl, sym, ap, ap₂, _∙_}
+use mathlib.Core.Bool.{Bool, true, false, _&&_}
 use mathlib.Core.List.{List, [], _∷_, _++_, append-assoc}
 use mathlib.Core.Logic.{_⊎_, inl, inr}
 use Prim.Native.Nat.{ℕ, zero, suc, _+_, _*_, _-_, _/_, _%_, _^_, _≤_, _<_, min}
-use native.Mathlib.Nat.{not-suc-le-zero, le-of-suc-le-suc, zero-add, add-zero, suc-add, add-suc, suc-mul}
+use native.Mathlib.Nat.{
+  not-suc-le-zero,
+  le-of-suc-le-suc,
+  zero-add,
+  add-zero,
+  suc-add,
+  add-suc,
+  suc-mul,
+  zero-div,
+  pow-suc,
+  le-div-iff-mul-le,
+  div-lt-iff-lt-mul,
+  add-mul-div-right,
+}
+use native.Mathlib.Decide.{ℕ-discrete}
 use native.Mathlib.Numerals.{add-one}
 use native.Mathlib.Omega.{arith}
 use lib.Count.{onesIn, trailingZeros}
 use lib.Dec.{eqb}
 use lib.ListN.{length}
 use lib.Pow.{shr-shr}
+use borrow.Author.Tests.{eqb-true}
 use Rattle.rules.specs.Say.{if_then_else_}
-use Rattle.rules.specs.Books.{at, bit, offsetOf}
-use Rattle.rules.specs.Blocks.{startOf}
+use Rattle.rules.specs.Books.{at, bit, isSet, offsetOf}
+use Rattle.rules.specs.Blocks.{startOf, lastStart, capacity}
 use Rattle.rules.specs.View.{rollBlocks}
 use Rattle.bits.specs.Halves.{parity, first-odd, first-even, withoutFirst, without-odd, without-even}
+use Rattle.books.specs.Tests.{both}
 use Rattle.loops.specs.Left.{Parts}
 
 -- offset and size of each live block among the first n of a word, whose first block is at offset o; the blocks have
@@ -42,6 +59,15 @@ module _ (w o s n : ℕ) where
       rw (low, half)
 
 -- ---- from set bit to set bit: the first of a word of k bits
+-- it is one of them, where any is set
+pub first-there : (k w : ℕ) → 0 < w → w < 2 ^ k → trailingZeros k w < k
+first-there zero w h l = absurd (omega arith)
+first-there (suc k) w h l = go (parity w) (first-there k (w / 2))
+  where
+    go : (w % 2 ≡ 1) ⊎ (w % 2 ≡ 0) → (0 < w / 2 → w / 2 < 2 ^ k → trailingZeros k (w / 2) < k) → trailingZeros (suc k) w < suc k
+    go (inl e) rest = omega (arith, first-odd k w e)
+    go (inr e) rest = omega (arith, first-even k w e, rest (omega arith) (omega (arith, pow-suc 2 k)))
+
 -- where it is not among the n blocks, none of them is live
 pub none-live : (k n w o s : ℕ) → n ≤ trailingZeros k w → rollWord w o s n ≡ []
 unfolding rollWord trailingZeros
@@ -75,6 +101,17 @@ first-live (suc k) (suc n) w o s l h = go (parity w) (first-live k n (w / 2) (o 
         ∙ rest (omega (arith, first-even k w e))
         ∙ ap₂ (λ (x : ℕ) (r : List ℕ). x ∷ s ∷ r) place (sym (twice (withoutFirst (w / 2)) o s n (without-even w e)))
 
+-- ---- where a word's blocks end: how many of its 64, of size s and the first at offset o, start at `last` or before it
+abbrev pub upTo : ℕ → ℕ → ℕ → ℕ
+upTo o s last = min 64 ((last - o) / s + 1)
+
+module _ (o s last k : ℕ) (low : 1 ≤ s) where
+  pub not-past : k < 64 → o + k * s ≤ last → k < upTo o s last
+  not-past h l = omega (arith, le-div-iff-mul-le {k = s} {x = k} {y = last - o} low .1 (omega arith))
+
+  pub past : o ≤ last → last < o + k * s → upTo o s last ≤ k
+  past h l = omega (arith, div-lt-iff-lt-mul {k = s} {x = last - o} {y = k} low .1 (omega arith))
+
 -- two roll words for each set bit
 pub length-word : (w o s n : ℕ) → length (rollWord w o s n) ≡ 2 * onesIn n w
 unfolding rollWord onesIn
@@ -90,6 +127,56 @@ length-word w o s (suc n) = go (parity w) (length-word (w / 2) (o + s) s n)
 -- how many of n blocks word i has
 abbrev pub inWord : ℕ → ℕ → ℕ
 inWord n i = min 64 (n - 64 * i)
+
+-- the blocks of word i of pool p, and where the pool's last block starts at the latest
+module _ (p s i : ℕ) (low : 1 ≤ s) (high : s ≤ 4048) where
+  pub some-there : offsetOf p (startOf s (64 * i)) ≤ offsetOf p (lastStart s) → 64 * i < capacity s
+  some-there h = le-div-iff-mul-le {k = s} {x = suc (64 * i)} {y = 4048} low .1 (omega (arith, suc-mul (64 * i) s))
+
+  pub none-there : offsetOf p (lastStart s) < offsetOf p (startOf s (64 * i)) → capacity s ≤ 64 * i
+  none-there h = omega (arith, div-lt-iff-lt-mul {k = s} {x = 4048} {y = 64 * i + 1} low .1 (omega (arith, suc-mul (64 * i) s)))
+
+  pub up-to-last : 64 * i < capacity s
+      → upTo (offsetOf p (startOf s (64 * i))) s (offsetOf p (lastStart s)) ≡ inWord (capacity s) i
+  up-to-last h =
+      let n = 64 * i + 1 in
+      let inside : n * s ≤ 4048 = le-div-iff-mul-le {k = s} {x = n} {y = 4048} low .0 (omega arith) in
+      let span : 4048 ≡ (4048 - n * s) + n * s = omega arith in
+      let blocks : capacity s ≡ (4048 - n * s) / s + n =
+      ap (λ (k : ℕ). k / s) span ∙ add-mul-div-right (4048 - n * s) n low in
+      let rest : offsetOf p (lastStart s) - offsetOf p (startOf s (64 * i)) ≡ 4048 - n * s = omega (arith, suc-mul (64 * i) s) in
+      rw rest (omega arith)
+
+-- ---- the first n of some words are 0
+unfoldable pub zeros : (ℕ → ℕ) → ℕ → Bool
+zeros w zero = true
+zeros w (suc n) = zeros w n && eqb (w n) 0
+
+each-zero : (w : ℕ → ℕ) (n : ℕ) → zeros w n ≡ true → (i : ℕ) → i < n → w i ≡ 0
+unfolding zeros
+each-zero w zero e i h = absurd (not-suc-le-zero h)
+each-zero w (suc n) e i h =
+    let t = both (zeros w n) (eqb (w n) 0) e in
+    go (eqb-true (w n) 0 (t .1)) (each-zero w n (t .0) i) (ℕ-discrete i n)
+  where
+    go : w n ≡ 0 → (i < n → w i ≡ 0) → Dec (i ≡ n) → w i ≡ 0
+    go last rest (yes q) = ap w q ∙ last
+    go last rest (no q) = rest (omega arith)
+
+-- no bit of pool p is set
+abbrev pub noneSet : List ℕ → ℕ → Bool
+noneSet m p = zeros (λ i. at m (8 * p + i)) 8
+
+-- so none of its blocks is live
+module _ (m : List ℕ) (p : ℕ) (e : noneSet m p ≡ true) where
+  not-set : (k : ℕ) → k < 512 → isSet m p k ≡ false
+  unfolding bit
+  not-set k h = rw (each-zero (λ i. at m (8 * p + i)) 8 e (k / 64) (omega arith), zero-div (2 ^ (k % 64)))
+
+  pub none-rolled : (s k n : ℕ) → k + n ≤ 512 → rollBlocks m p s k n ≡ []
+  unfolding rollBlocks
+  none-rolled s k zero h = refl
+  none-rolled s k (suc n) h = rw (not-set k (omega arith)) (none-rolled s (suc k) n (omega arith))
 
 module _ (m : List ℕ) (p s : ℕ) where
   -- the n blocks of word i from its bit j on
@@ -121,6 +208,11 @@ module _ (m : List ℕ) (p s : ℕ) where
   split k zero b = rw (zero-add, add-zero)
   split k (suc a) b = rw (suc-add a b, add-suc k a, ← suc-add k a, split (suc k) a b, append-assoc)
 
+  -- past the last of n blocks there is none
+  pub none-after : (n i : ℕ) → n ≤ 64 * i → rollBlocks m p s (64 * i) (n - 64 * i) ≡ []
+  unfolding rollBlocks
+  none-after n i h = let e : n - 64 * i ≡ 0 = omega arith in ap (rollBlocks m p s (64 * i)) e
+
   -- the pool's n blocks, in as many words as they take
   pub word-parts : (n : ℕ)
       → Parts (rollBlocks m p s 0 n) ((n + 63) / 64) (λ i. rollBlocks m p s (64 * i) (n - 64 * i))
@@ -133,7 +225,7 @@ module _ (m : List ℕ) (p s : ℕ) where
         ap (rollBlocks m p s (64 * i)) e
         ∙ split (64 * i) (inWord n i) (n - 64 * (i + 1))
         ∙ ap₂ (λ (x y : List ℕ). x ++ y) (from-first i (inWord n i) (omega arith)) (next i (n - 64 * (i + 1)) refl);
-    last = (let e : n - 64 * ((n + 63) / 64) ≡ 0 = omega arith in ap (rollBlocks m p s (64 * ((n + 63) / 64))) e);
+    last = none-after n ((n + 63) / 64) (omega arith);
   }
     where
       -- where r blocks come after those of word i, it has 64, so they begin with the next word

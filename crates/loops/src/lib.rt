@@ -7,6 +7,7 @@ use books::words::RECORDS;
 use books::words::UNUSED_HEAD;
 ghost use mathlib.Core.Path.{_≡_};
 ghost use Prim.Native.Nat.{_+_, _*_, _≤_, _<_};
+ghost use lib.Dec.{leb};
 ghost use lib.ListN.{length, take, drop, replicate};
 ghost use lib.Seq.{sets};
 ghost use Rattle.rules.specs.Books.{booksLength};
@@ -15,7 +16,7 @@ ghost use Rattle.rules.specs.Blocks.{capacity};
 ghost use Rattle.rules.specs.View.{rollBlocks, rollPool, rollPools};
 ghost use Rattle.loops.specs.Left.{Stored};
 ghost use Rattle.loops.specs.Fresh.{nextOf};
-ghost use Rattle.loops.specs.Word.{inWord, rollWord};
+ghost use Rattle.loops.specs.Word.{noneSet, inWord, upTo, rollWord};
 ghost use Rattle.loops.specs.Roll.{Stands};
 ghost use Rattle.loops.specs.Copy.{Apart};
 
@@ -111,6 +112,25 @@ pub fn copy_within(memory: &mut [u8], from: usize, to: usize, n: usize)
 
 // ---- roll call
 
+// Two roll words for each of the most blocks that a pool can hold, 506 of 8 bytes.
+pub const MOST_WORDS: usize = 1012;
+
+// No bit of the pool is set, at a block or at none: so it has no live block, whatever its class.
+fn none_set(map: &[u64], pool: usize) -> bool
+    requires { ⌜ 8 * pool + 8 ≤ length (now map) ⌝ }
+    ensures { λ r. ⌜ r ≡ noneSet (now (map .entry)) pool ⌝ }
+{
+    let word = 8 * pool;
+    (map[word] == 0)
+        & (map[word + 1] == 0)
+        & (map[word + 2] == 0)
+        & (map[word + 3] == 0)
+        & (map[word + 4] == 0)
+        & (map[word + 5] == 0)
+        & (map[word + 6] == 0)
+        & (map[word + 7] == 0)
+}
+
 // How many of a pool's blocks have their bits in word i of its map.
 fn in_word(blocks: usize, i: usize) -> usize
     requires { ⌜ 64 * i < blocks ⌝ }
@@ -141,6 +161,9 @@ fn count_pool(books: &[u32], map: &[u64], arenas: usize, pool: usize) -> usize
     requires { ⌜ Stands arenas pool (now books) (now map) ⌝ }
     ensures { λ r. ⌜ r ≡ length (rollPool 8 arenas (now (books .entry)) (now (map .entry)) pool) ⌝ }
 {
+    if none_set(map, pool) {
+        return 0;
+    }
     let class = class_at(books, arenas, 4096 * pool);
     if LAST_CLASS < class {
         return 0;
@@ -160,21 +183,41 @@ pub fn count_words(books: &[u32], map: &[u64], arenas: usize, n: usize) -> usize
     words
 }
 
-// Offset and size of each live block among the first n of a map word, whose first block is at `first`, from roll word
-// `at` on: the place after them. It goes from set bit to set bit, lowest first; bits past the n blocks are in no roll.
-fn roll_word(word: u64, first: usize, size: usize, n: usize, roll: &mut [u32], at: usize) -> usize
-    requires { ⌜ (first < 4096 * 1024) × (size ≤ 512) × (n ≤ 64)
-        × (at + length (rollWord word first size n) ≤ length (now roll)) ⌝ }
-    ensures { λ r. ⌜ Stored (now (roll .entry)) at (rollWord word first size n) (now (roll .exit)) r ⌝ }
+// The roll of the n pools fits into so many words. No block is counted where there is room for every block that the
+// pools could hold.
+pub fn has_room(books: &[u32], map: &[u64], arenas: usize, n: usize, room: usize) -> bool
+    requires { ⌜ (n ≤ 1024) × (length (now books) ≡ 72 + 8 * arenas + 8 * n) × (length (now map) ≡ 8 * n) ⌝ }
+    ensures { λ r. ⌜ r ≡ leb (length (rollPools 8 arenas (now (books .entry)) (now (map .entry)) 0 n)) room ⌝ }
+{
+    if MOST_WORDS * n <= room {
+        return true;
+    }
+    count_words(books, map, arenas, n) <= room
+}
+
+// Offset and size of each live block of a map word, whose first block is at `first`, from roll word `at` on: the place
+// after them. It goes from set bit to set bit, lowest first; a bit past the block at `last` is in no roll.
+fn roll_word(
+    word: u64,
+    first: usize,
+    size: usize,
+    last: usize,
+    roll: &mut [u32],
+    at: usize,
+) -> usize
+    requires { ⌜ (first ≤ last) × (last < 4096 * 1024) × (8 ≤ size) × (size ≤ 512)
+        × (at + length (rollWord word first size (upTo first size last)) ≤ length (now roll)) ⌝ }
+    ensures { λ r. ⌜ Stored (now (roll .entry)) at (rollWord word first size (upTo first size last))
+        (now (roll .exit)) r ⌝ }
 {
     let mut left = word;
     let mut place = at;
     while left != 0 {
-        let k = u64::trailing_zeros(left) as usize;
-        if k >= n {
+        let offset = first + u64::trailing_zeros(left) as usize * size;
+        if last < offset {
             return place;
         }
-        roll[place] = (first + k * size) as u32;
+        roll[place] = offset as u32;
         roll[place + 1] = size as u32;
         place += 2;
         left &= left - 1;
@@ -190,12 +233,15 @@ fn roll_blocks(map: &[u64], pool: usize, size: usize, roll: &mut [u32], at: usiz
     ensures { λ r. ⌜ Stored (now (roll .entry)) at (rollBlocks (now (map .entry)) pool size 0 (capacity size))
         (now (roll .exit)) r ⌝ }
 {
-    let blocks = 4048 / size;
+    let last = 4096 * pool + (4096 - size);
     let mut place = at;
-    for i in 0..(blocks + 63) / 64 {
+    for i in 0..8 {
         let word = map[8 * pool + i];
         let first = 4096 * pool + (48 + 64 * i * size);
-        place = roll_word(word, first, size, in_word(blocks, i), roll, place);
+        if last < first {
+            return place;
+        }
+        place = roll_word(word, first, size, last, roll, place);
     }
     place
 }
@@ -214,6 +260,9 @@ fn roll_pool(
     ensures { λ r. ⌜ Stored (now (roll .entry)) at (rollPool 8 arenas (now (books .entry)) (now (map .entry)) pool)
         (now (roll .exit)) r ⌝ }
 {
+    if none_set(map, pool) {
+        return at;
+    }
     let class = class_at(books, arenas, 4096 * pool);
     if LAST_CLASS < class {
         return at;
@@ -221,15 +270,16 @@ fn roll_pool(
     roll_blocks(map, pool, size_of(class), roll, at)
 }
 
-// Offset and size of each live block of the n pools, at the front of the roll.
-pub fn put_roll(books: &[u32], map: &[u64], arenas: usize, n: usize, roll: &mut [u32])
+// Offset and size of each live block of the n pools, at the front of the roll: how many words they take.
+pub fn put_roll(books: &[u32], map: &[u64], arenas: usize, n: usize, roll: &mut [u32]) -> usize
     requires { ⌜ (n ≤ 1024) × (length (now books) ≡ 72 + 8 * arenas + 8 * n) × (length (now map) ≡ 8 * n)
         × (length (rollPools 8 arenas (now books) (now map) 0 n) ≤ length (now roll)) ⌝ }
-    ensures { λ _. ⌜ now (roll .exit)
-        ≡ sets (now (roll .entry)) 0 (rollPools 8 arenas (now (books .entry)) (now (map .entry)) 0 n) ⌝ }
+    ensures { λ r. ⌜ Stored (now (roll .entry)) 0 (rollPools 8 arenas (now (books .entry)) (now (map .entry)) 0 n)
+        (now (roll .exit)) r ⌝ }
 {
     let mut place: usize = 0;
     for pool in 0..n {
         place = roll_pool(books, map, arenas, pool, roll, place);
     }
+    place
 }

@@ -6,7 +6,7 @@ use mathlib.Core.Path.{_≡_}
 use mathlib.Core.List.{List, [], _∷_, _++_}
 use Prim.Native.Nat.{ℕ}
 use lib.Dec.{T}
-use lib.ListN.{length, take, drop}
+use lib.ListN.{length, take, drop, replicate}
 use Rattle.rules.specs.Books.{
   at,
   memoryLength,
@@ -743,6 +743,20 @@ rolling =
 abbrev rollingLast : List Line
 rollingLast = word= (inPool 8 class) 0 ∷ bit= 8 505 1 ∷ bit= 8 506 1 ∷ rolls (0 ∷ 0 ∷ []) 0 1 (36856 ∷ 8 ∷ []) ∷ []
 
+-- W-202: a bit at no block of its class is in no roll, and takes no room
+abbrev rollingStray : List Line
+rollingStray = asks 512 0 48 ∷ bit= 0 9 1 ∷ rolls (0 ∷ 0 ∷ []) 0 1 (48 ∷ 512 ∷ []) ∷ []
+
+-- every word of the map is all ones: the seven blocks of the one pool that has a class, and none where it has none
+abbrev rollingOnes : List Line
+rollingOnes =
+    asks 512 0 48 ∷ spoil (onMap (λ m. replicate (length m) 18446744073709551615))
+    ∷ rolls (0 ∷ 0 ∷ 0 ∷ 0 ∷ 0 ∷ 0 ∷ 0 ∷ 0 ∷ 0 ∷ 0 ∷ 0 ∷ 0 ∷ 0 ∷ []) 7 0
+    (0 ∷ 0 ∷ 0 ∷ 0 ∷ 0 ∷ 0 ∷ 0 ∷ 0 ∷ 0 ∷ 0 ∷ 0 ∷ 0 ∷ 0 ∷ [])
+    ∷ rolls (0 ∷ 0 ∷ 0 ∷ 0 ∷ 0 ∷ 0 ∷ 0 ∷ 0 ∷ 0 ∷ 0 ∷ 0 ∷ 0 ∷ 0 ∷ 0 ∷ []) 0 7
+    (48 ∷ 512 ∷ 560 ∷ 512 ∷ 1072 ∷ 512 ∷ 1584 ∷ 512 ∷ 2096 ∷ 512 ∷ 2608 ∷ 512 ∷ 3120 ∷ 512 ∷ [])
+    ∷ word= (inPool 0 class) 64 ∷ rolls [] 0 0 [] ∷ []
+
 abbrev pub damaged : List (List Line)
 damaged =
     formatWords ∷ formatRecords ∷ lengths ∷ bookWords ∷ bookLinks ∷ mapWords
@@ -762,7 +776,7 @@ damaged =
     ∷ resizeAskSix ∷ resizeNoRoom ∷ resizeCopies ∷ resizeKeeps ∷ halfDoneSix ∷ halfDoneFive ∷ resizeByNewClass
     ∷ orderTwoWords ∷ twoWords ∷ orderOne ∷ rangeEnds ∷ orderTwo
     ∷ orderTwoBooks ∷ orderTwoMap ∷ longMemory ∷ longBooks ∷ longMap ∷ orderRest
-    ∷ notLive ∷ lastBlock ∷ writing ∷ rolling ∷ rollingLast ∷ []
+    ∷ notLive ∷ lastBlock ∷ writing ∷ rolling ∷ rollingLast ∷ rollingStray ∷ rollingOnes ∷ []
 
 -- the table holds of a fresh heap over these three buffers
 abbrev pub Holds : List ℕ → List ℕ → List ℕ → Type 0

@@ -1,13 +1,16 @@
--- `heap::roll_call` meets its contract: it counts before it writes,
+-- `heap::roll_call` meets its contract: it knows the room before it writes,
 -- so that nothing is written where the room is too small.
 -- Assumes nothing.
 use mathlib.Core.List.{List}
 use mathlib.Core.Path.{_≡_, sym, ap, ap₂, _∙_}
-use Prim.Native.Nat.{ℕ, _*_, _/_}
+use Prim.Native.Nat.{ℕ, _*_, _/_, _≤_}
+use native.Mathlib.Nat.{zero-add}
 use native.Mathlib.Omega.{arith}
+use lib.Dec.{leb}
 use lib.ListN.{length}
 use lib.Seq.{sets}
 use borrow.Author.Needs.{needs}
+use borrow.Author.Tests.{leb-true, leb-false}
 use Rattle.rules.specs.Numbers.{RollOutcome, inOrder, shapeNumber, roomNumber, rollOf, rollOutcome, rollCall}
 use Rattle.rules.specs.Promises.{_beside_}
 use Rattle.rules.specs.Outcome.{heapOf}
@@ -15,6 +18,7 @@ use Rattle.rules.specs.View.{rollPools}
 use Rattle.loops.specs.Roll.{length-roll}
 use Rattle.loops.specs.Sets.{sets-front}
 use Rattle.books.specs.Passing.{stopped, passed}
+use Rattle.books.specs.Tests.{held, failed}
 use Rattle.heap.specs.Order.{too-little, enough}
 use Rattle.heap.proofs.roll_call.Statement.{statement}
 use Rattle.heap.proofs.roll_call.Tie as tie
@@ -23,9 +27,9 @@ use Rattle.heap.proofs.roll_call.Tie as tie
 abbrev start : tie.After-shape-number → tie.Start
 start c = c .before .before .before .before .before
 
--- the count, seen from the roll
-abbrev counted : tie.After-put-roll → tie.After-count-words
-counted c = c .before .before .before
+-- the last word read, seen from the roll
+abbrev read : tie.After-put-roll → tie.After-word2
+read c = c .before .before .before .before
 
 shape-number-requires : tie.Need-shape-number-requires
 shape-number-requires c κs = search needs
@@ -58,8 +62,17 @@ mul-all c =
     let s = at-shape-number .shape-number .ensures .1 (at-if1 .if1 .left) in
     let e = ap₂ (λ (x y : ℕ). x * y) (c .before .word .ensures .0) (c .word2 .ensures .0) in omega (arith, s .all)
 
-count-words-requires : tie.Need-count-words-requires
-count-words-requires c κs =
+-- A and P are what was read, so the pools' roll is the heap's
+the-roll : (c : tie.After-word2)
+    → let a = start (c .before .before .before) .args in
+    let A = c .before .word .result in
+    rollPools 8 A (a .books .now) (a .map .now) 0 (A * c .word2 .result) ≡ rollOf 8 (heapOf (a .memory .now) (a .books .now) (a .map .now))
+the-roll c =
+    let a = start (c .before .before .before) .args in
+    ap₂ (λ (x y : ℕ). rollPools 8 x (a .books .now) (a .map .now) 0 (x * y)) (c .before .word .ensures .0) (c .word2 .ensures .0)
+
+has-room-requires : tie.Need-has-room-requires
+has-room-requires c κs =
     let at-word = c .before in
     let at-if1 = at-word .before in
     let at-shape-number = at-if1 .before in
@@ -67,40 +80,60 @@ count-words-requires c κs =
     let e = ap₂ (λ (x y : ℕ). x * y) (at-word .word .ensures .0) (c .word2 .ensures .0) in
     (omega (arith, s .all), omega (arith, s .books, at-word .word .ensures .0), omega (arith, s .map))
 
+-- the test's answer says whether that roll fits
+answered : (c : tie.After-has-room)
+    → let a = start (c .before .before .before .before) .args in
+    let all = rollOf 8 (heapOf (a .memory .now) (a .books .now) (a .map .now)) in
+    c .has-room .result ≡ leb (length all) (length (a .roll .now))
+answered c =
+    let a = start (c .before .before .before .before) .args in
+    c .has-room .ensures ∙ ap (λ (l : List ℕ). leb (length l) (length (a .roll .now))) (the-roll (c .before))
+
 returns-2 : tie.Need-returns-2
 unfolding rollCall
 returns-2 c =
-    let at-count-words = c .before in
-    let at-word2 = at-count-words .before in
-    let at-word = at-word2 .before in
-    let at-if1 = at-word .before in
+    let at-has-room = c .before in
+    let at-word2 = at-has-room .before in
+    let at-if1 = at-word2 .before .before in
     let at-shape-number = at-if1 .before in
     let a = start at-shape-number .args in
     let h = heapOf (a .memory .now) (a .books .now) (a .map .now) in
     let wanted = length (rollOf 8 h) in
-    let f : at-count-words .count-words .result ≡ wanted = at-count-words .count-words .ensures
-    ∙ ap₂ (λ (x y : ℕ). length (rollPools 8 x (a .books .now) (a .map .now) 0 (x * y))) (at-word .word .ensures .0) (at-word2 .word2 .ensures .0) in
+    let short = leb-false wanted (length (a .roll .now)) (failed (answered at-has-room) (c .if2 .taken)) in
     let seven : inOrder (shapeNumber h) 0 0 (roomNumber wanted (length (a .roll .now))) ≡ 7 =
     passed (λ n. n) _ (shapeNumber h) (sym (at-shape-number .shape-number .ensures .0) ∙ at-if1 .if1 .left)
-    ∙ too-little wanted (length (a .roll .now)) (omega (arith, f)) in
+    ∙ too-little wanted (length (a .roll .now)) short in
     ap (λ (r : RollOutcome). r beside h)
     (ap (λ (k : ℕ). rollOutcome k 0 (a .roll .now)) (sym seven) ∙ sym (stopped (λ k. rollOutcome k 0 (a .roll .now)) _ _ (λ z. omega arith)))
 
+-- past the test, the roll fits
+fits : (c : tie.Else2)
+    → let a = start (c .before .before .before .before .before) .args in
+    length (rollOf 8 (heapOf (a .memory .now) (a .books .now) (a .map .now))) ≤ length (a .roll .now)
+fits c =
+    let a = start (c .before .before .before .before .before) .args in
+    let all = rollOf 8 (heapOf (a .memory .now) (a .books .now) (a .map .now)) in
+    leb-true (length all) (length (a .roll .now)) (held (answered (c .before)) (c .if2 .left))
+
 put-roll-requires : tie.Need-put-roll-requires
 put-roll-requires c κs =
-    let at-count-words = c .before .before in
-    let at-word2 = at-count-words .before in
+    let at-if2 = c .before in
+    let at-word2 = at-if2 .before .before in
     let at-word = at-word2 .before in
     let at-if1 = at-word .before in
     let at-shape-number = at-if1 .before in
     let s = at-shape-number .shape-number .ensures .1 (at-if1 .if1 .left) in
-    let e = ap₂ (λ (x y : ℕ). x * y) (at-word .word .ensures .0) (at-word2 .word2 .ensures .0) in
-    (omega (arith, s .all), omega (arith, s .books, at-word .word .ensures .0), omega (arith, s .map), omega (arith, at-count-words .count-words .ensures))
+    let e = ap₂ (λ (x y : ℕ). x * y) (at-word .word .ensures .0) (at-word2 .word2 .ensures .0) in (
+      omega (arith, s .all),
+      omega (arith, s .books, at-word .word .ensures .0),
+      omega (arith, s .map),
+      omega (arith, fits at-if2, ap length (the-roll at-word2)),
+    )
 
 cast-t14 : tie.Need-cast-t14
 cast-t14 c =
-    let at-count-words = counted (c .before .before) in
-    let at-word2 = at-count-words .before in
+    let at-put-roll = c .before .before in
+    let at-word2 = read at-put-roll in
     let at-word = at-word2 .before in
     let at-if1 = at-word .before in
     let at-shape-number = at-if1 .before in
@@ -110,7 +143,7 @@ cast-t14 c =
     omega (
       arith,
       s .all,
-      at-count-words .count-words .ensures,
+      at-put-roll .put-roll .ensures .place,
       length-roll 8 (at-word .word .result) (a .books .now) (a .map .now) (omega arith) 0 (at-word .word .result * at-word2 .word2 .result),
     )
 
@@ -121,24 +154,20 @@ returns-3 : tie.Need-returns-3
 unfolding rollCall
 returns-3 c =
     let at-put-roll = c .before .before in
-    let at-count-words = counted at-put-roll in
-    let at-word2 = at-count-words .before in
-    let at-word = at-word2 .before in
-    let at-if1 = at-word .before in
+    let at-if2 = at-put-roll .before .before in
+    let at-word2 = read at-put-roll in
+    let at-if1 = at-word2 .before .before in
     let at-shape-number = at-if1 .before in
     let a = start at-shape-number .args in
     let h = heapOf (a .memory .now) (a .books .now) (a .map .now) in
-    let wanted = length (rollOf 8 h) in
-    let f : at-count-words .count-words .result ≡ wanted = at-count-words .count-words .ensures
-    ∙ ap₂ (λ (x y : ℕ). length (rollPools 8 x (a .books .now) (a .map .now) 0 (x * y))) (at-word .word .ensures .0) (at-word2 .word2 .ensures .0) in
-    let go : inOrder (shapeNumber h) 0 0 (roomNumber wanted (length (a .roll .now))) ≡ 0 =
+    let all = rollOf 8 h in
+    let stored = at-put-roll .put-roll .ensures in
+    let go : inOrder (shapeNumber h) 0 0 (roomNumber (length all) (length (a .roll .now))) ≡ 0 =
     passed (λ n. n) _ (shapeNumber h) (sym (at-shape-number .shape-number .ensures .0) ∙ at-if1 .if1 .left)
-    ∙ enough wanted (length (a .roll .now)) (omega (arith, f)) in
+    ∙ enough (length all) (length (a .roll .now)) (fits at-if2) in
     ap (λ (r : RollOutcome). r beside h)
-    (ap₂ (λ (n : ℕ) (w : List ℕ). rollOutcome 0 (n / 2) w) f
-    (at-put-roll .put-roll .ensures
-    ∙ ap₂ (λ (x y : ℕ). sets (a .roll .now) 0 (rollPools 8 x (a .books .now) (a .map .now) 0 (x * y))) (at-word .word .ensures .0) (at-word2 .word2 .ensures .0)
-    ∙ sets-front (a .roll .now) (rollOf 8 h) (omega (arith, f)))
+    (ap₂ (λ (n : ℕ) (w : List ℕ). rollOutcome 0 (n / 2) w) (stored .place ∙ zero-add _ ∙ ap length (the-roll at-word2))
+    (stored .same ∙ ap (sets (a .roll .now) 0) (the-roll at-word2) ∙ sets-front (a .roll .now) all (fits at-if2))
     ∙ sym (passed (λ k. rollOutcome k 0 (a .roll .now)) _ _ go))
 
 pub roll-call-spec : {M : Type 1} → statement M
@@ -150,7 +179,7 @@ roll-call-spec =
     word-requires
     word-requires-2
     mul-all
-    count-words-requires
+    has-room-requires
     returns-2
     put-roll-requires
     cast-t14

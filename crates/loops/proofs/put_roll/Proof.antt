@@ -56,7 +56,7 @@ returns : tie.Need-returns Inv-loop μ-loop
 returns c =
     let p = c .before .loop in
     let a = start (c .before .before) .args in
-    done (roll-parts 8 (a .arenas) (a .books .now) (a .map .now) (a .n)) (p .pool) (omega arith) (p .inv .0) .same
+    done (roll-parts 8 (a .arenas) (a .books .now) (a .map .now) (a .n)) (p .pool) (omega arith) (p .inv .0)
 
 pub put-roll-spec : {M : Type 1} → statement M
 put-roll-spec =

@@ -1,18 +1,28 @@
--- `loops::roll_pool` stores the words of its live blocks where the pool has a class, and nothing where it has none.
+-- `loops::roll_pool` stores the words of its live blocks where the pool has a bit set and a class, and nothing elsewhere.
 -- Assumes nothing.
-use mathlib.Core.Path.{_≡_, refl, ap}
+use mathlib.Core.Path.{_≡_, refl, sym, ap, _∙_}
 use native.Mathlib.Omega.{arith}
 use lib.ListN.{length}
 use borrow.Author.Needs.{needs}
 use Rattle.rules.specs.Blocks.{capacity}
 use Rattle.rules.specs.View.{rollBlocks, rollPool}
-use Rattle.loops.specs.Roll.{no-class, of-class}
+use Rattle.loops.specs.Roll.{no-bits, no-class, of-class}
 use Rattle.loops.proofs.roll_pool.Statement.{statement}
 use Rattle.loops.proofs.roll_pool.Tie as tie
 
--- the function's start, seen from its first call; an argument more shifts this line alone
-abbrev start : tie.After-class-at → tie.Start
+-- the function's start, seen from its first test; an argument more shifts this line alone
+abbrev start : tie.After-none-set → tie.Start
 start c = c .before .before .before .before
+
+none-set-requires : tie.Need-none-set-requires
+none-set-requires c κs = search needs
+
+returns : tie.Need-returns
+returns c =
+    let a = start (c .before) .args in
+    let e = sym (c .before .none-set .ensures) ∙ c .if1 .taken in
+    rw (no-bits 8 (a .arenas) (a .books .now) (a .map .now) (a .pool) (omega arith) e)
+    (record { same = refl; place = omega arith })
 
 mul-class-at : tie.Need-mul-class-at
 mul-class-at c = search needs
@@ -20,11 +30,11 @@ mul-class-at c = search needs
 class-at-requires : tie.Need-class-at-requires
 class-at-requires c κs = search needs
 
-returns : tie.Need-returns
-returns c =
-    let a = start (c .before) .args in
+returns-2 : tie.Need-returns-2
+returns-2 c =
+    let a = start (c .before .before .before) .args in
     let r = c .before .class-at in
-    rw (no-class 8 (a .arenas) (a .books .now) (a .map .now) (a .pool) (r .result) (r .ensures) (c .if1 .taken))
+    rw (no-class 8 (a .arenas) (a .books .now) (a .map .now) (a .pool) (r .result) (r .ensures) (c .if2 .taken))
     (record { same = refl; place = omega arith })
 
 size-of-requires : tie.Need-size-of-requires
@@ -32,16 +42,16 @@ size-of-requires c κs = search needs
 
 -- where the code goes on the pool has a class
 classed : (c : tie.After-roll-blocks-arg)
-    → let a = start (c .before .before .before) .args in
+    → let a = start (c .before .before .before .before .before) .args in
     let s = c .before .size-of .result in
     rollPool 8 (a .arenas) (a .books .now) (a .map .now) (a .pool) ≡ rollBlocks (a .map .now) (a .pool) s 0 (capacity s)
 classed c =
-    let at-if1 = c .before .before in
-    let at-class-at = at-if1 .before in
-    let a = start at-class-at .args in
+    let at-if2 = c .before .before in
+    let at-class-at = at-if2 .before in
+    let a = start (at-class-at .before .before) .args in
     let r = at-class-at .class-at in
     let s = c .before .size-of in
-    of-class 8 (a .arenas) (a .books .now) (a .map .now) (a .pool) (r .result) (r .ensures) (s .result) (s .ensures .0) (at-if1 .if1 .left)
+    of-class 8 (a .arenas) (a .books .now) (a .map .now) (a .pool) (r .result) (r .ensures) (s .result) (s .ensures .0) (at-if2 .if2 .left)
 
 roll-blocks-requires : tie.Need-roll-blocks-requires
 roll-blocks-requires c κs = omega (arith, ap length (classed c))
@@ -49,8 +59,8 @@ roll-blocks-requires c κs = omega (arith, ap length (classed c))
 same-length : tie.Need-same-length
 same-length c = search needs
 
-returns-2 : tie.Need-returns-2
-returns-2 c =
+returns-3 : tie.Need-returns-3
+returns-3 c =
     let at-roll-blocks-arg = c .before .before .before in
     rw (classed at-roll-blocks-arg) (c .before .before .roll-blocks .ensures)
 
@@ -58,10 +68,12 @@ pub roll-pool-spec : {M : Type 1} → statement M
 roll-pool-spec =
     tie.close
     (tie.spec
+    none-set-requires
+    returns
     mul-class-at
     class-at-requires
-    returns
+    returns-2
     size-of-requires
     roll-blocks-requires
     same-length
-    returns-2)
+    returns-3)
