@@ -270,6 +270,49 @@ static void roll_calls(void)
     expect_untouched();
 }
 
+/* The roll has so many blocks: with just room for them, and with room for every block that a pool could hold, where a
+   roll call counts none before it writes. With less it has no room. */
+static void expect_rolled(uint32_t blocks, uint32_t first, uint32_t last)
+{
+    const size_t most = HESKAVERN_ROLL_WORDS(books[0], books[1]), rooms[] = {2 * (size_t)blocks, most};
+    size_t i;
+    memset(roll, FILL, sizeof roll);
+    if (blocks > 0)
+        EXPECT(is(ROLL_CALL(2 * blocks - 1), HESKAVERN_DOES_NOT_FIT, 0));
+    EXPECT(filled(roll, sizeof roll));
+    for (i = 0; i < sizeof rooms / sizeof *rooms; i++) {
+        memset(roll, FILL, sizeof roll);
+        EXPECT(done(ROLL_CALL(rooms[i]), blocks));
+        EXPECT(blocks == 0 || (roll[0] == first && roll[2 * blocks - 2] == last));
+        EXPECT(filled(roll + 2 * blocks, sizeof roll - 2 * blocks * sizeof *roll));
+    }
+}
+
+/* Bits at no block of their pool's class: they are in no roll, and take no room. */
+static void stray_bits(void)
+{
+    size_t i;
+    fresh(1, 2);
+    expect_rolled(0, 0, 0);
+    EXPECT(done(ASK(512), 48));
+    map[0] |= (uint64_t)1 << 9;     /* a pool has seven blocks of 512 bytes */
+    expect_rolled(1, 48, 48);
+    for (i = 0; i < map_words; i++)
+        map[i] = UINT64_MAX;
+    expect_rolled(7, 48, 3120);     /* pool 1 has no class */
+    *pool_word(0, CLASS) = 0;
+    expect_rolled(506, 48, 4088);
+    *pool_word(0, CLASS) = 64;
+    expect_rolled(0, 0, 0);
+    for (i = 0; i < map_words; i++)
+        map[i] = 0;
+    *pool_word(0, CLASS) = 0;
+    *pool_word(1, CLASS) = 0;
+    map[7] = map[15] = (uint64_t)1 << 57;   /* the last block of each pool, after words of zeros */
+    expect_rolled(2, 4088, 8184);
+    expect_untouched();
+}
+
 /* The largest heap, filled: the roll's macro gives the words that are needed, and not one more. */
 static void largest(void)
 {
@@ -433,6 +476,7 @@ int main(void)
     moves();
     view_and_write();
     roll_calls();
+    stray_bits();
     largest();
     wrong_shapes();
     wrong_lengths();

@@ -217,6 +217,18 @@ pub const READINGS: &[Slip] = &[
         "roll.len() < 2 * blocks.len()",
         "roll.is_empty() || roll.len() < 2 * blocks.len()",
     ),
+    slip(
+        "a roll needs room for every set bit",
+        Some("W-202:"),
+        "roll.len() < 2 * blocks.len()",
+        "roll.len() < 2 * self.lent.map.iter().map(|word| word.count_ones() as usize).sum::<usize>()",
+    ),
+    slip(
+        "a pool's roll ends at a map word with no bit set",
+        None,
+        "(0..(POOL - HEADER) / size)",
+        "(0..(POOL - HEADER) / size).take_while(|k| self.lent.map[8 * pool + k / 64] != 0)",
+    ),
     slip("P is cut to 32 bits", Some("R23:"), "contains(&pools)", "contains(&(pools as u32 as usize))"),
     slip(
         "an offset is cut to 32 bits",

@@ -266,8 +266,11 @@ impl Source {
         self.rng.pick(&[0, any, any, block, block + 1, 513, 600])
     }
 
-    /// Two words for each live block, or a few more or fewer.
+    /// Two words for each live block, or a few more or fewer; or so many that no roll is longer, or one less.
     fn roll_words(&mut self, heap: &Buffers) -> usize {
+        if self.rng.one_in(4) {
+            return 2 * 506 * self.arenas * self.pools - self.rng.below(2);
+        }
         let bits: u32 = heap.map.iter().map(|word| word.count_ones()).sum();
         let live = self.rng.pick(&[bits as usize, self.held.len()]);
         let words =
@@ -324,11 +327,12 @@ impl Source {
 // Damage
 
 impl Source {
-    /// One word, link or bit is spoilt, and will mostly be mended after a few calls.
+    /// One word, link or bit is spoilt, or a word of the map, and will mostly be mended after a few calls.
     fn spoil(&mut self, heap: &Buffers) {
-        let (spoilt, mend) = match self.rng.below(10) {
-            0 | 1 => self.spoil_link(heap),
-            2 | 3 => self.spoil_bit(heap),
+        let (spoilt, mend) = match self.rng.below(20) {
+            0..=3 => self.spoil_link(heap),
+            4..=6 => self.spoil_bit(heap),
+            7 => self.spoil_bits(heap),
             _ => self.spoil_word(heap),
         };
         self.waiting.push_back(spoilt);
@@ -395,6 +399,18 @@ impl Source {
             _ => self.edge(old),
         };
         (Step::Link(4096 * pool + start, new), Step::Link(4096 * pool + start, old))
+    }
+
+    /// Any word of the map, as a whole.
+    fn spoil_bits(&mut self, heap: &Buffers) -> (Step, Step) {
+        let at = self.rng.below(8 * self.arenas * self.pools);
+        (Step::Bits(at, self.some_bits()), Step::Bits(at, heap.map[at]))
+    }
+
+    /// No bits, all of them, or a few.
+    fn some_bits(&mut self) -> u64 {
+        let few = self.rng.draw() & self.rng.draw() & self.rng.draw();
+        self.rng.pick(&[0, u64::MAX, few, few])
     }
 
     /// The bit of a block that an ask is likely to test, or of any.
@@ -506,6 +522,13 @@ impl Source {
         self.waiting.push_back(Step::Bits(8 * pool, bits));
         for k in (0..blocks.min(64)).filter(|k| bits >> k & 1 == 1) {
             self.held.push(4096 * pool + block_start(size, k));
+        }
+        // bits that an ask seldom reads, and a roll call always
+        for word in 1..8 {
+            if self.rng.one_in(16) {
+                let bits = self.some_bits();
+                self.waiting.push_back(Step::Bits(8 * pool + word, bits));
+            }
         }
     }
 

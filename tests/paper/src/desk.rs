@@ -94,6 +94,11 @@ impl<'a> Desk<'a> {
         &mut self.heap.map[8 * pool]
     }
 
+    /// Every word of the map becomes this.
+    pub fn all_bits(&mut self, word: u64) {
+        self.heap.map.fill(word);
+    }
+
     pub fn link(&self, offset: usize) -> u32 {
         let bytes = self.bytes(offset, 4);
         u32::from_le_bytes([bytes[0], bytes[1], bytes[2], bytes[3]])

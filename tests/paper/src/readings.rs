@@ -26,6 +26,7 @@ pub const CASES: &[Case] = &[
     ("R22: an empty text, an empty roll", r22),
     ("R23: no number of a caller is cut to fit", r23),
     ("a returning pool reads the freed-pool head", returning_pool),
+    ("W-202: a bit at no block is in no roll, and takes no room", w202),
 ];
 
 fn r1(calls: &mut dyn Calls) {
@@ -242,6 +243,24 @@ fn r17(calls: &mut dyn Calls) {
     desk.refused(ViewSize { offset: 48 }, 5);
     desk.refused(Write { offset: 48, length: 0, first: 0 }, 5);
     assert_eq!(desk.roll(0), (Answer { number: 0, value: 0 }, vec![]));
+}
+
+fn w202(calls: &mut dyn Calls) {
+    let mut desk = Desk::fresh(calls, 1, 2);
+    desk.done(Ask { size: 512 }, 48);
+    *desk.bits(0) |= 1 << 9;
+    assert_eq!(desk.roll(2), (Answer { number: 0, value: 1 }, vec![48, 512]));
+    assert_eq!(desk.roll(2024).0, Answer { number: 0, value: 1 });
+
+    // ones alone, in every word
+    desk.all_bits(u64::MAX);
+    desk.refused(RollCall { words: 13 }, 7);
+    let seven = [48, 560, 1072, 1584, 2096, 2608, 3120].iter().flat_map(|&offset| [offset, 512]).collect();
+    assert_eq!(desk.roll(14), (Answer { number: 0, value: 7 }, seven));
+    assert_eq!(desk.roll(2024).0, Answer { number: 0, value: 7 });
+    *desk.pool(0, CLASS) = 64;
+    desk.done(RollCall { words: 0 }, 0);
+    desk.done(RollCall { words: 2024 }, 0);
 }
 
 fn r22(calls: &mut dyn Calls) {
