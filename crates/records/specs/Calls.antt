@@ -3,9 +3,9 @@
 -- Assumes nothing.
 use mathlib.Core.Path.{_≡_, refl, _∙_}
 use mathlib.Core.Bool.{Bool, true, false, not, _&&_}
-use mathlib.Core.Logic.{inl}
+use mathlib.Core.Logic.{_≢_, _⊎_, inl}
 use mathlib.Core.List.{List}
-use Prim.Native.Nat.{ℕ, zero, suc, _/_, _≤_, _<_, min}
+use Prim.Native.Nat.{ℕ, zero, suc, _+_, _/_, _≤_, _<_, min}
 use native.Mathlib.Omega.{arith}
 use lib.Dec.{leb, ltb}
 use lib.ListN.{length, replicate}
@@ -17,9 +17,9 @@ use Rattle.rules.specs.declared.AskPlan.the-variants.{NoRoom, Damaged, Follow, 
 use Rattle.rules.specs.declared.BackPlan.{BackPlan}
 use Rattle.rules.specs.declared.BackPlan.the-variants.{Damaged as Broken, Joins, Stays, Empties, Returns, Releases}
 use Rattle.rules.specs.Say.{if_then_else_, only}
-use Rattle.rules.specs.Books.{Heap, inRange, exact, at, put, arenas, pools, usableHead, freePools, arenaWord, arena, fall, none?}
+use Rattle.rules.specs.Books.{Heap, inRange, exact, at, put, arenas, pools, usableHead, freePools, arenaWord, arena, fall, none?, linked}
 use Rattle.rules.specs.Blocks.{largest, sizeAt, live, liveNumber}
-use Rattle.rules.specs.Lists.{leave, join, arenaLinks, arenaLeaves}
+use Rattle.rules.specs.Lists.{nextAt, previousAt, leave, join, arenaLinks, arenaLeaves}
 use Rattle.rules.specs.Outcome.{Outcome, outcome, answerOf, done, refused, passing}
 use Rattle.rules.specs.Ask.{takeFrom, arenaOf, spend, alone, afterAsk, askAnswer, askStep}
 use Rattle.rules.specs.GiveBack.{takeBack, empty, release, afterBack, backAnswer, backStep}
@@ -29,29 +29,44 @@ use Rattle.books.specs.Lists.{leave-keeps, join-keeps}
 use Rattle.books.specs.Tests.{either}
 use Rattle.loops.specs.Sets.{sets-other}
 
--- the books b′ have the words 0 and 1 of b
-pub record Kept (b b′ : List ℕ) : Type 0 where
-  pub word : (j : ℕ) → j < 2 → at b′ j ≡ at b j
+-- the books b′ have the words of b at the places K
+pub record Same (K : ℕ → Type 0) (b b′ : List ℕ) : Type 0 where
+  pub word : (j : ℕ) → K j → at b′ j ≡ at b j
 
-pub none-written : {b : List ℕ} → Kept b b
+-- A and P
+abbrev pub Kept : List ℕ → List ℕ → Type 0
+Kept b b′ = Same (λ j. j < 2) b b′
+
+pub none-written : {K : ℕ → Type 0} {b : List ℕ} → Same K b b
 none-written = record { word = λ j l. refl }
 
-pub kept-on : {a b c : List ℕ} → Kept a b → Kept b c → Kept a c
+pub kept-on : {K : ℕ → Type 0} {a b c : List ℕ} → Same K a b → Same K b c → Same K a c
 kept-on k l = record { word = λ j u. l .word j u ∙ k .word j u }
 
--- ---- the writes of the steps, each to words from 2 on
-module _ {b b′ : List ℕ} where
-  put-kept : (i v : ℕ) → 2 ≤ i → Kept b b′ → Kept b (put i v b′)
-  put-kept i v h k = record { word = λ j l. getD-set-other b′ i j v 0 (omega arith) ∙ k .word j l }
+-- ---- the writes of the steps, each to words at other places
+module _ {K : ℕ → Type 0} {b b′ : List ℕ} where
+  pub put-kept : (i v : ℕ) → ((j : ℕ) → K j → j ≢ i) → Same K b b′ → Same K b (put i v b′)
+  put-kept i v h k = record { word = λ j l. getD-set-other b′ i j v 0 (h j l) ∙ k .word j l }
 
-  sets-kept : (i : ℕ) (vs : List ℕ) → 2 ≤ i → Kept b b′ → Kept b (sets b′ i vs)
-  sets-kept i vs h k = record { word = λ j l. sets-other b′ i vs j (inl (omega arith)) ∙ k .word j l }
+  pub sets-kept : (i : ℕ) (vs : List ℕ) → ((j : ℕ) → K j → (j < i) ⊎ (i + length vs ≤ j)) → Same K b b′
+      → Same K b (sets b′ i vs)
+  sets-kept i vs h k = record { word = λ j l. sets-other b′ i vs j (h j l) ∙ k .word j l }
 
-  leave-kept : (base head n : ℕ) → 2 ≤ base → 2 ≤ head → Kept b b′ → Kept b (leave base head n b′)
-  leave-kept base head n u v k = record { word = λ j l. leave-keeps base head _ _ n b′ j (omega arith) ∙ k .word j l }
+  pub leave-kept : (base head n : ℕ)
+      → ((j : ℕ) → K j
+      → (j ≢ head)
+      × (j ≢ nextAt base (linked (at b′ (previousAt base n))))
+      × (j ≢ previousAt base (linked (at b′ (nextAt base n))))
+      × (j ≢ nextAt base n)
+      × (j ≢ previousAt base n))
+      → Same K b b′ → Same K b (leave base head n b′)
+  leave-kept base head n h k = record { word = λ j l. leave-keeps base head _ _ n b′ j (h j l) ∙ k .word j l }
 
-  join-kept : (base head n : ℕ) → 2 ≤ base → 2 ≤ head → Kept b b′ → Kept b (join base head n b′)
-  join-kept base head n u v k = record { word = λ j l. join-keeps base head _ n b′ j (omega arith) ∙ k .word j l }
+  pub join-kept : (base head n : ℕ)
+      → ((j : ℕ) → K j
+      → (j ≢ head) × (j ≢ previousAt base (linked (at b′ head))) × (j ≢ nextAt base n) × (j ≢ previousAt base n))
+      → Same K b b′ → Same K b (join base head n b′)
+  join-kept base head n h k = record { word = λ j l. join-keeps base head _ n b′ j (h j l) ∙ k .word j l }
 
 -- a change that is made only where a test holds
 only-kept : {b : List ℕ} (t : Bool) (f : Heap → Heap) (h : Heap) → Kept b (h .books) → Kept b (f h .books)
@@ -63,22 +78,22 @@ only-kept false f h k l = k
 module _ (al A P c : ℕ) {b : List ℕ} where
   take-kept : (s : Source) (p : ℕ) (h : Heap) → Kept b (h .books) → Kept b (takeFrom al A P c s p h .books)
   unfolding takeFrom
-  take-kept (Freed a) p h k = put-kept _ _ (omega arith) k
-  take-kept (Carved a) p h k = put-kept _ _ (omega arith) (put-kept _ _ (omega arith) k)
+  take-kept (Freed a) p h k = put-kept _ _ (λ j l. omega arith) k
+  take-kept (Carved a) p h k = put-kept _ _ (λ j l. omega arith) (put-kept _ _ (λ j l. omega arith) k)
   take-kept (Opened a) p h k =
-      put-kept _ _ (omega arith) (put-kept _ _ (omega arith)
-      (put-kept _ _ (omega arith) (put-kept _ _ (omega arith) (put-kept _ _ (omega arith) (put-kept _ _ (omega arith)
-      (join-kept _ _ _ (omega arith) (omega arith) (leave-kept _ _ _ (omega arith) (omega arith) k)))))))
+      put-kept _ _ (λ j l. omega arith) (put-kept _ _ (λ j l. omega arith)
+      (put-kept _ _ (λ j l. omega arith) (put-kept _ _ (λ j l. omega arith) (put-kept _ _ (λ j l. omega arith) (put-kept _ _ (λ j l. omega arith)
+      (join-kept _ _ _ (λ j l. omega arith) (leave-kept _ _ _ (λ j l. omega arith) k)))))))
 
   spend-kept : (a : ℕ) (h : Heap) → Kept b (h .books) → Kept b (spend al A P c a h .books)
   spend-kept a h k =
-      let less : Kept b (fall (arenaWord freePools a) h .books) = put-kept _ _ (omega arith) k in
+      let less : Kept b (fall (arenaWord freePools a) h .books) = put-kept _ _ (λ j l. omega arith) k in
       only-kept (none? (arena (fall (arenaWord freePools a) h .books) freePools a)) (arenaLeaves usableHead a)
-      (fall (arenaWord freePools a) h) less (leave-kept arenaLinks usableHead a (omega arith) (omega arith) less)
+      (fall (arenaWord freePools a) h) less (leave-kept arenaLinks usableHead a (λ j l. omega arith) less)
 
   alone-kept : (p : ℕ) (h : Heap) → Kept b (h .books) → Kept b (alone al A P c p h .books)
   alone-kept p h k =
-      put-kept _ _ (omega arith) (put-kept _ _ (omega arith) (put-kept _ _ (omega arith) (put-kept _ _ (omega arith) k)))
+      put-kept _ _ (λ j l. omega arith) (put-kept _ _ (λ j l. omega arith) (put-kept _ _ (λ j l. omega arith) (put-kept _ _ (λ j l. omega arith) k)))
 
   -- a pool is taken from its source, its arena spends it, and it goes alone on the class list
   listed-kept : (s : Source) (p : ℕ) (h : Heap) → Kept b (h .books)
@@ -92,24 +107,24 @@ module _ (al A P c : ℕ) {b : List ℕ} where
   unfolding afterAsk
   ask-kept NoRoom h k = k
   ask-kept Damaged h k = k
-  ask-kept (Follow p f l) h k = put-kept _ _ (omega arith) (put-kept _ _ (omega arith) k)
-  ask-kept (Ready p f m) h k = put-kept _ _ (omega arith) (put-kept _ _ (omega arith) (put-kept _ _ (omega arith) k))
-  ask-kept (Last p f) h k = leave-kept _ _ _ (omega arith) (omega arith) (put-kept _ _ (omega arith) (put-kept _ _ (omega arith) k))
+  ask-kept (Follow p f l) h k = put-kept _ _ (λ j l. omega arith) (put-kept _ _ (λ j l. omega arith) k)
+  ask-kept (Ready p f m) h k = put-kept _ _ (λ j l. omega arith) (put-kept _ _ (λ j l. omega arith) (put-kept _ _ (λ j l. omega arith) k))
+  ask-kept (Last p f) h k = leave-kept _ _ _ (λ j l. omega arith) (put-kept _ _ (λ j l. omega arith) (put-kept _ _ (λ j l. omega arith) k))
   ask-kept (Again a p f l) h k =
-      put-kept _ _ (omega arith) (listed-kept (Freed a) p h k)
+      put-kept _ _ (λ j l. omega arith) (listed-kept (Freed a) p h k)
   ask-kept (Anew s p) h k =
-      put-kept _ _ (omega arith) (put-kept _ _ (omega arith) (put-kept _ _ (omega arith) (put-kept _ _ (omega arith)
+      put-kept _ _ (λ j l. omega arith) (put-kept _ _ (λ j l. omega arith) (put-kept _ _ (λ j l. omega arith) (put-kept _ _ (λ j l. omega arith)
       (listed-kept s p h k))))
 
 -- ---- a give-back
 module _ (al A P c p f : ℕ) {b : List ℕ} where
   take-back-kept : (h : Heap) → Kept b (h .books) → Kept b (takeBack al A P c p f h .books)
-  take-back-kept h k = put-kept _ _ (omega arith) (put-kept _ _ (omega arith) k)
+  take-back-kept h k = put-kept _ _ (λ j l. omega arith) (put-kept _ _ (λ j l. omega arith) k)
 
   empty-kept : (h : Heap) → Kept b (h .books) → Kept b (empty al A P c p f h .books)
   empty-kept h k =
-      put-kept _ _ (omega arith) (put-kept _ _ (omega arith) (put-kept _ _ (omega arith) (put-kept _ _ (omega arith)
-      (leave-kept _ _ _ (omega arith) (omega arith) k))))
+      put-kept _ _ (λ j l. omega arith) (put-kept _ _ (λ j l. omega arith) (put-kept _ _ (λ j l. omega arith) (put-kept _ _ (λ j l. omega arith)
+      (leave-kept _ _ _ (λ j l. omega arith) k))))
 
   -- the block is taken back and its pool is emptied
   emptied-kept : (h : Heap) → Kept b (h .books) → Kept b (empty al A P c p f (takeBack al A P c p f h) .books)
@@ -117,15 +132,15 @@ module _ (al A P c p f : ℕ) {b : List ℕ} where
 
   release-kept : (a : ℕ) (h : Heap) → Kept b (h .books) → Kept b (release al A P c p f a h .books)
   release-kept a h k =
-      join-kept _ _ _ (omega arith) (omega arith) (sets-kept (arenaWord 0 a) (replicate 8 0) (omega arith) (leave-kept _ _ _ (omega arith) (omega arith) k))
+      join-kept _ _ _ (λ j l. omega arith) (sets-kept (arenaWord 0 a) (replicate 8 0) (λ j l. inl (omega arith)) (leave-kept _ _ _ (λ j l. omega arith) k))
 
   back-kept : (q : BackPlan) (h : Heap) → Kept b (h .books) → Kept b (afterBack al A P c p f q h .books)
   unfolding afterBack
   back-kept Broken h k = k
-  back-kept Joins h k = join-kept _ _ _ (omega arith) (omega arith) (take-back-kept h k)
+  back-kept Joins h k = join-kept _ _ _ (λ j l. omega arith) (take-back-kept h k)
   back-kept Stays h k = take-back-kept h k
   back-kept Empties h k = emptied-kept h k
-  back-kept Returns h k = join-kept _ _ _ (omega arith) (omega arith) (emptied-kept h k)
+  back-kept Returns h k = join-kept _ _ _ (λ j l. omega arith) (emptied-kept h k)
   back-kept Releases h k = release-kept (p / P) (empty al A P c p f (takeBack al A P c p f h)) (emptied-kept h k)
 
 -- ---- the numbers
