@@ -3,3 +3,4 @@ pub mod Calls
 pub mod Replies
 pub mod Pieces
 pub mod OneMore
+pub mod Classes
