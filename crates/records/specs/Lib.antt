@@ -4,3 +4,4 @@ pub mod Replies
 pub mod Pieces
 pub mod OneMore
 pub mod Classes
+pub mod Live
