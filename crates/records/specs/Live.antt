@@ -380,3 +380,21 @@ resize-counts h o n whole =
     let t = resizes h whole o n in
     let now = counted h (resize 8 h o n .heap) (resize-fair 8 h o n .kept) in
     record { refused = λ d s. omega (arith, now, t .refused d s); done = λ e d. omega (arith, now, t .done e d) }
+
+-- ---- in the code's words
+-- the code's count, answer, books and map are those of the rules
+pub in-code : (C : ℕ → Answer → List ℕ → List ℕ → Type 0) {live n : ℕ} {x y : Outcome} → live ≡ n → x ≡ y
+    → C n (y .answer) (y .heap .books) (y .heap .map) → C live (x .answer) (x .heap .books) (x .heap .map)
+in-code C e f t = rw (e, f) t
+
+-- a give-back that is done finds a live block, and leaves one fewer
+module _ {live : ℕ} {b k : List ℕ} (a : Answer) (t : BackCounts live a b k) where
+  pub one-live : a .number ≡ 0 → 1 ≤ live
+  one-live e = omega (arith, t .done e)
+
+  pub one-fewer : passing (a .number) (λ _. live) (live - 1) ≡ liveIn b k
+  one-fewer = go (a .number) refl
+    where
+      go : (n : ℕ) → a .number ≡ n → passing n (λ _. live) (live - 1) ≡ liveIn b k
+      go zero e = omega (arith, t .done e)
+      go (suc n) e = t .refused (λ z. omega (arith, e, z))

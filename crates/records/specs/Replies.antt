@@ -18,6 +18,7 @@ use Rattle.rules.specs.Outcome.{Outcome, heapOf, outcome, passing}
 use Rattle.rules.specs.Numbers.{fitNumber, shapeNumber}
 use Rattle.rules.specs.Replay.{opOf, offsetIn, fourBytes, replyBytes, Replied, replied, refusedRecord, called}
 use Rattle.books.specs.Known.{Shaped}
+use Rattle.loops.specs.Roll.{length-roll}
 use Rattle.records.specs.declared.Reply.{Reply}
 use Rattle.records.specs.Calls.{Kept, Fair}
 
@@ -57,9 +58,17 @@ replyTo r a size live = passing (a .number) (λ k. refusalOf r k live) (replyOf 
 abbrev pub repliedWith : Reply → List ℕ → List ℕ → List ℕ → Replied
 repliedWith r m b k = record { reply = bytesOf r; heap = heapOf m b k }
 
+-- they are those of the rules, and the reply says how many blocks are live in that heap
+abbrev pub Replies : Reply → List ℕ → List ℕ → List ℕ → Replied → Type 0
+Replies r m b k x = (repliedWith r m b k ≡ x) × (r .live ≡ liveIn b k)
+
 -- ---- the heap before and after a call
 pub counted : (m b k : List ℕ) → Whole m b k → Counted b k
 counted m b k w = record { all = w .all; books = w .books; map = w .map }
+
+-- a count of live blocks fits 32 bits
+pub few-live : (b k : List ℕ) → Counted b k → liveIn b k ≤ 518144
+few-live b k w = omega (arith, w .all, length-roll 8 (at b 0) b k (omega arith) 0 (at b 0 * at b 1))
 
 -- neither 1 nor 2
 pub right-shape : (m b k : List ℕ) → Whole m b k → shapeNumber (heapOf m b k) ≡ 0
@@ -105,7 +114,7 @@ low-four v =
     sym (ap₂ (λ (x y : ℕ). x ∷ y ∷ (v / 65536 % 256) ∷ (v / 16777216 % 256) ∷ []) a b ∙ ap₂ (λ (x y : ℕ). (w % 256) ∷ (w / 256 % 256) ∷ x ∷ y ∷ []) c d)
 
 -- the reply to a call, and the heap after it, are what the rules say
-pub called-is : (r : List ℕ) (x : Outcome) (size s live : ℕ) → s ≡ size % 4294967296
+called-is : (r : List ℕ) (x : Outcome) (size s live : ℕ) → s ≡ size % 4294967296
     → live ≡ liveIn (x .heap .books) (x .heap .map)
     → _≡_ {A = Replied} (record { reply = bytesOf (replyTo r (x .answer) s live); heap = x .heap }) (called 8 r x size)
 called-is r x size s live e f = rw (e, f) (go (x .answer .number))
@@ -123,6 +132,19 @@ called-is r x size s live e f = rw (e, f) (go (x .answer .number))
         (passing k (λ j. refusedRecord 8 r j (x .heap)) (replied 8 (opOf r) 0 (x .answer .offset) size (x .heap)))
     go zero =
         ap (λ (l : List ℕ). record { reply = opOf r ∷ 0 ∷ 0 ∷ 0 ∷ (fourBytes (x .answer .offset) ++ (l ++ fourBytes n)); heap = x .heap }) (low-four size)
+    go (suc k) = refl
+
+-- so they are where the code has that reply
+pub answered : (r : List ℕ) (x : Outcome) (size s live : ℕ) (reply : Reply) → reply ≡ replyTo r (x .answer) s live
+    → s ≡ size % 4294967296 → live ≡ liveIn (x .heap .books) (x .heap .map)
+    → Replies reply (x .heap .memory) (x .heap .books) (x .heap .map) (called 8 r x size)
+answered r x size s live reply e f g = (
+  ap (λ (y : Reply). record { reply = bytesOf y; heap = x .heap }) e ∙ called-is r x size s live f g,
+  ap (λ (y : Reply). y .live) e ∙ go (x .answer .number) ∙ g,
+)
+  where
+    go : (k : ℕ) → passing k (λ j. refusalOf r j live) (replyOf (opOf r) 0 (x .answer .offset) s live) .live ≡ live
+    go zero = refl
     go (suc k) = refl
 
 -- ---- by a test, the rules choose the one or the other

@@ -11,12 +11,13 @@ use books::words::word;
 use loops::count_words;
 use rules::Answer;
 ghost use mathlib.Core.Path.{_≡_};
+ghost use mathlib.Core.Bool.{true};
 ghost use Prim.Native.Nat.{_+_, _*_, _-_, _%_, _^_, _<_, _≤_, min};
 ghost use lib.ListN.{length};
 ghost use lib.Seq.{sets};
 ghost use Rattle.rules.specs.Books.{at};
 ghost use Rattle.rules.specs.Blocks.{sizeAt};
-ghost use Rattle.rules.specs.Outcome.{heapOf};
+ghost use Rattle.rules.specs.Outcome.{heapOf, passing};
 ghost use Rattle.rules.specs.Numbers.{ask, giveBack, resize, blockSize};
 ghost use Rattle.rules.specs.Replay.{wellMade, sizeIn, offsetIn, called, calledFor, replayCall, replayRecord};
 ghost use Rattle.records.specs.Replies.{
@@ -27,8 +28,9 @@ ghost use Rattle.records.specs.Replies.{
   bytesOf,
   refusalOf,
   replyTo,
-  repliedWith,
+  Replies,
 };
+ghost use Rattle.records.specs.Live.{aloneIn, Carries, AskCounts, ResizeCounts};
 ghost use Rattle.records.specs.Pieces.{recordAt, replayPiece};
 
 // A reply, before its bytes are written.
@@ -108,6 +110,79 @@ fn size_at(books: &[u32], offset: u32) -> u32
     (ALIGNMENT * (class + 1) % 4294967296) as u32
 }
 
+// ---- the live blocks, from one call to the next
+
+// No block of the pool but its first is live.
+fn alone(map: &[u64], pool: usize) -> bool
+    requires { ⌜ 8 * pool + 8 ≤ length (now map) ⌝ }
+    ensures { λ r. ⌜ r ≡ aloneIn (now (map .entry)) pool ⌝ }
+{
+    let first = 8 * pool;
+    (map[first] == 1)
+        & (map[first + 1] == 0)
+        & (map[first + 2] == 0)
+        & (map[first + 3] == 0)
+        & (map[first + 4] == 0)
+        & (map[first + 5] == 0)
+        & (map[first + 6] == 0)
+        & (map[first + 7] == 0)
+}
+
+// The block at the offset, which an ask has handed out, is not the first of its pool, or is alone there. An ask that
+// sets its pool to another class hands out the first block; on damaged books bits may stand in that pool, and they may
+// begin or cease to count. Nothing is asked of the offset.
+fn carries(map: &[u64], offset: u32) -> bool
+    ensures { λ r. ⌜ (r ≡ true → Carries (now (map .entry)) offset) ⌝ }
+{
+    if offset % 4096 != 48 {
+        return true;
+    }
+    let pool = index(offset) / 4096;
+    if map.len() < 8 * pool + 8 {
+        return false;
+    }
+    alone(map, pool)
+}
+
+// How many blocks are live after an ask that answered so, where `live` were before it: one more. They are counted where
+// its pool may have been set to another class.
+fn live_after_ask(books: &[u32], map: &[u64], answer: Answer, live: u32) -> u32
+    requires { ⌜ Counted (now books) (now map) × AskCounts live answer (now books) (now map) ⌝ }
+    ensures { λ r. ⌜ r ≡ liveIn (now (books .entry)) (now (map .entry)) ⌝ }
+{
+    if answer.number != 0 {
+        return live;
+    }
+    if !carries(map, answer.offset) {
+        return live_blocks(books, map);
+    }
+    live + 1
+}
+
+// How many blocks are live after a give-back that answered so, where `live` were before it: one fewer.
+fn live_after_back(answer: Answer, live: u32) -> u32
+    requires { ⌜ (answer .number ≡ 0 → 1 ≤ live) ⌝ }
+    ensures { λ r. ⌜ r ≡ passing (answer .number) (λ _. live) (live - 1) ⌝ }
+{
+    if answer.number == 0 {
+        return live - 1;
+    }
+    live
+}
+
+// How many blocks are live after a resize that answered so, where `live` were before it: as many. They are counted
+// after 6, since it may be half done, and where the text is now in a pool's first block, as after an ask.
+fn live_after_resize(books: &[u32], map: &[u64], answer: Answer, live: u32) -> u32
+    requires { ⌜ Counted (now books) (now map) × ResizeCounts live answer (now books) (now map) ⌝ }
+    ensures { λ r. ⌜ r ≡ liveIn (now (books .entry)) (now (map .entry)) ⌝ }
+{
+    let number = answer.number;
+    if (number == 6) | (number == 0) & (answer.offset % 4096 == 48) {
+        return live_blocks(books, map);
+    }
+    live
+}
+
 // ---- the reply to one record
 
 // A refusal with the number.
@@ -143,68 +218,100 @@ fn reply_to(bytes: &[u8], answer: Answer, size: u32, live: u32) -> Reply
 }
 
 // The reply to an ask: its size is that of the block that is handed out.
-fn answer_ask(memory: &mut [u8], books: &mut [u32], map: &mut [u64], bytes: &[u8]) -> Reply
-    requires { ⌜ Whole (now memory) (now books) (now map) × (16 ≤ length (now bytes)) ⌝ }
-    ensures { λ r. ⌜ repliedWith r (now (memory .exit)) (now (books .exit)) (now (map .exit))
-        ≡ calledFor 8 (now (bytes .entry))
-        (ask 8 (heapOf (now (memory .entry)) (now (books .entry)) (now (map .entry))) (sizeIn (now (bytes .entry)))) ⌝ }
+fn answer_ask(
+    memory: &mut [u8],
+    books: &mut [u32],
+    map: &mut [u64],
+    bytes: &[u8],
+    live: u32,
+) -> Reply
+    requires { ⌜ Whole (now memory) (now books) (now map) × (16 ≤ length (now bytes))
+        × (live ≡ liveIn (now books) (now map)) ⌝ }
+    ensures { λ r. ⌜ Replies r (now (memory .exit)) (now (books .exit)) (now (map .exit))
+        (calledFor 8 (now (bytes .entry))
+        (ask 8 (heapOf (now (memory .entry)) (now (books .entry)) (now (map .entry)))
+        (sizeIn (now (bytes .entry))))) ⌝ }
 {
     let answer = heap::ask(memory, books, map, index(link_at(bytes, 4)));
     let size = size_at(books, answer.offset);
-    reply_to(bytes, answer, size, live_blocks(books, map))
+    let live = live_after_ask(books, map, answer, live);
+    reply_to(bytes, answer, size, live)
 }
 
 // The reply to a give-back: its size is that of the block that is given back, so it is read before.
-fn answer_give_back(memory: &mut [u8], books: &mut [u32], map: &mut [u64], bytes: &[u8]) -> Reply
-    requires { ⌜ Whole (now memory) (now books) (now map) × (16 ≤ length (now bytes)) ⌝ }
-    ensures { λ r. ⌜ repliedWith r (now (memory .exit)) (now (books .exit)) (now (map .exit))
-        ≡ called 8 (now (bytes .entry))
+fn answer_give_back(
+    memory: &mut [u8],
+    books: &mut [u32],
+    map: &mut [u64],
+    bytes: &[u8],
+    live: u32,
+) -> Reply
+    requires { ⌜ Whole (now memory) (now books) (now map) × (16 ≤ length (now bytes))
+        × (live ≡ liveIn (now books) (now map)) ⌝ }
+    ensures { λ r. ⌜ Replies r (now (memory .exit)) (now (books .exit)) (now (map .exit))
+        (called 8 (now (bytes .entry))
         (giveBack 8 (heapOf (now (memory .entry)) (now (books .entry)) (now (map .entry)))
         (offsetIn (now (bytes .entry))))
         (blockSize 8 (heapOf (now (memory .entry)) (now (books .entry)) (now (map .entry)))
-        (offsetIn (now (bytes .entry)))) ⌝ }
+        (offsetIn (now (bytes .entry))))) ⌝ }
 {
     let offset = link_at(bytes, 8);
     let size = size_at(books, offset);
     let answer = heap::give_back(memory, books, map, index(offset));
-    reply_to(bytes, answer, size, live_blocks(books, map))
+    let live = live_after_back(answer, live);
+    reply_to(bytes, answer, size, live)
 }
 
 // The reply to a resize: its size is that of the block that the text is now in.
-fn answer_resize(memory: &mut [u8], books: &mut [u32], map: &mut [u64], bytes: &[u8]) -> Reply
-    requires { ⌜ Whole (now memory) (now books) (now map) × (16 ≤ length (now bytes)) ⌝ }
-    ensures { λ r. ⌜ repliedWith r (now (memory .exit)) (now (books .exit)) (now (map .exit))
-        ≡ calledFor 8 (now (bytes .entry))
+fn answer_resize(
+    memory: &mut [u8],
+    books: &mut [u32],
+    map: &mut [u64],
+    bytes: &[u8],
+    live: u32,
+) -> Reply
+    requires { ⌜ Whole (now memory) (now books) (now map) × (16 ≤ length (now bytes))
+        × (live ≡ liveIn (now books) (now map)) ⌝ }
+    ensures { λ r. ⌜ Replies r (now (memory .exit)) (now (books .exit)) (now (map .exit))
+        (calledFor 8 (now (bytes .entry))
         (resize 8 (heapOf (now (memory .entry)) (now (books .entry)) (now (map .entry)))
-        (offsetIn (now (bytes .entry))) (sizeIn (now (bytes .entry)))) ⌝ }
+        (offsetIn (now (bytes .entry))) (sizeIn (now (bytes .entry))))) ⌝ }
 {
     let offset = link_at(bytes, 8);
     let wanted = link_at(bytes, 4);
     let answer = heap::resize(memory, books, map, index(offset), index(wanted));
     let size = size_at(books, answer.offset);
-    reply_to(bytes, answer, size, live_blocks(books, map))
+    let live = live_after_resize(books, map, answer, live);
+    reply_to(bytes, answer, size, live)
 }
 
 // The reply to a record that is whole and well made: its call is made.
-fn answer_call(memory: &mut [u8], books: &mut [u32], map: &mut [u64], bytes: &[u8]) -> Reply
-    requires { ⌜ Whole (now memory) (now books) (now map) × (16 ≤ length (now bytes)) ⌝ }
-    ensures { λ r. ⌜ repliedWith r (now (memory .exit)) (now (books .exit)) (now (map .exit))
-        ≡ replayCall 8 (heapOf (now (memory .entry)) (now (books .entry)) (now (map .entry))) (now (bytes .entry)) ⌝ }
+fn answer_call(
+    memory: &mut [u8],
+    books: &mut [u32],
+    map: &mut [u64],
+    bytes: &[u8],
+    live: u32,
+) -> Reply
+    requires { ⌜ Whole (now memory) (now books) (now map) × (16 ≤ length (now bytes))
+        × (live ≡ liveIn (now books) (now map)) ⌝ }
+    ensures { λ r. ⌜ Replies r (now (memory .exit)) (now (books .exit)) (now (map .exit))
+        (replayCall 8 (heapOf (now (memory .entry)) (now (books .entry)) (now (map .entry))) (now (bytes .entry))) ⌝ }
 {
     if bytes[0] == 1 {
-        return answer_ask(memory, books, map, bytes);
+        return answer_ask(memory, books, map, bytes, live);
     }
     if bytes[0] == 2 {
-        return answer_give_back(memory, books, map, bytes);
+        return answer_give_back(memory, books, map, bytes, live);
     }
-    answer_resize(memory, books, map, bytes)
+    answer_resize(memory, books, map, bytes, live)
 }
 
-// The reply to any record.
-fn answer(memory: &mut [u8], books: &mut [u32], map: &mut [u64], bytes: &[u8]) -> Reply
-    requires { ⌜ Whole (now memory) (now books) (now map) ⌝ }
-    ensures { λ r. ⌜ repliedWith r (now (memory .exit)) (now (books .exit)) (now (map .exit))
-        ≡ replayRecord 8 (heapOf (now (memory .entry)) (now (books .entry)) (now (map .entry))) (now (bytes .entry)) ⌝ }
+// The reply to any record, where `live` blocks are live before it.
+fn answer(memory: &mut [u8], books: &mut [u32], map: &mut [u64], bytes: &[u8], live: u32) -> Reply
+    requires { ⌜ Whole (now memory) (now books) (now map) × (live ≡ liveIn (now books) (now map)) ⌝ }
+    ensures { λ r. ⌜ Replies r (now (memory .exit)) (now (books .exit)) (now (map .exit))
+        (replayRecord 8 (heapOf (now (memory .entry)) (now (books .entry)) (now (map .entry))) (now (bytes .entry))) ⌝ }
 {
     if bytes.len() < 16 {
         return Reply {
@@ -212,13 +319,13 @@ fn answer(memory: &mut [u8], books: &mut [u32], map: &mut [u64], bytes: &[u8]) -
             number: 8,
             offset: 0,
             size: 0,
-            live: live_blocks(books, map),
+            live,
         };
     }
     if !well_made(bytes) {
-        return refusal(bytes, 9, live_blocks(books, map));
+        return refusal(bytes, 9, live);
     }
-    answer_call(memory, books, map, bytes)
+    answer_call(memory, books, map, bytes, live)
 }
 
 // The reply's bytes are stored in the output from byte `at` on.
@@ -248,7 +355,7 @@ fn end_of(from: usize, all: usize) -> usize
     from + 16
 }
 
-// Record i of the input is answered, and its reply is stored at its place in the output.
+// Record i of the input is answered, and its reply is stored at its place in the output: how many blocks are live then.
 fn replay_record(
     memory: &mut [u8],
     books: &mut [u32],
@@ -256,20 +363,23 @@ fn replay_record(
     input: &[u8],
     output: &mut [u8],
     i: usize,
-)
+    live: u32,
+) -> u32
     requires { ⌜ Whole (now memory) (now books) (now map) × (16 * i ≤ length (now input))
-        × (16 * i + 16 ≤ length (now output)) ⌝ }
-    ensures { λ _. ⌜ (now (output .exit) ≡ sets (now (output .entry)) (16 * i)
+        × (16 * i + 16 ≤ length (now output)) × (live ≡ liveIn (now books) (now map)) ⌝ }
+    ensures { λ r. ⌜ (now (output .exit) ≡ sets (now (output .entry)) (16 * i)
         (replayRecord 8 (heapOf (now (memory .entry)) (now (books .entry)) (now (map .entry)))
         (recordAt i (now (input .entry))) .reply))
         × (heapOf (now (memory .exit)) (now (books .exit)) (now (map .exit))
         ≡ replayRecord 8 (heapOf (now (memory .entry)) (now (books .entry)) (now (map .entry)))
-        (recordAt i (now (input .entry))) .heap) ⌝ }
+        (recordAt i (now (input .entry))) .heap)
+        × (r ≡ liveIn (now (books .exit)) (now (map .exit))) ⌝ }
 {
     let from = 16 * i;
     let to = end_of(from, input.len());
-    let reply = answer(memory, books, map, &input[from..to]);
+    let reply = answer(memory, books, map, &input[from..to], live);
     put_reply(output, from, reply);
+    reply.live
 }
 
 // Every record of the input is answered in order, a short one at the end too; the replies stand at the front of the
@@ -300,8 +410,9 @@ pub fn replay_records(
             written: 0,
         };
     }
+    let mut live = live_blocks(books, map);
     for i in 0..records {
-        replay_record(memory, books, map, input, output, i);
+        live = replay_record(memory, books, map, input, output, i, live);
     }
     Replayed {
         number: 0,

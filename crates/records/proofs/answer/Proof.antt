@@ -7,7 +7,7 @@ use Rattle.rules.specs.Replay.{replayRecord}
 use borrow.Author.Needs.{needs}
 use Rattle.books.specs.Tests.{held, failed}
 use Rattle.records.specs.declared.Reply.{Reply}
-use Rattle.records.specs.Replies.{replyOf, refusalOf, repliedWith, counted, chosen, passed-over}
+use Rattle.records.specs.Replies.{replyOf, refusalOf, repliedWith, chosen, passed-over}
 use Rattle.records.proofs.answer.Statement.{statement}
 use Rattle.records.proofs.answer.Tie as tie
 
@@ -19,11 +19,39 @@ start c = c .before .before .before .before
 abbrev called : tie.After-slice-known6 → tie.After-answer-call
 called c = c .before .before .before .before .before .before
 
-live-blocks-requires : tie.Need-live-blocks-requires
-live-blocks-requires c κs =
-    let at-start = start (c .before .before .before) in
-    let a = at-start .args in
-    counted (a .memory .now) (a .books .now) (a .map .now) (at-start .pre)
+returns : tie.Need-returns
+unfolding replayRecord
+returns c =
+    let at-start = start (c .before) in
+    let a = at-start .args in (
+      ap (λ (n : ℕ). repliedWith (replyOf 0 8 0 0 n) (a .memory .now) (a .books .now) (a .map .now)) (at-start .pre .1)
+          ∙ chosen _ _ _ (lt-ltb _ _ (c .if1 .taken)),
+      at-start .pre .1,
+    )
+
+well-made-requires : tie.Need-well-made-requires
+well-made-requires c κs = search needs
+
+refusal-requires : tie.Need-refusal-requires
+refusal-requires c κs = search needs
+
+returns-2 : tie.Need-returns-2
+unfolding replayRecord
+returns-2 c =
+    let at-if2 = c .before in
+    let at-well-made = at-if2 .before in
+    let at-if1 = at-well-made .before in
+    let at-start = start (at-if1 .before) in
+    let a = at-start .args in (
+      ap (λ (r : Reply). repliedWith r (a .memory .now) (a .books .now) (a .map .now))
+          (c .refusal .ensures ∙ ap (refusalOf (a .bytes .now) 9) (at-start .pre .1))
+          ∙ passed-over _ _ _ (failed (at-well-made .well-made .ensures) (at-if2 .if2 .taken))
+          ∙ passed-over _ _ _ (le-ltb _ _ (at-if1 .if1 .left)),
+      ap (λ (r : Reply). r .live) (c .refusal .ensures) ∙ at-start .pre .1,
+    )
+
+answer-call-requires : tie.Need-answer-call-requires
+answer-call-requires c κs = search needs
 
 same-length : tie.Need-same-length
 same-length c = search needs
@@ -31,56 +59,8 @@ same-length c = search needs
 same-length-2 : tie.Need-same-length-2
 same-length-2 c = search needs
 
-returns : tie.Need-returns
-unfolding replayRecord
-returns c =
-    let at-if1 = c .before .before .before in
-    let a = start (at-if1 .before) .args in
-    ap (λ (n : ℕ). repliedWith (replyOf 0 8 0 0 n) (a .memory .now) (a .books .now) (a .map .now)) (c .live-blocks .ensures)
-    ∙ chosen _ _ _ (lt-ltb _ _ (at-if1 .if1 .taken))
-
-well-made-requires : tie.Need-well-made-requires
-well-made-requires c κs = search needs
-
-live-blocks-requires-2 : tie.Need-live-blocks-requires-2
-live-blocks-requires-2 c κs =
-    let at-if1 = c .before .before .before .before in
-    let at-start = start (at-if1 .before) in
-    let a = at-start .args in
-    counted (a .memory .now) (a .books .now) (a .map .now) (at-start .pre)
-
-refusal-requires : tie.Need-refusal-requires
-refusal-requires c κs = search needs
-
 same-length-3 : tie.Need-same-length-3
 same-length-3 c = search needs
-
-same-length-4 : tie.Need-same-length-4
-same-length-4 c = search needs
-
-returns-2 : tie.Need-returns-2
-unfolding replayRecord
-returns-2 c =
-    let at-if2 = c .before .before .before .before in
-    let at-well-made = at-if2 .before in
-    let at-if1 = at-well-made .before in
-    let a = start (at-if1 .before) .args in
-    ap (λ (r : Reply). repliedWith r (a .memory .now) (a .books .now) (a .map .now))
-    (c .refusal .ensures ∙ ap (refusalOf (a .bytes .now) 9) (c .before .live-blocks2 .ensures))
-    ∙ passed-over _ _ _ (failed (at-well-made .well-made .ensures) (at-if2 .if2 .taken))
-    ∙ passed-over _ _ _ (le-ltb _ _ (at-if1 .if1 .left))
-
-answer-call-requires : tie.Need-answer-call-requires
-answer-call-requires c κs = search needs
-
-same-length-5 : tie.Need-same-length-5
-same-length-5 c = search needs
-
-same-length-6 : tie.Need-same-length-6
-same-length-6 c = search needs
-
-same-length-7 : tie.Need-same-length-7
-same-length-7 c = search needs
 
 returns-3 : tie.Need-returns-3
 unfolding replayRecord
@@ -89,26 +69,23 @@ returns-3 c =
     let at-if2 = at-answer-call .before .before .before .before in
     let at-well-made = at-if2 .before in
     let at-if1 = at-well-made .before in
-    at-answer-call .answer-call .ensures
-    ∙ chosen _ _ _ (held (at-well-made .well-made .ensures) (at-if2 .if2 .left))
-    ∙ passed-over _ _ _ (le-ltb _ _ (at-if1 .if1 .left))
+    let x = at-answer-call .answer-call in (
+      x .ensures .0
+          ∙ chosen _ _ _ (held (at-well-made .well-made .ensures) (at-if2 .if2 .left))
+          ∙ passed-over _ _ _ (le-ltb _ _ (at-if1 .if1 .left)),
+      x .ensures .1,
+    )
 
 pub answer-spec : {M : Type 1} → statement M
 answer-spec =
     tie.close
     (tie.spec
-    live-blocks-requires
-    same-length
-    same-length-2
     returns
     well-made-requires
-    live-blocks-requires-2
     refusal-requires
-    same-length-3
-    same-length-4
     returns-2
     answer-call-requires
-    same-length-5
-    same-length-6
-    same-length-7
+    same-length
+    same-length-2
+    same-length-3
     returns-3)

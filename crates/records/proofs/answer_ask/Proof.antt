@@ -7,8 +7,8 @@ use Rattle.rules.specs.Outcome.{Outcome, heapOf, outcome}
 use Rattle.rules.specs.Numbers.{ask, blockSize}
 use Rattle.rules.specs.Replay.{calledFor}
 use Rattle.records.specs.Calls.{ask-fair}
-use Rattle.records.specs.declared.Reply.{Reply}
-use Rattle.records.specs.Replies.{repliedWith, counted, small-number, still-whole, called-is}
+use Rattle.records.specs.Replies.{counted, small-number, still-whole, answered}
+use Rattle.records.specs.Live.{AskCounts, ask-counts, in-code}
 use Rattle.records.proofs.answer_ask.Statement.{statement}
 use Rattle.records.proofs.answer_ask.Tie as tie
 
@@ -32,17 +32,20 @@ ask-requires c κs = search needs
 size-at-requires : tie.Need-size-at-requires
 size-at-requires c κs = search needs
 
-live-blocks-requires : tie.Need-live-blocks-requires
-live-blocks-requires c κs =
+live-after-ask-requires : tie.Need-live-after-ask-requires
+live-after-ask-requires c κs =
     let at-ask = asked (c .before .before) in
     let at-index = at-ask .before in
     let at-start = start (at-index .before) in
     let a = at-start .args in
     let x = at-ask .ask in
-    let fair = ask-fair 8 (heapOf (a .memory .now) (a .books .now) (a .map .now)) (at-index .index .result) in
-    counted (x .last .0) (x .last .1 .0) (x .last .1 .1 .0)
-    (still-whole (a .memory .now) (a .books .now) (a .map .now) (x .last .0) (x .last .1 .0) (x .last .1 .1 .0) _
-    (at-start .pre .0) (fair .kept) (ap (λ (y : Outcome). y .heap) (x .ensures)) (x .kept .0) (x .kept .1 .0) (x .kept .1 .1 .0))
+    let h = heapOf (a .memory .now) (a .books .now) (a .map .now) in
+    let fair = ask-fair 8 h (at-index .index .result) in (
+      counted (x .last .0) (x .last .1 .0) (x .last .1 .1 .0)
+          (still-whole (a .memory .now) (a .books .now) (a .map .now) (x .last .0) (x .last .1 .0) (x .last .1 .1 .0) _
+          (at-start .pre .0) (fair .kept) (ap (λ (y : Outcome). y .heap) (x .ensures)) (x .kept .0) (x .kept .1 .0) (x .kept .1 .1 .0)),
+      in-code AskCounts (at-start .pre .2) (x .ensures) (ask-counts h (at-index .index .result) (at-start .pre .0)),
+    )
 
 reply-to-requires : tie.Need-reply-to-requires
 reply-to-requires c κs =
@@ -65,20 +68,23 @@ same-length-3 c = search needs
 
 returns : tie.Need-returns
 returns c =
-    let at-live-blocks = c .before in
-    let at-size-at = at-live-blocks .before .before .before in
+    let at-live = c .before in
+    let at-size-at = at-live .before .before .before in
     let at-ask = asked at-size-at in
     let at-index = at-ask .before in
     let at-link-at = at-index .before in
     let a = start at-link-at .args in
     let x = at-ask .ask in
     let h = heapOf (x .last .0) (x .last .1 .0) (x .last .1 .1 .0) in
-    ap (λ (r : Reply). repliedWith r (x .last .0) (x .last .1 .0) (x .last .1 .1 .0)) (c .reply-to .ensures)
-    ∙ called-is (a .bytes .now) (outcome (x .result) h) (blockSize 8 h (x .result .offset)) (at-size-at .size-at .result)
-    (at-live-blocks .live-blocks .result) (at-size-at .size-at .ensures) (at-live-blocks .live-blocks .ensures)
-    ∙ ap (calledFor 8 (a .bytes .now)) (x .ensures)
-    ∙ ap (λ (n : ℕ). calledFor 8 (a .bytes .now) (ask 8 (heapOf (a .memory .now) (a .books .now) (a .map .now)) n))
-    (at-index .index .ensures .0 ∙ at-link-at .link-at .ensures)
+    let t = answered (a .bytes .now) (outcome (x .result) h) (blockSize 8 h (x .result .offset)) (at-size-at .size-at .result)
+    (at-live .live-after-ask .result) (c .reply-to .result) (c .reply-to .ensures) (at-size-at .size-at .ensures)
+    (at-live .live-after-ask .ensures) in (
+      t .0
+          ∙ ap (calledFor 8 (a .bytes .now)) (x .ensures)
+          ∙ ap (λ (n : ℕ). calledFor 8 (a .bytes .now) (ask 8 (heapOf (a .memory .now) (a .books .now) (a .map .now)) n))
+          (at-index .index .ensures .0 ∙ at-link-at .link-at .ensures),
+      t .1,
+    )
 
 pub answer-ask-spec : {M : Type 1} → statement M
 answer-ask-spec =
@@ -88,7 +94,7 @@ answer-ask-spec =
     index-requires
     ask-requires
     size-at-requires
-    live-blocks-requires
+    live-after-ask-requires
     reply-to-requires
     same-length
     same-length-2

@@ -38,7 +38,8 @@ unfolding replayCall
 returns c =
     let at-answer-ask = asked c in
     let at-if1 = at-answer-ask .before .before .before .before in
-    at-answer-ask .answer-ask .ensures ∙ chosen _ _ _ (eq-eqb _ _ (at-if1 .if1 .taken))
+    let x = at-answer-ask .answer-ask in
+    (x .ensures .0 ∙ chosen _ _ _ (eq-eqb _ _ (at-if1 .if1 .taken)), x .ensures .1)
 
 shared-slice-read-if2 : tie.Need-shared-slice-read-if2
 shared-slice-read-if2 c = search needs
@@ -61,7 +62,8 @@ returns-2 c =
     let at-answer-give-back = given c in
     let at-if2 = at-answer-give-back .before .before .before .before in
     let at-if1 = at-if2 .before .before in
-    at-answer-give-back .answer-give-back .ensures ∙ chosen _ _ _ (eq-eqb _ _ (at-if2 .if2 .taken)) ∙ passed-over _ _ _ (ne-eqb _ _ (at-if1 .if1 .left))
+    let x = at-answer-give-back .answer-give-back in
+    (x .ensures .0 ∙ chosen _ _ _ (eq-eqb _ _ (at-if2 .if2 .taken)) ∙ passed-over _ _ _ (ne-eqb _ _ (at-if1 .if1 .left)), x .ensures .1)
 
 answer-resize-requires : tie.Need-answer-resize-requires
 answer-resize-requires c κs = search needs
@@ -81,7 +83,8 @@ returns-3 c =
     let at-answer-resize = resized c in
     let at-if2 = at-answer-resize .before .before .before .before in
     let at-if1 = at-if2 .before .before in
-    at-answer-resize .answer-resize .ensures ∙ passed-over _ _ _ (ne-eqb _ _ (at-if2 .if2 .left)) ∙ passed-over _ _ _ (ne-eqb _ _ (at-if1 .if1 .left))
+    let x = at-answer-resize .answer-resize in
+    (x .ensures .0 ∙ passed-over _ _ _ (ne-eqb _ _ (at-if2 .if2 .left)) ∙ passed-over _ _ _ (ne-eqb _ _ (at-if1 .if1 .left)), x .ensures .1)
 
 pub answer-call-spec : {M : Type 1} → statement M
 answer-call-spec =

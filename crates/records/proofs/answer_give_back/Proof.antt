@@ -8,8 +8,8 @@ use Rattle.rules.specs.Outcome.{Outcome, heapOf, outcome}
 use Rattle.rules.specs.Numbers.{giveBack, blockSize}
 use Rattle.rules.specs.Replay.{called}
 use Rattle.records.specs.Calls.{back-fair}
-use Rattle.records.specs.declared.Reply.{Reply}
-use Rattle.records.specs.Replies.{repliedWith, counted, small-number, still-whole, called-is}
+use Rattle.records.specs.Replies.{small-number, answered}
+use Rattle.records.specs.Live.{BackCounts, back-counts, in-code, one-live, one-fewer}
 use Rattle.records.proofs.answer_give_back.Statement.{statement}
 use Rattle.records.proofs.answer_give_back.Tie as tie
 
@@ -37,21 +37,24 @@ index-requires c κs = search needs
 give-back-requires : tie.Need-give-back-requires
 give-back-requires c κs = search needs
 
-live-blocks-requires : tie.Need-live-blocks-requires
-live-blocks-requires c κs =
-    let at-give-back = given (c .before .before) in
+-- what the give-back makes of the count, where its buffers are home
+counts : (c : tie.After-slice-known6)
+    → let x = given c .give-back in
+    BackCounts (start (sized (given c .before) .before .before) .args .live) (x .result) (x .last .1 .0) (x .last .1 .1 .0)
+counts c =
+    let at-give-back = given c in
     let at-index = at-give-back .before in
     let at-start = start (sized at-index .before .before) in
     let a = at-start .args in
-    let x = at-give-back .give-back in
-    let fair = back-fair 8 (heapOf (a .memory .now) (a .books .now) (a .map .now)) (at-index .index .result) in
-    counted (x .last .0) (x .last .1 .0) (x .last .1 .1 .0)
-    (still-whole (a .memory .now) (a .books .now) (a .map .now) (x .last .0) (x .last .1 .0) (x .last .1 .1 .0) _
-    (at-start .pre .0) (fair .kept) (ap (λ (y : Outcome). y .heap) (x .ensures)) (x .kept .0) (x .kept .1 .0) (x .kept .1 .1 .0))
+    let h = heapOf (a .memory .now) (a .books .now) (a .map .now) in
+    in-code BackCounts (at-start .pre .2) (at-give-back .give-back .ensures) (back-counts h (at-index .index .result) (at-start .pre .0))
+
+live-after-back-requires : tie.Need-live-after-back-requires
+live-after-back-requires c κs = one-live (given c .give-back .result) (counts c)
 
 reply-to-requires : tie.Need-reply-to-requires
 reply-to-requires c κs =
-    let at-give-back = given (c .before .before .before) in
+    let at-give-back = given (c .before) in
     let at-index = at-give-back .before in
     let at-start = start (sized at-index .before .before) in
     let a = at-start .args in
@@ -70,8 +73,9 @@ same-length-3 c = search needs
 
 returns : tie.Need-returns
 returns c =
-    let at-live-blocks = c .before in
-    let at-give-back = given (at-live-blocks .before .before .before) in
+    let at-live = c .before in
+    let at-home = at-live .before in
+    let at-give-back = given at-home in
     let at-index = at-give-back .before in
     let at-size-at = sized at-index in
     let at-link-at = at-size-at .before .before in
@@ -79,12 +83,15 @@ returns c =
     let x = at-give-back .give-back in
     let g = heapOf (a .memory .now) (a .books .now) (a .map .now) in
     let h = heapOf (x .last .0) (x .last .1 .0) (x .last .1 .1 .0) in
-    ap (λ (r : Reply). repliedWith r (x .last .0) (x .last .1 .0) (x .last .1 .1 .0)) (c .reply-to .ensures)
-    ∙ called-is (a .bytes .now) (outcome (x .result) h) (blockSize 8 g (at-link-at .link-at .result)) (at-size-at .size-at .result)
-    (at-live-blocks .live-blocks .result) (at-size-at .size-at .ensures) (at-live-blocks .live-blocks .ensures)
-    ∙ ap (λ (y : Outcome). called 8 (a .bytes .now) y (blockSize 8 g (at-link-at .link-at .result)))
-    (x .ensures ∙ ap (giveBack 8 g) (at-index .index .ensures .0))
-    ∙ ap (λ (o : ℕ). called 8 (a .bytes .now) (giveBack 8 g o) (blockSize 8 g o)) (at-link-at .link-at .ensures)
+    let t = answered (a .bytes .now) (outcome (x .result) h) (blockSize 8 g (at-link-at .link-at .result)) (at-size-at .size-at .result)
+    (at-live .live-after-back .result) (c .reply-to .result) (c .reply-to .ensures) (at-size-at .size-at .ensures)
+    (at-live .live-after-back .ensures ∙ one-fewer (x .result) (counts at-home)) in (
+      t .0
+          ∙ ap (λ (y : Outcome). called 8 (a .bytes .now) y (blockSize 8 g (at-link-at .link-at .result)))
+          (x .ensures ∙ ap (giveBack 8 g) (at-index .index .ensures .0))
+          ∙ ap (λ (o : ℕ). called 8 (a .bytes .now) (giveBack 8 g o) (blockSize 8 g o)) (at-link-at .link-at .ensures),
+      t .1,
+    )
 
 pub answer-give-back-spec : {M : Type 1} → statement M
 answer-give-back-spec =
@@ -94,7 +101,7 @@ answer-give-back-spec =
     size-at-requires
     index-requires
     give-back-requires
-    live-blocks-requires
+    live-after-back-requires
     reply-to-requires
     same-length
     same-length-2

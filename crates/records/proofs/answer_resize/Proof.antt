@@ -7,8 +7,8 @@ use Rattle.rules.specs.Outcome.{Outcome, heapOf, outcome}
 use Rattle.rules.specs.Numbers.{resize, blockSize}
 use Rattle.rules.specs.Replay.{calledFor}
 use Rattle.records.specs.Calls.{resize-fair}
-use Rattle.records.specs.declared.Reply.{Reply}
-use Rattle.records.specs.Replies.{repliedWith, counted, small-number, still-whole, called-is}
+use Rattle.records.specs.Replies.{counted, small-number, still-whole, answered}
+use Rattle.records.specs.Live.{ResizeCounts, resize-counts, in-code}
 use Rattle.records.proofs.answer_resize.Statement.{statement}
 use Rattle.records.proofs.answer_resize.Tie as tie
 
@@ -42,18 +42,22 @@ resize-requires c κs = search needs
 size-at-requires : tie.Need-size-at-requires
 size-at-requires c κs = search needs
 
-live-blocks-requires : tie.Need-live-blocks-requires
-live-blocks-requires c κs =
+live-after-resize-requires : tie.Need-live-after-resize-requires
+live-after-resize-requires c κs =
     let at-resize = resized (c .before .before) in
     let at-index2 = at-resize .before in
     let at-index = at-index2 .before in
     let at-start = start (read at-index .before) in
     let a = at-start .args in
     let x = at-resize .resize in
-    let fair = resize-fair 8 (heapOf (a .memory .now) (a .books .now) (a .map .now)) (at-index .index .result) (at-index2 .index2 .result) in
-    counted (x .last .0) (x .last .1 .0) (x .last .1 .1 .0)
-    (still-whole (a .memory .now) (a .books .now) (a .map .now) (x .last .0) (x .last .1 .0) (x .last .1 .1 .0) _
-    (at-start .pre .0) (fair .kept) (ap (λ (y : Outcome). y .heap) (x .ensures)) (x .kept .0) (x .kept .1 .0) (x .kept .1 .1 .0))
+    let h = heapOf (a .memory .now) (a .books .now) (a .map .now) in
+    let fair = resize-fair 8 h (at-index .index .result) (at-index2 .index2 .result) in (
+      counted (x .last .0) (x .last .1 .0) (x .last .1 .1 .0)
+          (still-whole (a .memory .now) (a .books .now) (a .map .now) (x .last .0) (x .last .1 .0) (x .last .1 .1 .0) _
+          (at-start .pre .0) (fair .kept) (ap (λ (y : Outcome). y .heap) (x .ensures)) (x .kept .0) (x .kept .1 .0) (x .kept .1 .1 .0)),
+      in-code ResizeCounts (at-start .pre .2) (x .ensures)
+          (resize-counts h (at-index .index .result) (at-index2 .index2 .result) (at-start .pre .0)),
+    )
 
 reply-to-requires : tie.Need-reply-to-requires
 reply-to-requires c κs =
@@ -77,8 +81,8 @@ same-length-3 c = search needs
 
 returns : tie.Need-returns
 returns c =
-    let at-live-blocks = c .before in
-    let at-size-at = at-live-blocks .before .before .before in
+    let at-live = c .before in
+    let at-size-at = at-live .before .before .before in
     let at-resize = resized at-size-at in
     let at-index2 = at-resize .before in
     let at-index = at-index2 .before in
@@ -87,12 +91,15 @@ returns c =
     let a = start at-link-at .args in
     let x = at-resize .resize in
     let h = heapOf (x .last .0) (x .last .1 .0) (x .last .1 .1 .0) in
-    ap (λ (r : Reply). repliedWith r (x .last .0) (x .last .1 .0) (x .last .1 .1 .0)) (c .reply-to .ensures)
-    ∙ called-is (a .bytes .now) (outcome (x .result) h) (blockSize 8 h (x .result .offset)) (at-size-at .size-at .result)
-    (at-live-blocks .live-blocks .result) (at-size-at .size-at .ensures) (at-live-blocks .live-blocks .ensures)
-    ∙ ap (calledFor 8 (a .bytes .now)) (x .ensures)
-    ∙ ap₂ (λ (o n : ℕ). calledFor 8 (a .bytes .now) (resize 8 (heapOf (a .memory .now) (a .books .now) (a .map .now)) o n))
-    (at-index .index .ensures .0 ∙ at-link-at .link-at .ensures) (at-index2 .index2 .ensures .0 ∙ at-link-at2 .link-at2 .ensures)
+    let t = answered (a .bytes .now) (outcome (x .result) h) (blockSize 8 h (x .result .offset)) (at-size-at .size-at .result)
+    (at-live .live-after-resize .result) (c .reply-to .result) (c .reply-to .ensures) (at-size-at .size-at .ensures)
+    (at-live .live-after-resize .ensures) in (
+      t .0
+          ∙ ap (calledFor 8 (a .bytes .now)) (x .ensures)
+          ∙ ap₂ (λ (o n : ℕ). calledFor 8 (a .bytes .now) (resize 8 (heapOf (a .memory .now) (a .books .now) (a .map .now)) o n))
+          (at-index .index .ensures .0 ∙ at-link-at .link-at .ensures) (at-index2 .index2 .ensures .0 ∙ at-link-at2 .link-at2 .ensures),
+      t .1,
+    )
 
 pub answer-resize-spec : {M : Type 1} → statement M
 answer-resize-spec =
@@ -104,7 +111,7 @@ answer-resize-spec =
     index-requires-2
     resize-requires
     size-at-requires
-    live-blocks-requires
+    live-after-resize-requires
     reply-to-requires
     same-length
     same-length-2

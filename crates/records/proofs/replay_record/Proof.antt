@@ -50,10 +50,14 @@ returns c =
     let at-end-of = at-answer .before .before .before .before .before in
     let at-start = at-end-of .before .before .before .before .before .before in
     let a = at-start .args in
-    let e = at-answer .answer .ensures
+    let x = at-answer .answer in
+    let e = x .ensures .0
     ∙ ap (replayRecord 8 (heapOf (a .memory .now) (a .books .now) (a .map .now)))
-    (part-is (a .input .now) (a .i) (at-end-of .end-of .result) (at-end-of .end-of .ensures)) in
-    (at-put-reply .put-reply .ensures ∙ ap (λ (x : Replied). sets (a .output .now) (16 * a .i) (x .reply)) e, ap (λ (x : Replied). x .heap) e)
+    (part-is (a .input .now) (a .i) (at-end-of .end-of .result) (at-end-of .end-of .ensures)) in (
+      at-put-reply .put-reply .ensures ∙ ap (λ (y : Replied). sets (a .output .now) (16 * a .i) (y .reply)) e,
+      ap (λ (y : Replied). y .heap) e,
+      x .ensures .1,
+    )
 
 pub replay-record-spec : {M : Type 1} → statement M
 replay-record-spec =

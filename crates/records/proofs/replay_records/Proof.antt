@@ -7,26 +7,31 @@ use native.Mathlib.Omega.{arith}
 use lib.ListN.{length}
 use borrow.Author.Needs.{needs}
 use Rattle.rules.specs.Outcome.{heapOf}
-use Rattle.records.specs.Replies.{Whole, still-whole}
+use Rattle.records.specs.Replies.{Whole, liveIn, counted, still-whole}
 use Rattle.records.specs.Pieces.{Going, begin, turn, stored, record-sent, recordAt, no-heap, no-room, all-done}
 use Rattle.records.proofs.replay_records.Statement.{statement}
 use Rattle.records.proofs.replay_records.Tie as tie
 
 abbrev Inv-loop : tie.InvT-loop
-Inv-loop memory₀ books₀ map₀ input output₀ number records i₀ memory books map output i =
+Inv-loop memory₀ books₀ map₀ input output₀ number records live₀ i₀ memory books map output live i =
     Going records (heapOf memory₀ books₀ map₀) input output₀ (heapOf memory books map) output i
     × Whole memory books map
     × (length memory ≡ length memory₀)
     × (length books ≡ length books₀)
     × (length map ≡ length map₀)
     × (i ≤ records)
+    × (live ≡ liveIn books map)
 
 abbrev μ-loop : tie.MeasureT-loop
-μ-loop memory₀ books₀ map₀ input output₀ number records i₀ memory books map output i = records - i
+μ-loop memory₀ books₀ map₀ input output₀ number records live₀ i₀ memory books map output live i = records - i
 
 -- the function's start, seen from its first call; an argument more shifts this line alone
 abbrev start : tie.After-shape-number Inv-loop μ-loop → tie.Start Inv-loop μ-loop
 start c = c .before .before .before .before .before .before .before .before .before
+
+-- the tests, seen from where the live blocks are counted
+abbrev tested : tie.After-live-blocks Inv-loop μ-loop → tie.Else2 Inv-loop μ-loop
+tested c = c .before .before .before
 
 -- the turn's beginning, seen from its call
 abbrev begun : tie.After-replay-record-arg4 Inv-loop μ-loop → tie.At-loop Inv-loop μ-loop
@@ -77,15 +82,22 @@ returns-2 c =
     no-room (heapOf (a .memory .now) (a .books .now) (a .map .now)) (a .input .now) (a .output .now)
     (sym (at-shape-number .shape-number .ensures .0) ∙ c .before .if1 .left) (c .if2 .taken)
 
+live-blocks-requires : tie.Need-live-blocks-requires Inv-loop μ-loop
+live-blocks-requires c κs =
+    let at-if1 = c .before .before .before in
+    let at-shape-number = at-if1 .before in
+    let a = start at-shape-number .args in
+    counted (a .memory .now) (a .books .now) (a .map .now) (at-shape-number .shape-number .ensures .1 (at-if1 .if1 .left))
+
 loop-holds : tie.Need-loop-holds Inv-loop μ-loop
 loop-holds c =
-    let at-shape-number = c .before .before in
-    (begin, at-shape-number .shape-number .ensures .1 (c .before .if1 .left), refl, refl, refl, omega arith)
+    let at-if1 = tested c .before in
+    (begin, at-if1 .before .shape-number .ensures .1 (at-if1 .if1 .left), refl, refl, refl, omega arith, c .live-blocks .ensures)
 
 replay-record-requires : tie.Need-replay-record-requires Inv-loop μ-loop
 replay-record-requires c κs =
     let p = begun c .loop in
-    (p .inv .1, omega arith, omega (arith, p .inv .0 .long))
+    (p .inv .1, omega arith, omega (arith, p .inv .0 .long), p .inv .6)
 
 add-i : tie.Need-add-i Inv-loop μ-loop
 add-i c = omega arith
@@ -97,7 +109,7 @@ loop-again : tie.Need-loop-again Inv-loop μ-loop
 loop-again c =
     let at-replay-record = replayed c in
     let at-loop = begun (at-replay-record .before) in
-    let a = start (at-loop .before .before .before) .args in
+    let a = start (tested (at-loop .before) .before .before) .args in
     let p = at-loop .loop in
     let x = at-replay-record .replay-record in
     let t = record-sent (heapOf (p .memory) (p .books) (p .map)) (recordAt (p .i) (a .input .now)) in (
@@ -108,10 +120,11 @@ loop-again c =
       x .kept .1 .0 ∙ p .inv .3,
       x .kept .1 .1 .0 ∙ p .inv .4,
       omega arith,
+      x .ensures .2,
     )
 
-mul-t16 : tie.Need-mul-t16 Inv-loop μ-loop
-mul-t16 c = omega arith
+mul-t17 : tie.Need-mul-t17 Inv-loop μ-loop
+mul-t17 c = omega arith
 
 same-length-7 : tie.Need-same-length-7 Inv-loop μ-loop
 same-length-7 c = c .before .loop .inv .2
@@ -127,7 +140,7 @@ same-length-10 c = c .before .loop .inv .0 .long
 
 returns-3 : tie.Need-returns-3 Inv-loop μ-loop
 returns-3 c =
-    let at-if2 = c .before .before in
+    let at-if2 = tested (c .before .before) in
     let at-if1 = at-if2 .before in
     let at-shape-number = at-if1 .before in
     let a = start at-shape-number .args in
@@ -154,12 +167,13 @@ replay-records-spec =
     same-length-5
     same-length-6
     returns-2
+    live-blocks-requires
     loop-holds
     replay-record-requires
     add-i
     loop-less
     loop-again
-    mul-t16
+    mul-t17
     same-length-7
     same-length-8
     same-length-9
