@@ -152,7 +152,7 @@ unfoldable pub zeros : (ℕ → ℕ) → ℕ → Bool
 zeros w zero = true
 zeros w (suc n) = zeros w n && eqb (w n) 0
 
-each-zero : (w : ℕ → ℕ) (n : ℕ) → zeros w n ≡ true → (i : ℕ) → i < n → w i ≡ 0
+pub each-zero : (w : ℕ → ℕ) (n : ℕ) → zeros w n ≡ true → (i : ℕ) → i < n → w i ≡ 0
 unfolding zeros
 each-zero w zero e i h = absurd (not-suc-le-zero h)
 each-zero w (suc n) e i h =
@@ -163,15 +163,31 @@ each-zero w (suc n) e i h =
     go last rest (yes q) = ap w q ∙ last
     go last rest (no q) = rest (omega arith)
 
--- no bit of pool p is set
+-- a word of zeros has no bit set
+pub no-bit : (j : ℕ) → bit 0 j ≡ 0
+unfolding bit
+no-bit j = rw (zero-div (2 ^ j))
+
+-- ---- no bit of pool p is set
 abbrev pub noneSet : List ℕ → ℕ → Bool
-noneSet m p = zeros (λ i. at m (8 * p + i)) 8
+noneSet m p =
+    eqb (at m (8 * p)) 0
+    && eqb (at m (8 * p + 1)) 0
+    && eqb (at m (8 * p + 2)) 0
+    && eqb (at m (8 * p + 3)) 0
+    && eqb (at m (8 * p + 4)) 0
+    && eqb (at m (8 * p + 5)) 0
+    && eqb (at m (8 * p + 6)) 0
+    && eqb (at m (8 * p + 7)) 0
 
 -- so none of its blocks is live
 module _ (m : List ℕ) (p : ℕ) (e : noneSet m p ≡ true) where
+  eight : zeros (λ i. at m (8 * p + i)) 8 ≡ true
+  unfolding zeros
+  eight = rw add-zero e
+
   not-set : (k : ℕ) → k < 512 → isSet m p k ≡ false
-  unfolding bit
-  not-set k h = rw (each-zero (λ i. at m (8 * p + i)) 8 e (k / 64) (omega arith), zero-div (2 ^ (k % 64)))
+  not-set k h = rw (each-zero (λ i. at m (8 * p + i)) 8 eight (k / 64) (omega arith), no-bit (k % 64))
 
   pub none-rolled : (s k n : ℕ) → k + n ≤ 512 → rollBlocks m p s k n ≡ []
   unfolding rollBlocks

@@ -33,6 +33,7 @@ use Rattle.bits.specs.Map.{length-put}
 use Rattle.books.specs.Known.{LiveBlock, live-is}
 use Rattle.books.specs.Starts.{first-block}
 use Rattle.books.specs.Tests.{both}
+use Rattle.loops.specs.Word.{zeros, each-zero, no-bit}
 use Rattle.plans.specs.Class.{Range, ranged}
 use Rattle.plans.specs.Fits.{FitsAsk, Spare, fits-ask}
 use Rattle.records.specs.Calls.{Kept, ask-fair, back-fair, resize-fair}
@@ -43,14 +44,14 @@ use Rattle.records.specs.Classes.{Still, NotAnew, ask-still, listed-map,
 -- of pool p's eight words in the map k, the first is 1 and the others are 0: no block but its first is live
 abbrev pub aloneIn : List ℕ → ℕ → Bool
 aloneIn k p =
-    eqb (at k (8 * p)) 1
-    && eqb (at k (8 * p + 1)) 0
+    eqb (at k (8 * p + 1)) 0
     && eqb (at k (8 * p + 2)) 0
     && eqb (at k (8 * p + 3)) 0
     && eqb (at k (8 * p + 4)) 0
     && eqb (at k (8 * p + 5)) 0
     && eqb (at k (8 * p + 6)) 0
     && eqb (at k (8 * p + 7)) 0
+    && eqb (at k (8 * p)) 1
 
 -- the block at o, which an ask has handed out, is not the first of its pool; or it is, and is alone there: so no
 -- change of a pool's class made another block count, or cease to
@@ -70,44 +71,26 @@ pub record ResizeCounts (live : ℕ) (a : Answer) (b k : List ℕ) : Type 0 wher
   pub refused : (a .number ≡ 0 → ⊥) → (a .number ≡ 6 → ⊥) → live ≡ liveIn b k
   pub done : a .number ≡ 0 → (a .offset % 4096 ≡ 48 → ⊥) → live ≡ liveIn b k
 
--- ---- a pool whose first block is alone
-module _ (k : List ℕ) (p : ℕ) where
-  -- what a test of the first n words says
-  abbrev Words : ℕ → Bool → Type 0
-  Words n t = t ≡ true → (at k (8 * p) ≡ 1) × ((i : ℕ) → 1 ≤ i → i < n → at k (8 * p + i) ≡ 0)
+-- ---- in a pool whose first block is alone no other block is live
+module _ (k : List ℕ) (p : ℕ) (e : aloneIn k p ≡ true) where
+  abbrev later : ℕ → ℕ
+  later i = at k (8 * p + suc i)
 
-  one-word : Words 1 (eqb (at k (8 * p)) 1)
-  one-word e = (eqb-true _ 1 e, λ i low high. absurd (omega arith))
+  seven : (zeros later 7 ≡ true) × (eqb (at k (8 * p)) 1 ≡ true)
+  unfolding zeros
+  seven = both _ (eqb (at k (8 * p)) 1) e
 
-  next-word : (n : ℕ) (t : Bool) → Words n t → Words (n + 1) (t && eqb (at k (8 * p + n)) 0)
-  next-word n t before e =
-      let h = both t (eqb (at k (8 * p + n)) 0) e in
-      let b = before (h .0) in
-      (b .0, λ i low high. go (h .1) (b .1) i low high (ℕ-discrete i n))
-    where
-      go : eqb (at k (8 * p + n)) 0 ≡ true → ((i : ℕ) → 1 ≤ i → i < n → at k (8 * p + i) ≡ 0)
-          → (i : ℕ) → 1 ≤ i → i < n + 1 → Dec (i ≡ n) → at k (8 * p + i) ≡ 0
-      go last b i low high (yes q) = ap (λ (x : ℕ). at k (8 * p + x)) q ∙ eqb-true _ 0 last
-      go last b i low high (no d) = b i low (omega arith)
-
-  eight-words : Words 8 (aloneIn k p)
-  eight-words = next-word 7 _ (next-word 6 _ (next-word 5 _ (next-word 4 _ (next-word 3 _ (next-word 2 _ (next-word 1 _ one-word))))))
-
-  -- so no other block is live
-  alone-there : aloneIn k p ≡ true → (j : ℕ) → 1 ≤ j → j < 512 → isSet k p j ≡ false
+  alone-there : (j : ℕ) → 1 ≤ j → j < 512 → isSet k p j ≡ false
   unfolding bit putBit
-  alone-there e j low high = go (ℕ-discrete (j / 64) 0)
+  alone-there j low high = go (ℕ-discrete (j / 64) 0)
     where
-      no-bit : (t : ℕ) → bit 0 t ≡ 0
-      no-bit t = rw (zero-div (2 ^ t))
-
       go : Dec (j / 64 ≡ 0) → isSet k p j ≡ false
       go (yes z) =
-          let w : at k (mapWord p j) ≡ 1 = ap (at k) (omega arith) ∙ eight-words e .0 in
+          let w : at k (mapWord p j) ≡ 1 = ap (at k) (omega arith) ∙ eqb-true (at k (8 * p)) 1 (seven .1) in
           let d : bit 1 (j % 64) ≡ bit 0 (j % 64) = put-other 0 0 (j % 64) 1 (omega arith) (omega arith) in
           rw (w, d, no-bit (j % 64))
       go (no n) =
-          let w : at k (mapWord p j) ≡ 0 = eight-words e .1 (j / 64) (omega arith) (omega arith) in
+          let w : at k (mapWord p j) ≡ 0 = ap (at k) (omega arith) ∙ each-zero later 7 (seven .0) (j / 64 - 1) (omega arith) in
           rw (w, no-bit (j % 64))
 
 -- ---- the steps, over a heap of A arenas of P pools: the roll has two words for each live block

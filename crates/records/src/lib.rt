@@ -117,15 +117,15 @@ fn alone(map: &[u64], pool: usize) -> bool
     requires { ⌜ 8 * pool + 8 ≤ length (now map) ⌝ }
     ensures { λ r. ⌜ r ≡ aloneIn (now (map .entry)) pool ⌝ }
 {
-    let first = 8 * pool;
-    (map[first] == 1)
-        & (map[first + 1] == 0)
-        & (map[first + 2] == 0)
-        & (map[first + 3] == 0)
-        & (map[first + 4] == 0)
-        & (map[first + 5] == 0)
-        & (map[first + 6] == 0)
-        & (map[first + 7] == 0)
+    let word = 8 * pool;
+    (map[word + 1] == 0)
+        & (map[word + 2] == 0)
+        & (map[word + 3] == 0)
+        & (map[word + 4] == 0)
+        & (map[word + 5] == 0)
+        & (map[word + 6] == 0)
+        & (map[word + 7] == 0)
+        & (map[word] == 1)
 }
 
 // The block at the offset, which an ask has handed out, is not the first of its pool, or is alone there. An ask that
