@@ -1,6 +1,7 @@
 /* 01 read once more, in C: every check at every call, each step decided before it is written. Nothing is proved of it;
- * bench/verify.c holds it to the library's answers. Its times say what the checks themselves cost. Compiled with
- * CHECKS(name) for the names of its calls. */
+ * bench/verify.c holds it to the library's answers. Its times say what the checks themselves cost. Roll call is here
+ * twice, by the library's passes over the map and by a plain loop. Compiled with CHECKS(name) for the names of its
+ * calls. */
 #include "checks.h"
 
 #include <stdbool.h>
@@ -396,6 +397,39 @@ INLINE uint32_t back_step(const struct heap *h, size_t offset, uint32_t k)
 
 /* ---- roll call */
 
+/* No bit of pool p is set, be it at a block or at none. */
+INLINE bool none_set(const struct heap *h, uint32_t p)
+{
+    const uint64_t *m = map_word(h, p, 0);
+    return (m[0] | m[1] | m[2] | m[3] | m[4] | m[5] | m[6] | m[7]) == 0;
+}
+
+/* Offset and size of each live block of pool p, from set bit to set bit; the roll's end after them. A bit whose block
+ * would start past the last one is at no block, and so are all after it. */
+INLINE uint32_t *put_pool(const struct heap *h, uint32_t p, uint32_t *roll)
+{
+    const uint64_t *word = map_word(h, p, 0);
+    uint32_t size = size_of(h->pool[p].class), first = POOL_BYTES * p + FIRST_BLOCK, last = POOL_BYTES * (p + 1) - size;
+    for (; first <= last; first += 64 * size, word++) {
+        for (uint64_t left = *word; left != 0; left &= left - 1) {
+            uint32_t offset = first + (uint32_t)__builtin_ctzll(left) * size;
+            if (offset > last)
+                return roll;
+            *roll++ = offset;
+            *roll++ = size;
+        }
+    }
+    return roll;
+}
+
+INLINE uint32_t *put_roll(const struct heap *h, uint32_t *roll)
+{
+    for (uint32_t p = 0; p < h->all; p++)
+        if (!none_set(h, p) && h->pool[p].class <= LAST_CLASS)
+            roll = put_pool(h, p, roll);
+    return roll;
+}
+
 /* The live blocks among 64w to 64w + 63 of pool p, where a pool has so many blocks. */
 INLINE uint64_t live_word(const struct heap *h, uint32_t p, uint32_t w, uint32_t blocks)
 {
@@ -403,11 +437,12 @@ INLINE uint64_t live_word(const struct heap *h, uint32_t p, uint32_t w, uint32_t
     return blocks - 64 * w < 64 ? word & (((uint64_t)1 << (blocks - 64 * w)) - 1) : word;
 }
 
-INLINE uint32_t count_live(const struct heap *h)
+/* How many blocks are live. Pools with no bit set are passed over where that is wanted. */
+INLINE uint32_t count_live(const struct heap *h, bool pass_over)
 {
     uint32_t live = 0;
     for (uint32_t p = 0; p < h->all; p++) {
-        if (h->pool[p].class > LAST_CLASS)
+        if ((pass_over && none_set(h, p)) || h->pool[p].class > LAST_CLASS)
             continue;
         uint32_t blocks = (POOL_BYTES - FIRST_BLOCK) / size_of(h->pool[p].class);
         for (uint32_t w = 0; 64 * w < blocks; w++) {
@@ -419,7 +454,8 @@ INLINE uint32_t count_live(const struct heap *h)
     return live;
 }
 
-INLINE void put_roll(const struct heap *h, uint32_t *roll)
+/* The same roll by a plain loop: every word of every pool that has a class, without the bits past its last block. */
+INLINE void put_plain_roll(const struct heap *h, uint32_t *roll)
 {
     for (uint32_t p = 0; p < h->all; p++) {
         if (h->pool[p].class > LAST_CLASS)
@@ -546,9 +582,22 @@ heskavern_answer CHECKS(roll_call)(const uint8_t *memory, size_t memory_bytes, c
     uint32_t number = open_heap(&h, memory, memory_bytes, books, books_words, map, map_words);
     if (number != HESKAVERN_DONE)
         return answer(number, 0);
-    uint32_t live = count_live(&h);
+    if (roll_words < HESKAVERN_ROLL_WORDS(h.arenas, h.pools) && roll_words < 2 * (size_t)count_live(&h, true))
+        return answer(HESKAVERN_DOES_NOT_FIT, 0);
+    return answer(HESKAVERN_DONE, (uint32_t)(put_roll(&h, roll) - roll) / 2);
+}
+
+heskavern_answer CHECKS(plain_roll_call)(const uint8_t *memory, size_t memory_bytes, const uint32_t *books,
+                                         size_t books_words, const uint64_t *map, size_t map_words, uint32_t *roll,
+                                         size_t roll_words)
+{
+    struct heap h;
+    uint32_t number = open_heap(&h, memory, memory_bytes, books, books_words, map, map_words);
+    if (number != HESKAVERN_DONE)
+        return answer(number, 0);
+    uint32_t live = count_live(&h, false);
     if (roll_words < 2 * (size_t)live)
         return answer(HESKAVERN_DOES_NOT_FIT, 0);
-    put_roll(&h, roll);
+    put_plain_roll(&h, roll);
     return answer(HESKAVERN_DONE, live);
 }

@@ -18,3 +18,8 @@ heskavern_answer CHECKS(write)(uint8_t *memory, size_t memory_bytes, const uint3
 heskavern_answer CHECKS(roll_call)(const uint8_t *memory, size_t memory_bytes, const uint32_t *books,
                                    size_t books_words, const uint64_t *map, size_t map_words, uint32_t *roll,
                                    size_t roll_words);
+
+/* The roll call by a plain loop: the live blocks are always counted first, and no pool is passed over. */
+heskavern_answer CHECKS(plain_roll_call)(const uint8_t *memory, size_t memory_bytes, const uint32_t *books,
+                                         size_t books_words, const uint64_t *map, size_t map_words, uint32_t *roll,
+                                         size_t roll_words);

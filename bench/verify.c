@@ -1,6 +1,7 @@
 /* Holds bench/checks.c, by its names CHECKS(name), to the library: verify SEED CALLS. Both get the same random calls
  * over the same buffers, on sound books and on damaged ones, and must give the same number and value and leave the same
- * memory, books, map and roll. */
+ * memory, books, map and roll. Fails also where the calls never met a number, a half-done resize, or one of the roll
+ * calls over one of the kinds of map with one of the kinds of room. */
 #include "checks.h"
 #include "random.h"
 
@@ -10,7 +11,9 @@
 #include <string.h>
 
 enum { MOST_POOLS = 64, MOST_HELD = 4096 };
-enum { FORMAT, ASK, GIVE_BACK, RESIZE, VIEW_SIZE, WRITE, ROLL_CALL, CALLS };
+enum { FORMAT, ASK, GIVE_BACK, RESIZE, VIEW_SIZE, WRITE, ROLL_CALL, PLAIN_ROLL_CALL, CALLS };
+enum { AT_BLOCKS, PAST_THE_LAST, NO_CLASS, WHOLE_WORDS, LAST_WORD, CROWDED, MAPS };
+enum { FOR_ALL, MORE, ENOUGH, ONE_TOO_FEW, FEWER, ROOMS };
 
 struct buffers {
     uint8_t memory[MOST_POOLS * 4096];
@@ -23,12 +26,32 @@ struct call {
     unsigned kind;
     size_t memory_bytes, books_words, map_words, roll_words;
     size_t x, y;            /* A and P; or a size; or an offset, and a size or a text's length */
+    uint32_t live;          /* of a roll call: the live blocks that it meets, and what is in the map */
+    bool in_map[MAPS];
+};
+
+static const char *const names[CALLS] = {"format", "ask", "give back", "resize", "view_size", "write", "roll call",
+                                         "plain roll call"};
+static const char *const maps[MAPS] = {
+    [AT_BLOCKS] = "bits at blocks alone",
+    [PAST_THE_LAST] = "bits past a pool's last block",
+    [NO_CLASS] = "bits of a pool of class above 63",
+    [WHOLE_WORDS] = "whole words of ones",
+    [LAST_WORD] = "a pool's live blocks in its eighth word alone",
+    [CROWDED] = "most blocks live that there could be",
+};
+static const char *const rooms[ROOMS] = {
+    [FOR_ALL] = "every block",
+    [MORE] = "more than are live",
+    [ENOUGH] = "just these",
+    [ONE_TOO_FEW] = "a word less",
+    [FEWER] = "fewer still",
 };
 
 static struct buffers library, checks;
 static size_t arenas, pools;
 static uint32_t held[MOST_HELD], held_count;    /* offsets that were handed out, as far as the answers tell */
-static unsigned long met[8], half_done;
+static unsigned long met[8], half_done, rolls_met[CALLS][MAPS][ROOMS];
 static uint8_t text[600];
 
 #define LENT(b) (b)->memory, c->memory_bytes, (b)->books, c->books_words, (b)->map, c->map_words
@@ -55,7 +78,8 @@ static heskavern_answer by_checks(struct buffers *b, const struct call *c)
     case RESIZE: return CHECKS(resize)(LENT(b), c->x, c->y);
     case VIEW_SIZE: return CHECKS(view_size)(LENT(b), c->x);
     case WRITE: return CHECKS(write)(LENT(b), c->x, text, c->y);
-    default: return CHECKS(roll_call)(LENT(b), b->roll, c->roll_words);
+    case ROLL_CALL: return CHECKS(roll_call)(LENT(b), b->roll, c->roll_words);
+    default: return CHECKS(plain_roll_call)(LENT(b), b->roll, c->roll_words);
     }
 }
 
@@ -74,10 +98,58 @@ static size_t random_offset(void)
                          : 4096 * below((uint32_t)(arenas * pools)) + 48 + 8 * below(506);
 }
 
+/* Where the books have the class of pool p. */
+static size_t class_word(size_t p)
+{
+    return 72 + 8 * arenas + 8 * p + 4;
+}
+
+/* What a roll call is to meet, bit by bit. */
+static void look(struct call *c)
+{
+    for (size_t p = 0; p < arenas * pools; p++) {
+        uint32_t class = library.books[class_word(p)], blocks = class > 63 ? 0 : 4048 / (8 * (class + 1)), lowest = 512;
+        for (uint32_t k = 512; k-- > 0;) {
+            uint64_t word = library.map[8 * p + k / 64];
+            if ((word >> k % 64 & 1) == 0)
+                continue;
+            lowest = k;
+            c->live += k < blocks;
+            c->in_map[PAST_THE_LAST] |= class <= 63 && k >= blocks;
+            c->in_map[NO_CLASS] |= class > 63;
+            c->in_map[WHOLE_WORDS] |= word == UINT64_MAX;
+        }
+        c->in_map[LAST_WORD] |= lowest >= 448 && lowest < blocks;
+    }
+    c->in_map[AT_BLOCKS] = !c->in_map[PAST_THE_LAST] && !c->in_map[NO_CLASS];
+    c->in_map[CROWDED] = 4 * c->live > HESKAVERN_ROLL_WORDS(arenas, pools);
+}
+
+/* Roll words: about as many as for every block, about as many as for the live ones, or any. */
+static size_t random_room(uint32_t live)
+{
+    uint32_t most = (uint32_t)HESKAVERN_ROLL_WORDS(arenas, pools);
+    switch (below(6)) {
+    case 0: return most;
+    case 1: return most - below(3);
+    case 2: return 2 * live;
+    case 3: return 2 * live - (live != 0);
+    case 4: return below(2 * live + 4);
+    default: return below(most);
+    }
+}
+
+/* Both rolls get words that no roll call writes, so that whatever it writes is seen. */
+static void blank_rolls(void)
+{
+    memset(library.roll, 0xff, sizeof *library.roll * HESKAVERN_ROLL_WORDS(arenas, pools));
+    memset(checks.roll, 0xff, sizeof *checks.roll * HESKAVERN_ROLL_WORDS(arenas, pools));
+}
+
 static struct call random_call(void)
 {
-    static const uint8_t kinds[] = {ASK,       ASK,    ASK,    ASK,       ASK,   GIVE_BACK, GIVE_BACK,
-                                    GIVE_BACK, RESIZE, RESIZE, VIEW_SIZE, WRITE, ROLL_CALL};
+    static const uint8_t kinds[] = {ASK,    ASK,    ASK,       ASK,   ASK,       GIVE_BACK,      GIVE_BACK, GIVE_BACK,
+                                    RESIZE, RESIZE, VIEW_SIZE, WRITE, ROLL_CALL, PLAIN_ROLL_CALL};
     struct call c = {.kind = kinds[below(sizeof kinds)],
                      .memory_bytes = arenas * pools * 4096,
                      .books_words = 72 + 8 * arenas + 8 * arenas * pools,
@@ -88,7 +160,11 @@ static struct call random_call(void)
         c.kind = FORMAT, c.x = below(4) == 0 ? below(18) : arenas, c.y = below(4) == 0 ? below(66) : pools;
     if (c.kind == ASK)
         c.x = random_size();
-    c.roll_words = below(4) == 0 ? below(200) : 2 * 506 * arenas * pools;
+    if (c.kind >= ROLL_CALL) {
+        look(&c);
+        c.roll_words = random_room(c.live);
+        blank_rolls();
+    }
     if (below(200) == 0)
         *(below(3) == 0 ? &c.memory_bytes : below(2) == 0 ? &c.books_words : &c.map_words) -= 1;
     if (below(2000) == 0)
@@ -111,18 +187,41 @@ static uint32_t odd_word(void)
     }
 }
 
-/* Damages a word of the books, a bit of the map or a link, the same in both. */
+/* Most pools get blocks of 8 bytes, all of them live and bits past them besides, the same in both. */
+static void crowd(void)
+{
+    for (size_t p = 0; p < arenas * pools; p++) {
+        if (below(8) == 0)
+            continue;
+        library.books[class_word(p)] = checks.books[class_word(p)] = 0;
+        memset(&library.map[8 * p], 0xff, 8 * sizeof *library.map);
+        memset(&checks.map[8 * p], 0xff, 8 * sizeof *checks.map);
+    }
+}
+
+/* Damages a word of the books, a pool's class, a bit or a word of the map or a link, the same in both. */
 static void damage(void)
 {
-    size_t words = 72 + 8 * arenas + 8 * arenas * pools, at;
+    size_t words = 72 + 8 * arenas + 8 * arenas * pools, p = below((uint32_t)(arenas * pools)), at;
     uint32_t word = odd_word();
-    switch (below(4)) {
+    switch (below(8)) {
     case 0:
-        at = 8 * below((uint32_t)(arenas * pools));
-        library.map[at + below(1 + below(8))] ^= (uint64_t)1 << below(64);
-        memcpy(checks.map, library.map, sizeof library.map);
+        at = 8 * p + below(1 + below(8));
+        library.map[at] = checks.map[at] = library.map[at] ^ (uint64_t)1 << below(64);
         break;
     case 1:
+        at = 8 * p + (below(2) == 0 ? 7 : below(8));
+        if (below(2) == 0)
+            memset(&library.map[8 * p], 0, 8 * sizeof *library.map);
+        library.map[at] = UINT64_MAX;
+        memcpy(&checks.map[8 * p], &library.map[8 * p], 8 * sizeof *library.map);
+        break;
+    case 2:
+        at = class_word(p);
+        library.books[at] = checks.books[at] = below(3) == 0 ? between(62, 65) : below(2) == 0 ? below(64) : word;
+        break;
+    case 3:
+    case 4:
         at = held_count != 0 ? held[below(held_count)] : 48;
         memcpy(library.memory + at, &word, sizeof word);
         memcpy(checks.memory + at, &word, sizeof word);
@@ -150,21 +249,34 @@ static void fresh(void)
 static bool same(const struct call *c, heskavern_answer x, heskavern_answer y)
 {
     const char *what = x.number != y.number ? "numbers" : x.value != y.value ? "values" : NULL;
-    size_t bytes = 4096 * arenas * pools;
+    size_t bytes = 4096 * arenas * pools, roll_bytes = sizeof *library.roll * HESKAVERN_ROLL_WORDS(arenas, pools);
     if (memcmp(library.memory, checks.memory, bytes) != 0)
         what = "memory";
     if (memcmp(library.books, checks.books, sizeof library.books) != 0)
         what = "books";
     if (memcmp(library.map, checks.map, sizeof library.map) != 0)
         what = "map";
-    if (c->kind == ROLL_CALL && memcmp(library.roll, checks.roll, sizeof library.roll) != 0)
+    if (c->kind >= ROLL_CALL && memcmp(library.roll, checks.roll, roll_bytes) != 0)
         what = "roll";
     if (what == NULL)
         return true;
-    static const char *names[CALLS] = {"format", "ask", "give back", "resize", "view_size", "write", "roll call"};
     printf("bench/verify: %s differ after %s (%zu, %zu), A = %zu, P = %zu: the library gives %u %u, checks.c %u %u\n",
            what, names[c->kind], c->x, c->y, arenas, pools, x.number, x.value, y.number, y.value);
     return false;
+}
+
+/* Counts a roll call that was done or did not fit. */
+static void note_roll(const struct call *c)
+{
+    size_t words = c->roll_words, needed = 2 * (size_t)c->live, room = FEWER;
+    if (words >= HESKAVERN_ROLL_WORDS(arenas, pools))
+        room = FOR_ALL;
+    else if (words >= needed)
+        room = words == needed ? ENOUGH : MORE;
+    else if (words + 1 == needed)
+        room = ONE_TOO_FEW;
+    for (size_t m = 0; m < MAPS; m++)
+        rolls_met[c->kind][m][room] += c->in_map[m];
 }
 
 /* Keeps what is held by the answers of the call. */
@@ -174,6 +286,8 @@ static void note(const struct call *c, heskavern_answer a)
     met[a.number]++;
     if (c->kind == RESIZE && a.number == HESKAVERN_DAMAGED && a.value != 0)
         half_done++;
+    if (c->kind >= ROLL_CALL && (a.number == HESKAVERN_DONE || a.number == HESKAVERN_DOES_NOT_FIT))
+        note_roll(c);
     if (a.number != HESKAVERN_DONE)
         return;
     if (c->kind == FORMAT)
@@ -204,8 +318,42 @@ static bool compare(unsigned long *calls)
         note(&c, x);
         if (damaged && below(16) == 0)
             damage();
+        if (damaged && below(3000) == 0)
+            crowd();
     }
     return true;
+}
+
+/* Says what was met of roll calls, and whether each of them met all of it. */
+static bool say_rolls(void)
+{
+    bool all = true;
+    printf("  roll calls with room for");
+    for (size_t room = 0; room < ROOMS; room++)
+        printf("%s %s", room == 0 ? "" : ",", rooms[room]);
+    for (size_t m = 0; m < MAPS; m++) {
+        printf("\n    %s:", maps[m]);
+        for (size_t room = 0; room < ROOMS; room++) {
+            unsigned long roll = rolls_met[ROLL_CALL][m][room], plain = rolls_met[PLAIN_ROLL_CALL][m][room];
+            printf(" %lu", roll + plain);
+            all &= roll != 0 && plain != 0;
+        }
+    }
+    printf("\n");
+    return all;
+}
+
+/* Says what was met, and whether all of it was. */
+static bool say_met(const char *calls)
+{
+    bool all = half_done != 0;
+    printf("bench/verify: checks.c and the library agree on %s calls; numbers 0 to 7:", calls);
+    for (unsigned number = 0; number < 8; number++) {
+        printf(" %lu", met[number]);
+        all &= met[number] != 0;
+    }
+    printf("; half-done resizes: %lu\n", half_done);
+    return say_rolls() && all;
 }
 
 int main(int argc, char **argv)
@@ -220,15 +368,8 @@ int main(int argc, char **argv)
     for (unsigned long calls = strtoul(argv[2], NULL, 10); calls > 0;)
         if (!compare(&calls))
             return 1;
-    for (unsigned number = 0; number < 8; number++) {
-        if (met[number] == 0) {
-            printf("bench/verify: number %u was never met: too few calls\n", number);
-            return 1;
-        }
-    }
-    printf("bench/verify: checks.c and the library agree on %s calls; numbers 0 to 7:", argv[2]);
-    for (unsigned number = 0; number < 8; number++)
-        printf(" %lu", met[number]);
-    printf("; half-done resizes: %lu\n", half_done);
-    return half_done == 0;
+    if (say_met(argv[2]))
+        return 0;
+    puts("bench/verify: one of these was never met: too few calls");
+    return 1;
 }
