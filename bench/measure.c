@@ -21,13 +21,15 @@
 
 enum { CHILD_ROUNDS = 25, MOST_ROUNDS = 10000 };
 
-/* The library's time as a multiple of a variant's, over all rounds and over the quietest quarter of them. */
-struct ratio {
-    double all, quiet;
+/* Of a variant: its median, and the library's time as a multiple of its, over all rounds and over the quietest quarter
+ * of them. */
+struct figures {
+    double median, ratio, quiet;
 };
 
 static double (*times)[MOST_ROUNDS];    /* of each variant, shared with the children */
 static size_t rounds = 400;
+static struct figures figures[TASKS][MOST_VARIANTS];
 
 /* ---- rounds and tables */
 
@@ -83,17 +85,33 @@ static double ratio_to(size_t v, double most)
     return quantile(ratios, n, 0.5);
 }
 
-static void print_row(size_t v, struct ratio *ratio)
+static double quantile_of(size_t v, double share)
 {
     static double sorted[MOST_ROUNDS];
-    double sum = 0;
     memcpy(sorted, times[v], rounds * sizeof *sorted);
-    for (size_t r = 0; r < rounds; r++)
-        sum += times[v][r];
-    double median = quantile(sorted, rounds, 0.5), low = quantile(sorted, rounds, 0.25);
-    *ratio = (struct ratio){ratio_to(v, INFINITY), ratio_to(v, quiet_time())};
-    printf("| %s | %.2f | %.2f to %.2f | %.2f | %.2f | %.2f |\n", variants[v]->name, median, low,
-           quantile(sorted, rounds, 0.75), sum / (double)rounds, ratio->all, ratio->quiet);
+    return quantile(sorted, rounds, share);
+}
+
+static struct figures figures_of(size_t v)
+{
+    return (struct figures){quantile_of(v, 0.5), ratio_to(v, INFINITY), ratio_to(v, quiet_time())};
+}
+
+/* One task's times, a row for each variant. */
+static void print_times(const struct task *t, const struct figures *each)
+{
+    printf("\n| %s | median | quartiles | mean | library / it | in quiet rounds |\n", t->title);
+    printf("|---|---:|---:|---:|---:|---:|\n");
+    for (size_t v = 0; v < variant_count; v++) {
+        if (!t->can(variants[v]))
+            continue;
+        double sum = 0;
+        for (size_t r = 0; r < rounds; r++)
+            sum += times[v][r];
+        printf("| %s | %.2f | %.2f to %.2f | %.2f | %.2f | %.2f |\n", variants[v]->name, each[v].median,
+               quantile_of(v, 0.25), quantile_of(v, 0.75), sum / (double)rounds, each[v].ratio, each[v].quiet);
+    }
+    fflush(stdout);
 }
 
 /* The order of a round's visits, drawn by the round's number: no variant always comes after the same one. */
@@ -117,7 +135,7 @@ static void run_rounds(const struct task *t, size_t first, size_t end)
 {
     for (size_t i = 0; i < variant_count; i++)
         if (t->can(variants[i]) && variants[i]->peer == NULL)
-            t->prepare(variants[i]);
+            prepare(t, variants[i]);
     for (size_t r = first; r < end; r++) {
         size_t order[MOST_VARIANTS] = {0};
         draw(order, r);
@@ -163,38 +181,63 @@ static void end_peers(const struct task *t)
             end_peer(variants[i]->peer);
 }
 
-static void measure(const struct task *t, struct ratio *ratios)
+static void measure(const struct task *t, struct figures *each)
 {
     memset(times, 0, MOST_VARIANTS * sizeof *times);
     start_peers(t);
     for (size_t first = 0; first < rounds; first += CHILD_ROUNDS)
         run_child(t, first, first + CHILD_ROUNDS < rounds ? first + CHILD_ROUNDS : rounds);
     end_peers(t);
-    printf("\n| %s | median | quartiles | mean | library / it | in quiet rounds |\n", t->title);
-    printf("|---|---:|---:|---:|---:|---:|\n");
     for (size_t i = 0; i < variant_count; i++)
         if (t->can(variants[i]))
-            print_row(i, &ratios[i]);
+            each[i] = figures_of(i);
+}
+
+/* The head of a table of ratios: a column for each variant that can do its first task, since whoever can do another one
+ * can do this. */
+static void print_head(const char *title, const struct task *first)
+{
+    printf("\n| %s | the library's median |", title);
+    for (size_t v = 1; v < variant_count; v++)
+        if (first->can(variants[v]))
+            printf(" %s |", variants[v]->name);
+    printf("\n|---|---:|");
+    for (size_t v = 1; v < variant_count; v++)
+        if (first->can(variants[v]))
+            printf("---:|");
+    printf("\n");
     fflush(stdout);
 }
 
-static struct ratio ratios[TASKS][MOST_VARIANTS];
-
-/* One table of all ratios, with those of the quiet rounds in brackets. */
-static void print_ratios(void)
+/* The library's median, and the ratios, with those of the quiet rounds in brackets. */
+static void print_ratios(const struct task *t, const struct task *first, const struct figures *each)
 {
-    printf("\n| library / it (in quiet rounds) |");
+    printf("| %s | %.4g |", t->title, each[0].median);
     for (size_t v = 1; v < variant_count; v++)
-        printf(" %s |", variants[v]->name);
-    printf("\n|---|");
-    for (size_t v = 1; v < variant_count; v++)
-        printf("---:|");
-    for (size_t i = 0; i < TASKS; i++) {
-        printf("\n| %s |", tasks[i].title);
-        for (size_t v = 1; v < variant_count; v++)
-            tasks[i].can(variants[v]) ? printf(" %.2f (%.2f) |", ratios[i][v].all, ratios[i][v].quiet) : printf(" |");
-    }
+        if (t->can(variants[v]))
+            printf(" %.2f (%.2f) |", each[v].ratio, each[v].quiet);
+        else if (first->can(variants[v]))
+            printf(" |");
     printf("\n");
+    fflush(stdout);
+}
+
+/* A table of the times of each task and then one of all ratios; but of roll call the ratios alone, each row as soon as
+ * it is measured. */
+static void measure_all(void)
+{
+    for (size_t i = 0; i < FIRST_ROLL; i++) {
+        measure(&tasks[i], figures[i]);
+        print_times(&tasks[i], figures[i]);
+    }
+    print_head("library / it (in quiet rounds)", &tasks[0]);
+    for (size_t i = 0; i < FIRST_ROLL; i++)
+        print_ratios(&tasks[i], &tasks[0], figures[i]);
+    print_head("roll call, in µs: library / it (in quiet rounds)", &tasks[FIRST_ROLL]);
+    for (size_t i = FIRST_ROLL; i < TASKS; i++) {
+        measure(&tasks[i], figures[i]);
+        print_ratios(&tasks[i], &tasks[FIRST_ROLL], figures[i]);
+    }
 }
 
 /* ---- a second give-back */
@@ -268,7 +311,8 @@ static int count(const char *library)
         return 1;
     make_traces();
     for (size_t i = 0; i < variant_count; i++)
-        count_variant(variants[i]);
+        if (variants[i]->mixed != NULL)
+            count_variant(variants[i]);
     return 0;
 }
 
@@ -294,8 +338,6 @@ int main(int argc, char **argv)
     find_variants(peers, find_peers(peers, words / 3, argv + 2));
     make_traces();
     print_again();
-    for (size_t i = 0; i < TASKS; i++)
-        measure(&tasks[i], ratios[i]);
-    print_ratios();
+    measure_all();
     return 0;
 }

@@ -96,7 +96,7 @@ static struct reply obey(const struct variant *own, struct order o)
     if (o.what == TRY)
         try_again(own, o.number, r.said);
     if (o.what == PREPARE)
-        t->prepare(own);
+        prepare(t, own);
     for (size_t i = 0; o.what == PREPARE && i < RUN_IN; i++)
         visit(t, own, i);
     if (o.what == VISIT) {

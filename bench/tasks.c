@@ -13,16 +13,18 @@
 enum { PAIRS = 8192, WARM = 2048, WINDOWS = 32, COUNTED = 8 * PAIRS };
 /* Of the statement's trace; its texts have 1 to 40 bytes. */
 enum { RUNS = 32, SHORTEST_RUN = 50, LONGEST_RUN = 400, RUN_WINDOWS = 8, TEXT = 40 };
-/* Of roll call and format; a visit times so many calls. */
-enum { ROLL_ARENAS = 4, ROLL_POOLS = 64, CALLS = 8 };
 
 static struct step mixed[WINDOWS * PAIRS + WARM], texts[RUN_WINDOWS][RUNS * LONGEST_RUN];
 static struct step start[SLOTS], wide[SLOTS], up[SLOTS], down[SLOTS];
 static uint16_t runs[RUN_WINDOWS][RUNS];
-static uint8_t text[512], roll_memory[HESKAVERN_MEMORY_BYTES(ROLL_ARENAS, ROLL_POOLS)];
-static uint32_t roll_books[HESKAVERN_BOOKS_WORDS(ROLL_ARENAS, ROLL_POOLS)];
-static uint32_t roll[HESKAVERN_ROLL_WORDS(ROLL_ARENAS, ROLL_POOLS)], live;
-static uint64_t roll_map[HESKAVERN_MAP_WORDS(ROLL_ARENAS, ROLL_POOLS)];
+static uint8_t text[512];
+
+/* Of roll call and format: the largest heap, and about the nanoseconds of a short visit, where a pool takes two and a
+ * live block one. */
+enum { VISIT = 40000 };
+static uint8_t heap_memory[HESKAVERN_MEMORY_BYTES(16, 64)];
+static uint32_t heap_books[HESKAVERN_BOOKS_WORDS(16, 64)], roll[HESKAVERN_ROLL_WORDS(16, 64)];
+static uint64_t heap_map[HESKAVERN_MAP_WORDS(16, 64)];
 
 void fail(const char *who, const char *what)
 {
@@ -215,71 +217,82 @@ static double visit_view(const struct variant *v, size_t round)
 
 /* ---- roll call and format */
 
-#define ROLL_HEAP HESKAVERN_LENT(roll_memory, roll_books, roll_map, ROLL_ARENAS, ROLL_POOLS)
+/* The heap that these are about, and what came of its numbers: one for all variants. */
+static struct {
+    size_t arenas, pools, roll_words;
+    uint32_t live, calls;           /* so many blocks are live, and so many calls of a visit are timed */
+} heap;
+
+#define HEAP HESKAVERN_LENT(heap_memory, heap_books, heap_map, heap.arenas, heap.pools)
 
 static bool can_roll(const struct variant *v)
 {
     return v->roll_call != NULL;
 }
 
-/* A heap that was full of blocks for 1 to so many bytes, of which this share, in thousandths, is still live. */
-static void make_roll_heap(uint32_t largest, uint32_t share)
+static bool can_format(const struct variant *v)
 {
-    if (heskavern_format(ROLL_HEAP, ROLL_ARENAS, ROLL_POOLS).number != HESKAVERN_DONE)
-        fail("this library", "a format was refused");
-    while (heskavern_ask(ROLL_HEAP, between(1, largest)).number == HESKAVERN_DONE)
+    return v->format != NULL;
+}
+
+/* Asks for 1 to so many bytes until there is no room, and then until there is none for any size. */
+static void fill_heap(uint32_t largest)
+{
+    while (heskavern_ask(HEAP, between(1, largest)).number == HESKAVERN_DONE)
         ;
-    uint32_t all = heskavern_roll_call(ROLL_HEAP, roll, sizeof roll / sizeof *roll).value;
-    live = (uint32_t)((uint64_t)all * share / 1000);
-    for (uint32_t left = all; left > live; left--) {
+    for (uint32_t size = 8; size <= HESKAVERN_LARGEST; size += 8)
+        while (heskavern_ask(HEAP, size).number == HESKAVERN_DONE)
+            ;
+}
+
+static void make_heap(const struct numbers *n)
+{
+    heap.arenas = n->arenas;
+    heap.pools = n->pools;
+    if (heskavern_format(HEAP, n->arenas, n->pools).number != HESKAVERN_DONE)
+        fail("this library", "a format was refused");
+    fill_heap(n->largest);
+    uint32_t left = heskavern_roll_call(HEAP, roll, sizeof roll / sizeof *roll).value;
+    heap.live = (uint32_t)(((uint64_t)left * n->share + 500) / 1000);
+    for (; left > heap.live; left--) {
         uint32_t i = below(left);
-        if (heskavern_give_back(ROLL_HEAP, roll[2 * i]).number != HESKAVERN_DONE)
+        if (heskavern_give_back(HEAP, roll[2 * i]).number != HESKAVERN_DONE)
             fail("this library", "a give-back was refused");
         roll[2 * i] = roll[2 * (left - 1)];
     }
+    heap.roll_words = n->tight ? 2 * (size_t)heap.live : HESKAVERN_ROLL_WORDS(n->arenas, n->pools);
+    heap.calls = 1 + VISIT / (2 * n->arenas * n->pools + heap.live);
 }
 
-static void prepare_roll_1(const struct variant *v)
+static void call_roll(const struct variant *v)
 {
-    if (v == variants[0])
-        make_roll_heap(TEXT, 1);
+    heskavern_answer a = v->roll_call(HEAP, roll, heap.roll_words);
+    if (a.number != HESKAVERN_DONE || a.value != heap.live)
+        fail(v->name, "its roll call counts wrongly");
 }
 
-static void prepare_roll_wide(const struct variant *v)
+/* Every variant's roll is the library's, word by word. */
+static void prepare_roll(const struct variant *v)
 {
+    static uint32_t first[sizeof roll / sizeof *roll];
+    size_t bytes = 2 * heap.live * sizeof *roll;
+    memset(roll, 0, bytes);
+    call_roll(v);
     if (v == variants[0])
-        make_roll_heap(HESKAVERN_LARGEST, 1);
-}
-
-static void prepare_roll_100(const struct variant *v)
-{
-    if (v == variants[0])
-        make_roll_heap(TEXT, 100);
-}
-
-static void prepare_roll_900(const struct variant *v)
-{
-    if (v == variants[0])
-        make_roll_heap(TEXT, 900);
+        memcpy(first, roll, bytes);
+    if (memcmp(first, roll, bytes) != 0)
+        fail(v->name, "its roll is not the library's");
 }
 
 static double visit_roll(const struct variant *v, size_t round)
 {
-    static uint32_t first[sizeof roll / sizeof *roll];      /* the library's roll, once it has been called */
     (void)round;
-    double begin = 0;
-    for (int i = -1; i < CALLS; i++) {
-        if (i == 0)
-            begin = now();
-        if (v->roll_call(ROLL_HEAP, roll, sizeof roll / sizeof *roll).value != live)
-            fail(v->name, "its roll call counts wrongly");
-    }
+    call_roll(v);
+    double begin = now();
+    for (uint32_t i = 0; i < heap.calls; i++)
+        call_roll(v);
     double end = now();
-    if (v == variants[0])
-        memcpy(first, roll, sizeof roll);
-    else if (first[1] != 0 && memcmp(first, roll, 2 * live * sizeof *roll) != 0)
-        fail(v->name, "its roll is not the library's");
-    return (end - begin) / CALLS / 1000;
+    return (end - begin) / heap.calls / 1000;
 }
 
 static void prepare_format(const struct variant *v)
@@ -287,21 +300,31 @@ static void prepare_format(const struct variant *v)
     (void)v;
 }
 
+static void call_format(const struct variant *v)
+{
+    if (v->format(HEAP, heap.arenas, heap.pools).number != HESKAVERN_DONE)
+        fail(v->name, "its format was refused");
+}
+
 static double visit_format(const struct variant *v, size_t round)
 {
     (void)round;
-    double begin = 0;
-    for (int i = -1; i < CALLS; i++) {
-        if (i == 0)
-            begin = now();
-        if (v->format(ROLL_HEAP, ROLL_ARENAS, ROLL_POOLS).number != HESKAVERN_DONE)
-            fail(v->name, "its format was refused");
-    }
+    call_format(v);
+    double begin = now();
+    for (uint32_t i = 0; i < heap.calls; i++)
+        call_format(v);
     double end = now();
-    return (end - begin) / CALLS / 1000;
+    return (end - begin) / heap.calls / 1000;
 }
 
 /* ---- all of them */
+
+void prepare(const struct task *t, const struct variant *v)
+{
+    if (t->numbers.arenas != 0 && v == variants[0])
+        make_heap(&t->numbers);
+    t->prepare(v);
+}
 
 double visit(const struct task *t, const struct variant *v, size_t round)
 {
@@ -311,17 +334,31 @@ double visit(const struct task *t, const struct variant *v, size_t round)
     return time + shift[0];
 }
 
+/* Roll call over one heap, with each share of its blocks live; and the same where the roll has just room enough. */
+#define ROLL(title, share, tight, ...) {title, can_roll, prepare_roll, visit_roll, {__VA_ARGS__, share, tight}}
+#define ROLLS(title, ...) \
+    ROLL(title ", 0 % live", 0, false, __VA_ARGS__), ROLL(title ", 0.1 % live", 1, false, __VA_ARGS__), \
+        ROLL(title ", 1 % live", 10, false, __VA_ARGS__), ROLL(title ", 10 % live", 100, false, __VA_ARGS__), \
+        ROLL(title ", 50 % live", 500, false, __VA_ARGS__), ROLL(title ", 90 % live", 900, false, __VA_ARGS__), \
+        ROLL(title ", 100 % live", 1000, false, __VA_ARGS__)
+#define TIGHT_ROLLS(title, ...) \
+    ROLL(title ", 0.1 % live, just room enough", 1, true, __VA_ARGS__), \
+        ROLL(title ", 10 % live, just room enough", 100, true, __VA_ARGS__), \
+        ROLL(title ", 100 % live, just room enough", 1000, true, __VA_ARGS__)
+
 const struct task tasks[TASKS] = {
-    {"ask + give back, mixed: ns a pair", can_ask, prepare_mixed, visit_mixed},
-    {"ask + give back, statement: ns a pair", can_ask, prepare_empty, visit_statement},
-    {"resize up: ns", can_ask, prepare_resize, visit_up},
-    {"resize down: ns", can_ask, prepare_resize, visit_down},
-    {"write 16 bytes (source: memcpy): ns", can_write, prepare_write, visit_write_16},
-    {"write 200 bytes (source: memcpy): ns", can_write, prepare_write, visit_write_200},
-    {"view_size: ns", can_write, prepare_write, visit_view},
-    {"roll call, 0.1 % live (C: a loop with ctz): µs", can_roll, prepare_roll_1, visit_roll},
-    {"roll call, 0.1 % live, blocks of all sizes (C: a loop with ctz): µs", can_roll, prepare_roll_wide, visit_roll},
-    {"roll call, 10 % live (C: a loop with ctz): µs", can_roll, prepare_roll_100, visit_roll},
-    {"roll call, 90 % live (C: a loop with ctz): µs", can_roll, prepare_roll_900, visit_roll},
-    {"format (C: memset and a loop): µs", can_roll, prepare_format, visit_format},
+    {"ask + give back, mixed: ns a pair", can_ask, prepare_mixed, .visit = visit_mixed},
+    {"ask + give back, statement: ns a pair", can_ask, prepare_empty, .visit = visit_statement},
+    {"resize up: ns", can_ask, prepare_resize, .visit = visit_up},
+    {"resize down: ns", can_ask, prepare_resize, .visit = visit_down},
+    {"write 16 bytes (source: memcpy): ns", can_write, prepare_write, .visit = visit_write_16},
+    {"write 200 bytes (source: memcpy): ns", can_write, prepare_write, .visit = visit_write_200},
+    {"view_size: ns", can_write, prepare_write, .visit = visit_view},
+    {"format (C: memset and a loop): µs", can_format, prepare_format, visit_format, {4, 64, 8, 0, false}},
+    ROLLS("16 pools, blocks of 8 bytes", 1, 16, 8),
+    ROLLS("16 pools, blocks of all sizes", 1, 16, HESKAVERN_LARGEST),
+    ROLLS("1,024 pools, blocks of 8 bytes", 16, 64, 8),
+    ROLLS("1,024 pools, blocks of all sizes", 16, 64, HESKAVERN_LARGEST),
+    TIGHT_ROLLS("1,024 pools, blocks of 8 bytes", 16, 64, 8),
+    TIGHT_ROLLS("1,024 pools, blocks of all sizes", 16, 64, HESKAVERN_LARGEST),
 };

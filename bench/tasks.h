@@ -4,7 +4,15 @@
 
 #include "variants.h"
 
-enum { TASKS = 12 };
+enum { FIRST_ROLL = 8, TASKS = FIRST_ROLL + 34 };    /* those of roll call are the last ones */
+
+/* A heap that was filled with blocks for 1 to so many bytes until there was room for none, of which this share, in
+ * thousandths and to the nearest block, is still live. The roll has room for just these where it is tight, and
+ * otherwise for every block that a heap of so many pools could have. */
+struct numbers {
+    uint32_t arenas, pools, largest, share;
+    bool tight;
+};
 
 /* A visit gives the time of one operation; it makes some of them untimed first. */
 struct task {
@@ -12,6 +20,7 @@ struct task {
     bool (*can)(const struct variant *v);
     void (*prepare)(const struct variant *v);
     double (*visit)(const struct variant *v, size_t round);
+    struct numbers numbers;         /* of roll call and format; 0 arenas where the variants have heaps of their own */
 };
 
 extern const struct task tasks[TASKS];
@@ -21,6 +30,9 @@ _Noreturn void fail(const char *who, const char *what);
 
 /* The traces, always the same. Before anything else here. */
 void make_traces(void);
+
+/* What comes before the visits to a variant; the library is the first. */
+void prepare(const struct task *t, const struct variant *v);
 
 /* A visit with the stack moved by another amount in each round: should it matter where the stack stands, one place does
  * not decide the run. */

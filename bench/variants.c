@@ -18,7 +18,7 @@
 #define WRITE_TRACES(v) .write = v##_write_trace, .view_size = v##_view_trace
 #define WITH_PLACES(v) .place = v##_place_of_slot
 
-/* ---- this library, and the same checks in C by two compilers */
+/* ---- this library, an older archive of it, and the same checks in C by two compilers */
 
 #define CHECKED(v) .fresh = v##_fresh, TRACES(v), WITH_BLOCKS(v), WRITE_TRACES(v), WITH_PLACES(v)
 
@@ -29,6 +29,18 @@ static const struct variant library = {
     "this library", CHECKED(library), .roll_call = heskavern_roll_call, .format = heskavern_format
 };
 
+#ifdef BEFORE   /* it is linked, with before_ask for heskavern_ask and so on */
+#define CHECKS(name) before_##name
+#include "checks.h"
+#define THIS(name) archive_before_##name
+#define CALL(name) CHECKS(name)
+#include "checked.h"
+static const struct variant archive_before = {
+    "this library, before", CHECKED(archive_before), .roll_call = before_roll_call, .format = before_format
+};
+#undef CHECKS
+#endif
+
 #define CHECKS(name) gcc_##name
 #include "checks.h"
 #define THIS(name) by_gcc_##name
@@ -37,6 +49,7 @@ static const struct variant library = {
 static const struct variant by_gcc = {
     "the same checks in C, gcc -O2", CHECKED(by_gcc), .roll_call = gcc_roll_call, .format = gcc_format
 };
+static const struct variant plain_by_gcc = {"a plain loop with ctz, gcc -O2", .roll_call = gcc_plain_roll_call};
 #undef CHECKS
 
 #define CHECKS(name) clang_##name
@@ -47,6 +60,7 @@ static const struct variant by_gcc = {
 static const struct variant by_clang = {
     "the same checks in C, clang -O3", CHECKED(by_clang), .roll_call = clang_roll_call, .format = clang_format
 };
+static const struct variant plain_by_clang = {"a plain loop with ctz, clang -O3", .roll_call = clang_plain_roll_call};
 #undef CHECKS
 
 /* ---- the program written from the source, which trusts its caller: to write is to copy */
@@ -184,8 +198,8 @@ static const struct variant loop = {"the loop alone", .fresh = no_heap, TRACES(l
 
 /* ---- all of them */
 
-const struct variant *variants[MOST_VARIANTS] = {&library, &by_gcc, &by_clang, &source};
-size_t variant_count = 4;
+const struct variant *variants[MOST_VARIANTS];
+size_t variant_count;
 
 static void add(bool found, const struct variant *v)
 {
@@ -218,6 +232,15 @@ const struct variant *find_own(const char **file)
 void find_variants(struct peer *peers, size_t n)
 {
     const char *file;
+    add(true, &library);
+#ifdef BEFORE
+    add(true, &archive_before);
+#endif
+    add(true, &by_gcc);
+    add(true, &by_clang);
+    add(true, &plain_by_gcc);
+    add(true, &plain_by_clang);
+    add(true, &source);
     add(true, find_own(&file));
     add(find_calls(&mimalloc_calls, "libmimalloc.so.2", "mi_malloc", "mi_free", "mi_realloc"), &mimalloc);
     add(find_calls(&jemalloc_calls, "libjemalloc.so.2", "malloc", "free", "realloc"), &jemalloc);

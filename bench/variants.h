@@ -6,7 +6,7 @@
 
 #include <stdbool.h>
 
-enum { ARENAS = 16, POOLS = 64, SLOTS = 2000, MOST_VARIANTS = 12 };
+enum { ARENAS = 16, POOLS = 64, SLOTS = 2000, MOST_VARIANTS = 16 };
 
 /* A slot holds a block of this variant. A trace is made of such steps, each for one slot. */
 struct step {
@@ -45,7 +45,7 @@ heskavern_answer nothing(const uint8_t *memory, size_t memory_bytes, const uint3
 /* The process's own malloc, and the file that it is in. */
 const struct variant *find_own(const char **file);
 
-/* Adds the allocators that are linked at run time, those of the peers' processes, and the loop alone. */
+/* Adds all of them: also the allocators that are linked at run time, and those of the peers' processes. */
 void find_variants(struct peer *peers, size_t n);
 
 #endif
