@@ -1,5 +1,6 @@
-/* The calls of include/heskavern.h under other names, with the same checks and the same answers, written in C to
- * compare times with. Included once for each compiler that checks.c is compiled by, with CHECKS(name) for its names. */
+/* The calls of include/heskavern.h under other names, with the same checks and the same answers, to compare times with.
+ * Included once for each compiler that checks.c is compiled by, with CHECKS(name) for its names, and for an older
+ * archive of the library. */
 #include "heskavern.h"
 
 heskavern_answer CHECKS(format)(const uint8_t *memory, size_t memory_bytes, uint32_t *books, size_t books_words,
@@ -19,7 +20,8 @@ heskavern_answer CHECKS(roll_call)(const uint8_t *memory, size_t memory_bytes, c
                                    size_t books_words, const uint64_t *map, size_t map_words, uint32_t *roll,
                                    size_t roll_words);
 
-/* The roll call by a plain loop: the live blocks are always counted first, and no pool is passed over. */
+/* Of checks.c alone: the roll call by a plain loop. The live blocks are always counted first, and no pool is passed
+ * over. */
 heskavern_answer CHECKS(plain_roll_call)(const uint8_t *memory, size_t memory_bytes, const uint32_t *books,
                                          size_t books_words, const uint64_t *map, size_t map_words, uint32_t *roll,
                                          size_t roll_words);

@@ -245,6 +245,7 @@ static void fill_heap(uint32_t largest)
             ;
 }
 
+/* The heap of these numbers, the room of its roll, and how long a visit is. */
 static void make_heap(const struct numbers *n)
 {
     heap.arenas = n->arenas;
