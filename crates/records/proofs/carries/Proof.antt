@@ -1,10 +1,9 @@
 -- `records::carries` looks at the pool's map words only where the block is the first of its pool.
 -- Assumes nothing.
-use mathlib.Core.Path.{_≡_, sym, ap, _∙_}
-use mathlib.Core.Bool.{true, false≢true}
+use mathlib.Core.Path.{sym, ap, _∙_}
+use mathlib.Core.Bool.{false≢true}
 use mathlib.Core.Logic.{inl, inr}
 use Prim.Native.Nat.{ℕ, _/_}
-use native.Mathlib.Omega.{arith}
 use borrow.Author.Needs.{needs}
 use Rattle.records.specs.Live.{aloneIn}
 use Rattle.records.proofs.carries.Statement.{statement}
