@@ -64,7 +64,8 @@ pub first-there : (k w : ℕ) → 0 < w → w < 2 ^ k → trailingZeros k w < k
 first-there zero w h l = absurd (omega arith)
 first-there (suc k) w h l = go (parity w) (first-there k (w / 2))
   where
-    go : (w % 2 ≡ 1) ⊎ (w % 2 ≡ 0) → (0 < w / 2 → w / 2 < 2 ^ k → trailingZeros k (w / 2) < k) → trailingZeros (suc k) w < suc k
+    go : (w % 2 ≡ 1) ⊎ (w % 2 ≡ 0) → (0 < w / 2 → w / 2 < 2 ^ k → trailingZeros k (w / 2) < k)
+        → trailingZeros (suc k) w < suc k
     go (inl e) rest = omega (arith, first-odd k w e)
     go (inr e) rest = omega (arith, first-even k w e, rest (omega arith) (omega (arith, pow-suc 2 k)))
 

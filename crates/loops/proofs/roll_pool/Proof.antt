@@ -1,4 +1,5 @@
--- `loops::roll_pool` stores the words of its live blocks where the pool has a bit set and a class, and nothing elsewhere.
+-- `loops::roll_pool` stores the words of its live blocks where the pool has a bit set and a class, and nothing
+-- elsewhere.
 -- Assumes nothing.
 use mathlib.Core.Path.{_≡_, refl, sym, ap, _∙_}
 use native.Mathlib.Omega.{arith}
