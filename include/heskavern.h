@@ -181,7 +181,8 @@ HESKAVERN_MUST_USE heskavern_answer heskavern_write(
     size_t map_words, size_t offset, const void *text, size_t text_bytes) HESKAVERN_NOEXCEPT;
 
 /* Roll call: writes offset and block size of each live block to roll, by rising offset, and leaves the words after
-   them. Value: how many blocks are live. Refuses with 1, 2, 7. */
+   them. Value: how many blocks are live. Refuses with 1, 2, 7. It is quickest with HESKAVERN_ROLL_WORDS words: with
+   fewer it counts the live blocks before it writes. */
 HESKAVERN_MUST_USE heskavern_answer heskavern_roll_call(
     const uint8_t *memory, size_t memory_bytes, const uint32_t *books, size_t books_words, const uint64_t *map,
     size_t map_words, uint32_t *roll, size_t roll_words) HESKAVERN_NOEXCEPT;

@@ -261,7 +261,7 @@ impl<'a> Heap<'a> {
 
     /// Roll call: lists offset and block size of each live block, by rising offset. They are written to the lent
     /// words, two for each block; the words after them stay. Refused with 7 where there are too few; [`roll_words`]
-    /// are always enough.
+    /// are always enough, and quickest: with fewer the live blocks are counted before they are written.
     ///
     /// ```
     /// # use heskavern::{books_words, map_words, memory_bytes, roll_words, Heap, Refusal};

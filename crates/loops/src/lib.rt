@@ -113,7 +113,7 @@ pub fn copy_within(memory: &mut [u8], from: usize, to: usize, n: usize)
 // ---- roll call
 
 // Two roll words for each of the most blocks that a pool can hold, 506 of 8 bytes.
-pub const MOST_WORDS: usize = 1012;
+const MOST_WORDS: usize = 1012;
 
 // No bit of the pool is set, at a block or at none: so it has no live block, whatever its class.
 fn none_set(map: &[u64], pool: usize) -> bool
