@@ -1,4 +1,5 @@
--- The roll of a map word, its blocks from the lowest bit up, and a pool's roll as that of its words.
+-- The roll of a map word, its blocks from the lowest bit up, and a pool's roll as that of its words; a pool with no bit
+-- set has none.
 -- Assumes nothing.
 use mathlib.Core.Path.{_≡_, refl, sym, ap, ap₂, _∙_}
 use mathlib.Core.Bool.{Bool, true, false, _&&_}
@@ -102,17 +103,6 @@ first-live (suc k) (suc n) w o s l h = go (parity w) (first-live k n (w / 2) (o 
         ∙ rest (omega (arith, first-even k w e))
         ∙ ap₂ (λ (x : ℕ) (r : List ℕ). x ∷ s ∷ r) place (sym (twice (withoutFirst (w / 2)) o s n (without-even w e)))
 
--- ---- where a word's blocks end: how many of its 64, of size s and the first at offset o, start at `last` or before it
-abbrev pub upTo : ℕ → ℕ → ℕ → ℕ
-upTo o s last = min 64 ((last - o) / s + 1)
-
-module _ (o s last k : ℕ) (low : 1 ≤ s) where
-  pub not-past : k < 64 → o + k * s ≤ last → k < upTo o s last
-  not-past h l = omega (arith, le-div-iff-mul-le {k = s} {x = k} {y = last - o} low .1 (omega arith))
-
-  pub past : o ≤ last → last < o + k * s → upTo o s last ≤ k
-  past h l = omega (arith, div-lt-iff-lt-mul {k = s} {x = last - o} {y = k} low .1 (omega arith))
-
 -- two roll words for each set bit
 pub length-word : (w o s n : ℕ) → length (rollWord w o s n) ≡ 2 * onesIn n w
 unfolding rollWord onesIn
@@ -123,6 +113,18 @@ length-word w o s (suc n) = go (parity w) (length-word (w / 2) (o + s) s n)
         → length (rollWord w o s (suc n)) ≡ 2 * (w % 2 + onesIn n (w / 2))
     go (inl e) rest = omega (arith, ap length (odd w o s n e))
     go (inr e) rest = omega (arith, ap length (even w o s n e))
+
+-- ---- where a word's blocks end: how many of its 64, of size s and the first at offset o, start at `last` or before it
+abbrev pub upTo : ℕ → ℕ → ℕ → ℕ
+upTo o s last = min 64 ((last - o) / s + 1)
+
+-- block k is one of them if it does; if it starts past it, there are no more than k
+module _ (o s last k : ℕ) (low : 1 ≤ s) where
+  pub not-past : k < 64 → o + k * s ≤ last → k < upTo o s last
+  not-past h l = omega (arith, le-div-iff-mul-le {k = s} {x = k} {y = last - o} low .1 (omega arith))
+
+  pub past : o ≤ last → last < o + k * s → upTo o s last ≤ k
+  past h l = omega (arith, div-lt-iff-lt-mul {k = s} {x = last - o} {y = k} low .1 (omega arith))
 
 -- ---- a pool's blocks, word by word
 -- how many of n blocks word i has
