@@ -217,7 +217,7 @@ static double visit_view(const struct variant *v, size_t round)
 
 /* ---- roll call and format */
 
-/* The heap that these are about, and what came of its numbers: one for all variants. */
+/* The heap that these are about: one for all variants. */
 static struct {
     size_t arenas, pools, roll_words;
     uint32_t live, calls;           /* so many blocks are live, and so many calls of a visit are timed */
@@ -245,24 +245,24 @@ static void fill_heap(uint32_t largest)
             ;
 }
 
-/* The heap of these numbers, the room of its roll, and how long a visit is. */
-static void make_heap(const struct numbers *n)
+/* The heap that is wanted, the room of its roll, and how long a visit is. */
+static void make_heap(const struct wanted_heap *w)
 {
-    heap.arenas = n->arenas;
-    heap.pools = n->pools;
-    if (heskavern_format(HEAP, n->arenas, n->pools).number != HESKAVERN_DONE)
+    heap.arenas = w->arenas;
+    heap.pools = w->pools;
+    if (heskavern_format(HEAP, w->arenas, w->pools).number != HESKAVERN_DONE)
         fail("this library", "a format was refused");
-    fill_heap(n->largest);
+    fill_heap(w->largest);
     uint32_t left = heskavern_roll_call(HEAP, roll, sizeof roll / sizeof *roll).value;
-    heap.live = (uint32_t)(((uint64_t)left * n->share + 500) / 1000);
+    heap.live = (uint32_t)(((uint64_t)left * w->share + 500) / 1000);
     for (; left > heap.live; left--) {
         uint32_t i = below(left);
         if (heskavern_give_back(HEAP, roll[2 * i]).number != HESKAVERN_DONE)
             fail("this library", "a give-back was refused");
         roll[2 * i] = roll[2 * (left - 1)];
     }
-    heap.roll_words = n->tight ? 2 * (size_t)heap.live : HESKAVERN_ROLL_WORDS(n->arenas, n->pools);
-    heap.calls = 1 + VISIT / (2 * n->arenas * n->pools + heap.live);
+    heap.roll_words = w->tight ? 2 * (size_t)heap.live : HESKAVERN_ROLL_WORDS(w->arenas, w->pools);
+    heap.calls = 1 + VISIT / (2 * w->arenas * w->pools + heap.live);
 }
 
 static void call_roll(const struct variant *v)
@@ -322,8 +322,8 @@ static double visit_format(const struct variant *v, size_t round)
 
 void prepare(const struct task *t, const struct variant *v)
 {
-    if (t->numbers.arenas != 0 && v == variants[0])
-        make_heap(&t->numbers);
+    if (t->wanted.arenas != 0 && v == variants[0])
+        make_heap(&t->wanted);
     t->prepare(v);
 }
 

@@ -9,7 +9,7 @@ enum { FIRST_ROLL = 8, TASKS = FIRST_ROLL + 34 };    /* those of roll call are t
 /* A heap that was filled with blocks for 1 to so many bytes until there was room for none, of which this share, in
  * thousandths and to the nearest block, is still live. The roll has room for just these where it is tight, and
  * otherwise for every block that a heap of so many pools could have. */
-struct numbers {
+struct wanted_heap {
     uint32_t arenas, pools, largest, share;
     bool tight;
 };
@@ -20,7 +20,7 @@ struct task {
     bool (*can)(const struct variant *v);
     void (*prepare)(const struct variant *v);
     double (*visit)(const struct variant *v, size_t round);
-    struct numbers numbers;         /* of roll call and format; 0 arenas where the variants have heaps of their own */
+    struct wanted_heap wanted;      /* of roll call and format; 0 arenas where the variants have heaps of their own */
 };
 
 extern const struct task tasks[TASKS];

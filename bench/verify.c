@@ -12,7 +12,7 @@
 
 enum { MOST_POOLS = 64, MOST_HELD = 4096 };
 enum { FORMAT, ASK, GIVE_BACK, RESIZE, VIEW_SIZE, WRITE, ROLL_CALL, PLAIN_ROLL_CALL, CALLS };
-enum { AT_BLOCKS, PAST_THE_LAST, NO_CLASS, WHOLE_WORDS, LAST_WORD, CROWDED, MAPS };
+enum { AT_BLOCKS, PAST_THE_LAST, NO_CLASS, WHOLE_WORDS, ALL_ONES, LAST_WORD, CROWDED, MAPS };
 enum { FOR_ALL, MORE, ENOUGH, ONE_TOO_FEW, FEWER, ROOMS };
 
 struct buffers {
@@ -37,6 +37,7 @@ static const char *const maps[MAPS] = {
     [PAST_THE_LAST] = "bits past a pool's last block",
     [NO_CLASS] = "bits of a pool of class above 63",
     [WHOLE_WORDS] = "whole words of ones",
+    [ALL_ONES] = "every word all ones",
     [LAST_WORD] = "a pool's live blocks in its eighth word alone",
     [CROWDED] = "most blocks live that there could be",
 };
@@ -107,10 +108,12 @@ static size_t class_word(size_t p)
 /* What a roll call is to meet, bit by bit. */
 static void look(struct call *c)
 {
+    c->in_map[ALL_ONES] = true;
     for (size_t p = 0; p < arenas * pools; p++) {
         uint32_t class = library.books[class_word(p)], blocks = class > 63 ? 0 : 4048 / (8 * (class + 1)), lowest = 512;
         for (uint32_t k = 512; k-- > 0;) {
             uint64_t word = library.map[8 * p + k / 64];
+            c->in_map[ALL_ONES] &= word == UINT64_MAX;
             if ((word >> k % 64 & 1) == 0)
                 continue;
             lowest = k;
@@ -187,13 +190,14 @@ static uint32_t odd_word(void)
     }
 }
 
-/* Most pools get blocks of 8 bytes, all of them live and bits past them besides, the same in both. */
+/* Most pools, or all of them, get bits of ones, and most of these blocks of 8 bytes, the same in both. */
 static void crowd(void)
 {
+    bool all = below(2) == 0;
     for (size_t p = 0; p < arenas * pools; p++) {
-        if (below(8) == 0)
+        if (!all && below(8) == 0)
             continue;
-        library.books[class_word(p)] = checks.books[class_word(p)] = 0;
+        library.books[class_word(p)] = checks.books[class_word(p)] = below(4) == 0 ? below(66) : 0;
         memset(&library.map[8 * p], 0xff, 8 * sizeof *library.map);
         memset(&checks.map[8 * p], 0xff, 8 * sizeof *checks.map);
     }
@@ -318,7 +322,7 @@ static bool compare(unsigned long *calls)
         note(&c, x);
         if (damaged && below(16) == 0)
             damage();
-        if (damaged && below(3000) == 0)
+        if (damaged && below(1000) == 0)
             crowd();
     }
     return true;

@@ -270,9 +270,10 @@ static void roll_calls(void)
     expect_untouched();
 }
 
-/* The roll has so many blocks: with just room for them, and with room for every block that a pool could hold, where a
-   roll call counts none before it writes. With less it has no room. */
-static void expect_rolled(uint32_t blocks, uint32_t first, uint32_t last)
+/* The roll has so many blocks of this size, the first here and each so many bytes after the one before: with just room
+   for them, and with room for every block that a pool could hold, where a roll call counts none before it writes. With
+   a word less it has no room. */
+static void expect_rolled(uint32_t blocks, uint32_t size, uint32_t first, uint32_t step)
 {
     const size_t most = HESKAVERN_ROLL_WORDS(books[0], books[1]), rooms[] = {2 * (size_t)blocks, most};
     size_t i;
@@ -281,9 +282,12 @@ static void expect_rolled(uint32_t blocks, uint32_t first, uint32_t last)
         EXPECT(is(ROLL_CALL(2 * blocks - 1), HESKAVERN_DOES_NOT_FIT, 0));
     EXPECT(filled(roll, sizeof roll));
     for (i = 0; i < sizeof rooms / sizeof *rooms; i++) {
+        uint32_t n = 0;
         memset(roll, FILL, sizeof roll);
         EXPECT(done(ROLL_CALL(rooms[i]), blocks));
-        EXPECT(blocks == 0 || (roll[0] == first && roll[2 * blocks - 2] == last));
+        while (n < blocks && roll[2 * n] == first + n * step && roll[2 * n + 1] == size)
+            n++;
+        EXPECT(n == blocks);
         EXPECT(filled(roll + 2 * blocks, sizeof roll - 2 * blocks * sizeof *roll));
     }
 }
@@ -293,23 +297,23 @@ static void stray_bits(void)
 {
     size_t i;
     fresh(1, 2);
-    expect_rolled(0, 0, 0);
+    expect_rolled(0, 0, 0, 0);
     EXPECT(done(ASK(512), 48));
     map[0] |= (uint64_t)1 << 9;     /* a pool has seven blocks of 512 bytes */
-    expect_rolled(1, 48, 48);
+    expect_rolled(1, 512, 48, 0);
     for (i = 0; i < map_words; i++)
         map[i] = UINT64_MAX;
-    expect_rolled(7, 48, 3120);     /* pool 1 has no class */
+    expect_rolled(7, 512, 48, 512);     /* pool 1 has no class */
     *pool_word(0, CLASS) = 0;
-    expect_rolled(506, 48, 4088);
+    expect_rolled(506, 8, 48, 8);
     *pool_word(0, CLASS) = 64;
-    expect_rolled(0, 0, 0);
+    expect_rolled(0, 0, 0, 0);
     for (i = 0; i < map_words; i++)
         map[i] = 0;
     *pool_word(0, CLASS) = 0;
     *pool_word(1, CLASS) = 0;
     map[7] = map[15] = (uint64_t)1 << 57;   /* the last block of each pool, after words of zeros */
-    expect_rolled(2, 4088, 8184);
+    expect_rolled(2, 8, 4088, 4096);
     expect_untouched();
 }
 

@@ -14,7 +14,7 @@ use Rattle.rules.specs.Books.{isSet, class, poolWord, pool, offsetOf}
 use Rattle.rules.specs.Blocks.{sizeOf, lastClass, startOf, capacity, classAt}
 use Rattle.rules.specs.View.{rollBlocks, rollPool, rollPools}
 use Rattle.loops.specs.Left.{Parts, counted}
-use Rattle.loops.specs.Word.{noneSet, none-rolled}
+use Rattle.loops.specs.Word.{noneSet, not-set, none-rolled}
 use Rattle.books.specs.Starts.{capacity-le}
 
 -- pool p has its record in the books of A arenas, and its words in the map
@@ -49,7 +49,8 @@ no-bits al A b m p h e =
     let c = pool A b class p in
     let s = sizeOf al c in
     let one : 1 ≤ c + 1 = omega arith in
-    go (leb c (lastClass al)) (none-rolled m p e s 0 (capacity s) (omega (arith, capacity-le s (mul-le-mul h one))))
+    let few = capacity-le s (mul-le-mul h one) in
+    go (leb c (lastClass al)) (none-rolled m p s 0 (capacity s) (λ j l. not-set m p e j (omega arith)))
   where
     go : (t : Bool) {l : List ℕ} → l ≡ [] → (if t then l else []) ≡ []
     go true f = f

@@ -189,15 +189,17 @@ module _ (m : List ℕ) (p : ℕ) (e : noneSet m p ≡ true) where
   unfolding zeros
   eight = rw add-zero e
 
-  not-set : (k : ℕ) → k < 512 → isSet m p k ≡ false
+  pub not-set : (k : ℕ) → k < 512 → isSet m p k ≡ false
   not-set k h = rw (each-zero (λ i. at m (8 * p + i)) 8 eight (k / 64) (omega arith), no-bit (k % 64))
 
-  pub none-rolled : (s k n : ℕ) → k + n ≤ 512 → rollBlocks m p s k n ≡ []
-  unfolding rollBlocks
-  none-rolled s k zero h = refl
-  none-rolled s k (suc n) h = rw (not-set k (omega arith)) (none-rolled s (suc k) n (omega arith))
-
 module _ (m : List ℕ) (p s : ℕ) where
+  -- where none of n blocks has its bit set, none is in the roll
+  pub none-rolled : (k n : ℕ) → ((j : ℕ) → j < k + n → isSet m p j ≡ false) → rollBlocks m p s k n ≡ []
+  unfolding rollBlocks
+  none-rolled k zero clear = refl
+  none-rolled k (suc n) clear =
+      rw (clear k (omega arith)) (none-rolled (suc k) n (λ j h. clear j (omega arith)))
+
   -- the n blocks of word i from its bit j on
   from-bit : (i j n : ℕ) → j + n ≤ 64
       → rollBlocks m p s (64 * i + j) n ≡ rollWord (at m (8 * p + i) / 2 ^ j) (offsetOf p (startOf s (64 * i + j))) s n

@@ -1,5 +1,5 @@
 -- What a replay needs to know of ask, give back and resize, whatever the heap holds: the number fits a byte, and A
--- and P stay in the books.
+-- and P stay in the books; and that words at any places stay where the writes are to others.
 -- Assumes nothing.
 use mathlib.Core.Path.{_≡_, refl, _∙_}
 use mathlib.Core.Bool.{Bool, true, false, not, _&&_}
@@ -33,7 +33,7 @@ use Rattle.loops.specs.Sets.{sets-other}
 pub record Same (K : ℕ → Type 0) (b b′ : List ℕ) : Type 0 where
   pub word : (j : ℕ) → K j → at b′ j ≡ at b j
 
--- A and P
+-- words 0 and 1, which are A and P
 abbrev pub Kept : List ℕ → List ℕ → Type 0
 Kept b b′ = Same (λ j. j < 2) b b′
 

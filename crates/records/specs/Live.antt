@@ -340,28 +340,29 @@ module _ (h : Heap) (whole : Whole (h .memory) (h .books) (h .map)) where
       go false dead e = record { refused = λ _ _. refl; done = λ e. absurd (omega arith) }
 
 -- the roll's words are two for each live block, where A and P are as before
-counted : (h g : Heap) → Kept (h .books) (g .books) → liveIn (g .books) (g .map) ≡ words (arenas h) (pools h) g / 2
-counted h g kept = ap₂ (λ (A P : ℕ). words A P g / 2) (kept .word 0 (omega arith)) (kept .word 1 (omega arith))
+half-the-words : (h g : Heap) → Kept (h .books) (g .books)
+    → liveIn (g .books) (g .map) ≡ words (arenas h) (pools h) g / 2
+half-the-words h g kept = ap₂ (λ (A P : ℕ). words A P g / 2) (kept .word 0 (omega arith)) (kept .word 1 (omega arith))
 
 pub ask-counts : (h : Heap) (n : ℕ) → Whole (h .memory) (h .books) (h .map)
     → let x = ask 8 h n in AskCounts (liveIn (h .books) (h .map)) (x .answer) (x .heap .books) (x .heap .map)
 ask-counts h n whole =
     let t = asks h whole n in
-    let now = counted h (ask 8 h n .heap) (ask-fair 8 h n .kept) in
+    let now = half-the-words h (ask 8 h n .heap) (ask-fair 8 h n .kept) in
     record { refused = λ d. omega (arith, now, t .refused d); done = λ e d. omega (arith, now, t .done e d) }
 
 pub back-counts : (h : Heap) (o : ℕ) → Whole (h .memory) (h .books) (h .map)
     → let x = giveBack 8 h o in BackCounts (liveIn (h .books) (h .map)) (x .answer) (x .heap .books) (x .heap .map)
 back-counts h o whole =
     let t = gives h whole o in
-    let now = counted h (giveBack 8 h o .heap) (back-fair 8 h o .kept) in
+    let now = half-the-words h (giveBack 8 h o .heap) (back-fair 8 h o .kept) in
     record { refused = λ d. omega (arith, now, t .refused d); done = λ e. omega (arith, now, t .done e) }
 
 pub resize-counts : (h : Heap) (o n : ℕ) → Whole (h .memory) (h .books) (h .map)
     → let x = resize 8 h o n in ResizeCounts (liveIn (h .books) (h .map)) (x .answer) (x .heap .books) (x .heap .map)
 resize-counts h o n whole =
     let t = resizes h whole o n in
-    let now = counted h (resize 8 h o n .heap) (resize-fair 8 h o n .kept) in
+    let now = half-the-words h (resize 8 h o n .heap) (resize-fair 8 h o n .kept) in
     record { refused = λ d s. omega (arith, now, t .refused d s); done = λ e d. omega (arith, now, t .done e d) }
 
 -- ---- in the code's words

@@ -16,6 +16,7 @@ use Rattle.rules.specs.Blocks.{sizeOf, startOf, capacity}
 use Rattle.rules.specs.View.{rollBlocks, rollPool, rollPools, roll}
 use Rattle.bits.specs.Map.{put-same-block, put-other-block}
 use Rattle.books.specs.Starts.{capacity-le}
+use Rattle.loops.specs.Word.{none-rolled}
 
 -- ---- a list in parts, n of them from part k on
 record InParts (all : ℕ → ℕ → List ℕ) (part : ℕ → List ℕ) : Type 0 where
@@ -94,12 +95,6 @@ pools-made : (A : ℕ) (b m : List ℕ) → InParts (rollPools 8 A b m) (rollPoo
 unfolding rollPools
 pools-made A b m = record { none = λ k. refl; more = λ k n. refl }
 
--- where no bit is set among a pool's first n, there is none
-none-live : (m : List ℕ) (p s n : ℕ) → ((j : ℕ) → j < n → isSet m p j ≡ false) → length (rollBlocks m p s 0 n) ≡ 0
-none-live m p s n clear =
-    equally-long {all = λ k n. []} {part = λ j. []} (record { none = λ k. refl; more = λ k n. refl }) (blocks-made m p s) 0 n
-    (λ j l h. rw (clear j (omega arith)))
-
 -- ---- the roll, before by the books b and the map m, after by b′ and m′, which has one block more
 module _ (A : ℕ) (b b′ m m′ : List ℕ) (p i : ℕ) (one : OneMore p i m m′) where
   size-low : (c : ℕ) → 8 ≤ sizeOf 8 c
@@ -149,7 +144,7 @@ module _ (A : ℕ) (b b′ m m′ : List ℕ) (p i : ℕ) (one : OneMore p i m m
       rw (e, le-leb c 63 h) (omega (arith, after, empty, before))
     where
       dead : (s : ℕ) → 8 ≤ s → length (rollBlocks m p s 0 (capacity s)) ≡ 0
-      dead s low = let few = capacity-le s low in none-live m p s (capacity s) (λ j u. clear j (omega arith))
+      dead s low = let few = capacity-le s low in ap length (none-rolled m p s 0 (capacity s) (λ j u. clear j (omega arith)))
 
       go : (t : Bool) (d : ℕ) → length (if t then rollBlocks m p (sizeOf 8 d) 0 (capacity (sizeOf 8 d)) else []) ≡ 0
       go true d = dead (sizeOf 8 d) (size-low d)

@@ -112,8 +112,9 @@ fn size_at(books: &[u32], offset: u32) -> u32
 
 // ---- the live blocks, from one call to the next
 
-// No block of the pool but its first is live.
-fn alone(map: &[u64], pool: usize) -> bool
+// Of the pool's bits the first is set, and no other, at a block or at none: so no block but its first is live, whatever
+// its class.
+fn first_alone(map: &[u64], pool: usize) -> bool
     requires { ⌜ 8 * pool + 8 ≤ length (now map) ⌝ }
     ensures { λ r. ⌜ r ≡ aloneIn (now (map .entry)) pool ⌝ }
 {
@@ -141,7 +142,7 @@ fn carries(map: &[u64], offset: u32) -> bool
     if map.len() < 8 * pool + 8 {
         return false;
     }
-    alone(map, pool)
+    first_alone(map, pool)
 }
 
 // How many blocks are live after an ask that answered so, where `live` were before it: one more. They are counted where

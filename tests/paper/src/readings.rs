@@ -249,6 +249,7 @@ fn w202(calls: &mut dyn Calls) {
     let mut desk = Desk::fresh(calls, 1, 2);
     desk.done(Ask { size: 512 }, 48);
     *desk.bits(0) |= 1 << 9;
+    desk.refused(RollCall { words: 1 }, 7);
     assert_eq!(desk.roll(2), (Answer { number: 0, value: 1 }, vec![48, 512]));
     assert_eq!(desk.roll(2024).0, Answer { number: 0, value: 1 });
 

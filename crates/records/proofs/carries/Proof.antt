@@ -24,15 +24,15 @@ add-if2 c = search needs
 returns-2 : tie.Need-returns-2
 returns-2 c = λ e. absurd (false≢true e)
 
-alone-requires : tie.Need-alone-requires
-alone-requires c κs = search needs
+first-alone-requires : tie.Need-first-alone-requires
+first-alone-requires c κs = search needs
 
 returns-3 : tie.Need-returns-3
 returns-3 c =
     let at-index = c .before .before in
     let a = at-index .before .before .before .args in
-    λ e. inr (sym (c .alone .ensures ∙ ap (λ (o : ℕ). aloneIn (a .map .now) (o / 4096)) (at-index .index .ensures .0)) ∙ e)
+    λ e. inr (sym (c .first-alone .ensures ∙ ap (λ (o : ℕ). aloneIn (a .map .now) (o / 4096)) (at-index .index .ensures .0)) ∙ e)
 
 pub carries-spec : {M : Type 1} → statement M
 carries-spec =
-    tie.close (tie.spec returns index-requires mul-if2 add-if2 returns-2 alone-requires returns-3)
+    tie.close (tie.spec returns index-requires mul-if2 add-if2 returns-2 first-alone-requires returns-3)
