@@ -25,9 +25,9 @@ abbrev μ-loop : tie.MeasureT-loop
 abbrev start : tie.After-slice-known Inv-loop μ-loop → tie.Start Inv-loop μ-loop
 start c = c .before .before
 
--- past the loop's test, seen from the turn's test
-abbrev entered : tie.After-shared-slice-known2 Inv-loop μ-loop → tie.In-loop Inv-loop μ-loop
-entered c = c .before
+-- the turn's beginning, seen from where word i has blocks
+abbrev begun : tie.Else1 Inv-loop μ-loop → tie.At-loop Inv-loop μ-loop
+begun c = c .before .before .before
 
 mul-last : tie.Need-mul-last Inv-loop μ-loop
 mul-last c = omega arith
@@ -66,13 +66,13 @@ mul-first-2 : tie.Need-mul-first-2 Inv-loop μ-loop
 mul-first-2 c = omega arith
 
 mul-first-3 : tie.Need-mul-first-3 Inv-loop μ-loop
-mul-first-3 c = omega (arith, near (entered c))
+mul-first-3 c = omega (arith, near (c .before))
 
 add-first : tie.Need-add-first Inv-loop μ-loop
-add-first c = omega (arith, near (entered c))
+add-first c = omega (arith, near (c .before))
 
 add-first-2 : tie.Need-add-first-2 Inv-loop μ-loop
-add-first-2 c = omega (arith, near (entered c))
+add-first-2 c = omega (arith, near (c .before))
 
 same-length : tie.Need-same-length Inv-loop μ-loop
 same-length c = c .before .before .before .loop .inv .0 .long
@@ -86,27 +86,24 @@ returns c =
     finish (p .inv .0) (none-after (a .map .now) (a .pool) (a .size) (capacity (a .size)) (p .i) past)
 
 -- where the code goes on, word i has blocks, and they end with the pool's last one
-some : (c : tie.Else1 Inv-loop μ-loop)
-    → let a = start (c .before .before .before .before) .args in
-    let i = c .before .before .before .loop .i in
-    64 * i < capacity (a .size)
+some : (c : tie.Else1 Inv-loop μ-loop) → 64 * begun c .loop .i < capacity (start (begun c .before) .args .size)
 some c =
-    let a = start (c .before .before .before .before) .args in
-    some-there (a .pool) (a .size) (c .before .before .before .loop .i) (omega arith) (omega arith) (c .if1 .left)
+    let a = start (begun c .before) .args in
+    some-there (a .pool) (a .size) (begun c .loop .i) (omega arith) (omega arith) (c .if1 .left)
 
 ends : (c : tie.Else1 Inv-loop μ-loop)
-    → let a = start (c .before .before .before .before) .args in
-    let i = c .before .before .before .loop .i in
+    → let a = start (begun c .before) .args in
+    let i = begun c .loop .i in
     upTo (offsetOf (a .pool) (startOf (a .size) (64 * i))) (a .size) (offsetOf (a .pool) (lastStart (a .size)))
     ≡ inWord (capacity (a .size)) i
 ends c =
-    let a = start (c .before .before .before .before) .args in
-    up-to-last (a .pool) (a .size) (c .before .before .before .loop .i) (omega arith) (omega arith) (some c)
+    let a = start (begun c .before) .args in
+    up-to-last (a .pool) (a .size) (begun c .loop .i) (omega arith) (omega arith) (some c)
 
 roll-word-requires : tie.Need-roll-word-requires Inv-loop μ-loop
 roll-word-requires c κs =
     let at-if1 = c .before in
-    let at-loop = at-if1 .before .before .before in
+    let at-loop = begun at-if1 in
     let a = start (at-loop .before) .args in
     let p = at-loop .loop in
     let f = fewer (word-parts (a .map .now) (a .pool) (a .size) (capacity (a .size))) (p .i) (omega (arith, some at-if1)) in
@@ -122,7 +119,7 @@ loop-again : tie.Need-loop-again Inv-loop μ-loop
 loop-again c =
     let at-roll-word = c .before .before in
     let at-if1 = at-roll-word .before .before in
-    let at-loop = at-if1 .before .before .before in
+    let at-loop = begun at-if1 in
     let a = start (at-loop .before) .args in
     let p = at-loop .loop in
     let stored = rw (ends at-if1) at (at-roll-word .roll-word .ensures) in (
