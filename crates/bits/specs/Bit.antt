@@ -3,11 +3,16 @@
 -- Assumes nothing.
 use mathlib.Core.Path.{_≡_, refl, sym, ap, ap₂, _∙_}
 use Prim.Native.Nat.{ℕ, zero, suc, _+_, _-_, _*_, _/_, _%_, _^_, _≤_, _<_, min, max}
-use native.Mathlib.Nat.{mul-assoc, mul-comm, one-mul, pow-suc, div-div-eq-div-mul, mod-eq-of-lt, not-suc-le-zero, le-of-suc-le-suc}
+use native.Mathlib.Nat.{mul-assoc, mul-comm, one-mul, pow-suc, div-div-eq-div-mul, mod-eq-of-lt, not-suc-le-zero, le-of-suc-le-suc, zero-div}
 use native.Mathlib.Omega.{arith}
 use lib.Pow.{pow-lt}
 use lib.Bits.{bitAnd, bitOr, or-step, and-step, or-zero-r, and-mask}
 use Rattle.rules.specs.Books.{bit, putBit}
+
+-- a word of zeros has no bit set
+pub no-bit : (j : ℕ) → bit 0 j ≡ 0
+unfolding bit
+no-bit j = rw (zero-div (2 ^ j))
 
 -- ---- digit by digit: bit j + 1 of a word is bit j of its half
 bit-zero : (w : ℕ) → bit w zero ≡ w % 2

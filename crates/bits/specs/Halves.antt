@@ -5,7 +5,7 @@
 use mathlib.Core.Path.{_≡_, refl, ap, ap₂, _∙_}
 use mathlib.Core.Logic.{_⊎_, inl, inr}
 use Prim.Native.Nat.{ℕ, zero, suc, _+_, _-_, _*_, _/_, _%_, _^_, _≤_, _<_, min}
-use native.Mathlib.Nat.{mod-one, add-suc, add-zero, mul-one}
+use native.Mathlib.Nat.{mod-one, add-suc, add-zero, mul-one, pow-suc}
 use native.Mathlib.Numerals.{add-one}
 use native.Mathlib.Omega.{arith}
 use lib.Bits.{bitAnd, and-step, and-self, and-le-r, shifted-half, shifted-even}
@@ -29,6 +29,16 @@ first-odd k w e = ap (λ (d : ℕ). under d (trailingZeros k (w / 2))) e
 pub first-even : (k w : ℕ) → w % 2 ≡ 0 → trailingZeros (suc k) w ≡ suc (trailingZeros k (w / 2))
 unfolding trailingZeros
 first-even k w e = ap (λ (d : ℕ). under d (trailingZeros k (w / 2))) e
+
+-- it is one of them, where any is set
+pub first-there : (k w : ℕ) → 0 < w → w < 2 ^ k → trailingZeros k w < k
+first-there zero w h l = absurd (omega arith)
+first-there (suc k) w h l = go (parity w) (first-there k (w / 2))
+  where
+    go : (w % 2 ≡ 1) ⊎ (w % 2 ≡ 0) → (0 < w / 2 → w / 2 < 2 ^ k → trailingZeros k (w / 2) < k)
+        → trailingZeros (suc k) w < suc k
+    go (inl e) rest = omega (arith, first-odd k w e)
+    go (inr e) rest = omega (arith, first-even k w e, rest (omega arith) (omega (arith, pow-suc 2 k)))
 
 -- ---- `w & (w - 1)`, the word without its first set bit
 abbrev pub withoutFirst : ℕ → ℕ

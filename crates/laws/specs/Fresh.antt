@@ -4,8 +4,7 @@ use mathlib.Core.Path.{_≡_, refl, sym, ap, _∙_}
 use mathlib.Core.Logic.{_≢_, _⊎_, inl, inr}
 use mathlib.Core.Bool.{true, false, false≢true}
 use mathlib.Core.List.{List, _∷_, _++_}
-use Prim.Native.Nat.{ℕ, zero, suc, _+_, _*_, _-_, _%_, _^_, _≤_, _<_}
-use native.Mathlib.Nat.{zero-div}
+use Prim.Native.Nat.{ℕ, zero, suc, _+_, _*_, _-_, _%_, _≤_, _<_}
 use native.Mathlib.Decide.{ℕ-discrete}
 use native.Mathlib.Omega.{arith}
 use lib.Dec.{eqb}
@@ -13,9 +12,10 @@ use lib.ListN.{length, replicate, length-append, length-replicate, getD-replicat
 use lib.Seq.{getD-append-add}
 use borrow.Author.Tests.{eq-eqb, ne-eqb, le-ltb, ltb-true}
 use Rattle.rules.specs.Say.{if_then_else_}
-use Rattle.rules.specs.Books.{at, inRange, memoryLength, mapLength, bit, isSet, mapWord, classHead, arenaWord, poolWord, linkTo, noClass}
+use Rattle.rules.specs.Books.{at, inRange, memoryLength, mapLength, isSet, mapWord, classHead, arenaWord, poolWord, linkTo, noClass}
 use Rattle.rules.specs.Format.{freshArenas, freshPools, freshBooks}
 use Rattle.rules.specs.Outcome.{heapOf}
+use Rattle.bits.specs.Bit.{no-bit}
 use Rattle.books.specs.Known.{in-range}
 use Rattle.books.specs.Records.{length-arenas, length-pools}
 use Rattle.laws.specs.Sequences.{All, Once, In, Seg}
@@ -179,9 +179,7 @@ module _ (al A P : ℕ) (L : Aligned al) (m : List ℕ)
   unused a = base-unused P (fresh A) a refl
 
   dark : (n j : ℕ) → n < A * P → j < 512 → isSet (replicate (mapLength A P) 0) n j ≡ false
-  unfolding bit
-  dark n j l u =
-      rw (getD-replicate {A = ℕ} (mapLength A P) (mapWord n j) 0 0 (omega arith), zero-div (2 ^ (j % 64)))
+  dark n j l u = rw (getD-replicate {A = ℕ} (mapLength A P) (mapWord n j) 0 0 (omega arith), no-bit (j % 64))
 
   zero-arena : (w a : ℕ) → w < 8 → w ≢ 4 → w ≢ 5 → a < A → at (freshBooks A P) (arenaWord w a) ≡ 0
   zero-arena w a u d e l = arena-word A P w a u l ∙ rw (ne-eqb w 4 d, ne-eqb w 5 e)

@@ -14,8 +14,6 @@ use native.Mathlib.Nat.{
   suc-add,
   add-suc,
   suc-mul,
-  zero-div,
-  pow-suc,
   le-div-iff-mul-le,
   div-lt-iff-lt-mul,
   add-mul-div-right,
@@ -32,6 +30,7 @@ use Rattle.rules.specs.Say.{if_then_else_}
 use Rattle.rules.specs.Books.{at, bit, isSet, offsetOf}
 use Rattle.rules.specs.Blocks.{startOf, lastStart, capacity}
 use Rattle.rules.specs.View.{rollBlocks}
+use Rattle.bits.specs.Bit.{no-bit}
 use Rattle.bits.specs.Halves.{parity, first-odd, first-even, withoutFirst, without-odd, without-even}
 use Rattle.books.specs.Tests.{both}
 use Rattle.loops.specs.Left.{Parts}
@@ -60,16 +59,6 @@ module _ (w o s n : ℕ) where
       rw (low, half)
 
 -- ---- from set bit to set bit: the first of a word of k bits
--- it is one of them, where any is set
-pub first-there : (k w : ℕ) → 0 < w → w < 2 ^ k → trailingZeros k w < k
-first-there zero w h l = absurd (omega arith)
-first-there (suc k) w h l = go (parity w) (first-there k (w / 2))
-  where
-    go : (w % 2 ≡ 1) ⊎ (w % 2 ≡ 0) → (0 < w / 2 → w / 2 < 2 ^ k → trailingZeros k (w / 2) < k)
-        → trailingZeros (suc k) w < suc k
-    go (inl e) rest = omega (arith, first-odd k w e)
-    go (inr e) rest = omega (arith, first-even k w e, rest (omega arith) (omega (arith, pow-suc 2 k)))
-
 -- where it is not among the n blocks, none of them is live
 pub none-live : (k n w o s : ℕ) → n ≤ trailingZeros k w → rollWord w o s n ≡ []
 unfolding rollWord trailingZeros
@@ -165,11 +154,6 @@ each-zero w (suc n) e i h =
     go : w n ≡ 0 → (i < n → w i ≡ 0) → Dec (i ≡ n) → w i ≡ 0
     go last rest (yes q) = ap w q ∙ last
     go last rest (no q) = rest (omega arith)
-
--- a word of zeros has no bit set
-pub no-bit : (j : ℕ) → bit 0 j ≡ 0
-unfolding bit
-no-bit j = rw (zero-div (2 ^ j))
 
 -- ---- no bit of pool p is set
 abbrev pub noneSet : List ℕ → ℕ → Bool

@@ -28,12 +28,12 @@ use Rattle.rules.specs.Ask.{afterAsk, askAnswer, asked, askStep}
 use Rattle.rules.specs.GiveBack.{afterBack, backAnswer, givenBack, backStep}
 use Rattle.rules.specs.Resize.{keeps, copy, giveOld, halfDone, moved, resizeStep}
 use Rattle.rules.specs.Numbers.{shapeNumber, sizeNumber, inOrder, ask, giveBack, resize}
-use Rattle.bits.specs.Bit.{put-other}
+use Rattle.bits.specs.Bit.{no-bit, put-other}
 use Rattle.bits.specs.Map.{length-put}
 use Rattle.books.specs.Known.{LiveBlock, live-is}
 use Rattle.books.specs.Starts.{first-block}
 use Rattle.books.specs.Tests.{both}
-use Rattle.loops.specs.Word.{zeros, each-zero, no-bit}
+use Rattle.loops.specs.Word.{zeros, each-zero}
 use Rattle.plans.specs.Class.{Range, ranged}
 use Rattle.plans.specs.Fits.{FitsAsk, Spare, fits-ask}
 use Rattle.records.specs.Calls.{Kept, ask-fair, back-fair, resize-fair}

@@ -7,9 +7,9 @@ use native.Mathlib.Nat.{mul-le-mul}
 use native.Mathlib.Omega.{arith}
 use lib.Count.{trailingZeros, trailing-le, trailing-of-zero}
 use lib.ListN.{length, length-set}
-use Rattle.bits.specs.Halves.{withoutFirst, without-less}
+use Rattle.bits.specs.Halves.{first-there, withoutFirst, without-less}
 use Rattle.loops.specs.Left.{Left, unstored, store, finish, two}
-use Rattle.loops.specs.Word.{rollWord, first-there, first-live, none-live, upTo, not-past, past}
+use Rattle.loops.specs.Word.{rollWord, first-live, none-live, upTo, not-past, past}
 use Rattle.loops.proofs.roll_word.Statement.{statement}
 use Rattle.loops.proofs.roll_word.Tie as tie
 
