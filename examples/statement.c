@@ -1,5 +1,6 @@
 /* A talking statement keeps each text in a block. The block of the word "owed" is given back twice: the second time
-   is refused, the payee's name gets a block of its own, and the roll call says what every block that is out holds.
+   is refused, and while the block is not out a stand-in is spoken for it. Then the payee's name gets a block of its
+   own, and the roll call says what every block that is out holds.
 
    gcc -Iinclude examples/statement.c target/staticlib/libheskavern.a -o target/statement && target/statement */
 #include <stdio.h>
@@ -37,11 +38,21 @@ static void give_back(uint32_t offset)
     printf("give back %u: number %u\n", offset, heskavern_give_back(HEAP, offset).number);
 }
 
+/* Speaks the text at an offset, or for one that is not live the stand-in, never what was once there. */
+static void speak(uint32_t offset)
+{
+    static const char stand_in[] = "this amount can't be read out";
+    heskavern_part spoken = heskavern_stand_in(HEAP, offset, stand_in, strlen(stand_in));
+    printf("speak %u: \"%.*s\"\n", offset, (int)spoken.size, (const char *)spoken.bytes);
+}
+
 int main(void)
 {
     value_of(heskavern_format(HEAP, 1, 2));
     uint32_t owed = keep("owed");
+    speak(owed);
     give_back(owed);
+    speak(owed);
     give_back(owed);
     keep("owed");
     keep("A. Moss");

@@ -5,10 +5,11 @@ A heap has A arenas (1 to 16) of P pools (2 to 64); a pool is 4,096 bytes. Three
 a pointer and its length in elements: memory, which holds the blocks, books and map. Their lengths are exact: see the
 macros below; HESKAVERN_LENT makes all six arguments. A block is known by its offset in memory.
 
-Every call answers a number and a value. The number is 0 when it is done, and otherwise says why it is refused. A
-refusal has value 0 and leaves every byte and word as it was, but for the half-done resize. Any lengths, any contents of
-the buffers and any arguments get their number: that is proved of the source, and so is that a call always returns and
-touches nothing but the buffers. No call allocates or makes a system call.
+Every call answers a number and a value, but for view and the stand-in, which hand back a part. The number is 0 when it
+is done, and otherwise says why it is refused. A refusal has value 0 and leaves every byte and word as it was, but for
+the half-done resize. Any lengths, any contents of the buffers and any arguments get their number: that is proved of the
+source, and so is that a call always returns and touches nothing but the buffers. No call allocates or makes a system
+call.
 
 What the caller owes, and no call can test:
 - Each pointer is valid for its length and aligned for its type. It is not null, even where the length is 0.
@@ -23,8 +24,8 @@ still answers by its rules, but it may meet damage and give 6, or hand out what 
 
 What is good to know:
 - An offset names a block and not its holder. While the block is not out, every call on it is refused, with 5 (a resize
-  to a size out of range with 3, which comes first). Once it is out again, a stale offset is the new holder's: a view
-  shows its text, a write or a give-back changes it.
+  to a size out of range with 3, which comes first); its stand-in is the phrase. Once it is out again, a stale offset is
+  the new holder's: a view shows its text, a write or a give-back changes it.
 - Buffers of two heaps in one call, each with its own length, are refused with 2 where A x P differs. (HESKAVERN_LENT
   makes the lengths from A and P: with a smaller heap's buffers it breaks the first rule above.) Where A x P is the same
   no call can tell: it answers by the three buffers as they are lent and touches no others, but it may write into a
@@ -87,11 +88,13 @@ enum {
 /* The largest size that can be asked for. */
 #define HESKAVERN_LARGEST 512
 
-/* A number as a size, by a cast that -Wold-style-cast is quiet about. */
+/* A number as a size, and what lies at a pointer as bytes, by casts that -Wold-style-cast is quiet about. */
 #ifdef __cplusplus
 #define HESKAVERN_SIZE(n) static_cast<size_t>(n)
+#define HESKAVERN_BYTES(p) static_cast<const uint8_t *>(p)
 #else
 #define HESKAVERN_SIZE(n) ((size_t)(n))
+#define HESKAVERN_BYTES(p) ((const uint8_t *)(p))
 #endif
 
 /* The exact lengths of the buffers for A arenas of P pools, and roll words that are always enough. */
@@ -134,7 +137,7 @@ typedef struct heskavern_answer {
     uint32_t value;
 } heskavern_answer;
 
-/* A block's own part of memory. */
+/* What view and the stand-in hand back: a block's own part of memory, or what stands in for it. */
 typedef struct heskavern_part {
     const uint8_t *bytes;
     size_t size;
@@ -187,19 +190,29 @@ HESKAVERN_MUST_USE heskavern_answer heskavern_roll_call(
     const uint8_t *memory, size_t memory_bytes, const uint32_t *books, size_t books_words, const uint64_t *map,
     size_t map_words, uint32_t *roll, size_t roll_words) HESKAVERN_NOEXCEPT;
 
-/* View: the live block's own part of memory, the whole block; where view_size refuses, the empty part at memory's
-   start. */
-static inline heskavern_part heskavern_view(
+/* Stand-in: the live block's own part of memory, the whole block; where view_size refuses, the phrase itself, all of
+   it. So a block that is not out is never read out: its offset speaks the phrase. Neither is copied, and the phrase is
+   only handed on: it may be empty, and it may be a part of memory. It answers the part alone, and no number. */
+static inline heskavern_part heskavern_stand_in(
     const uint8_t *memory, size_t memory_bytes, const uint32_t *books, size_t books_words, const uint64_t *map,
-    size_t map_words, size_t offset) HESKAVERN_NOEXCEPT
+    size_t map_words, size_t offset, const void *phrase, size_t phrase_bytes) HESKAVERN_NOEXCEPT
 {
     heskavern_answer sized = heskavern_view_size(memory, memory_bytes, books, books_words, map, map_words, offset);
-    heskavern_part part = {memory, 0};
+    heskavern_part part = {HESKAVERN_BYTES(phrase), phrase_bytes};
     if (sized.number == HESKAVERN_DONE) {
         part.bytes = memory + offset;
         part.size = sized.value;
     }
     return part;
+}
+
+/* View: the live block's own part of memory, the whole block; where view_size refuses, the empty part at memory's
+   start: the stand-in of nothing. */
+static inline heskavern_part heskavern_view(
+    const uint8_t *memory, size_t memory_bytes, const uint32_t *books, size_t books_words, const uint64_t *map,
+    size_t map_words, size_t offset) HESKAVERN_NOEXCEPT
+{
+    return heskavern_stand_in(memory, memory_bytes, books, books_words, map, map_words, offset, memory, 0);
 }
 
 #ifdef __cplusplus

@@ -41,6 +41,7 @@ int main(void)
     static_assert(noexcept(heskavern_format(HEAP, A, P)) && noexcept(heskavern_ask(HEAP, 4))
         && noexcept(heskavern_give_back(HEAP, 48)) && noexcept(heskavern_resize(HEAP, 48, 100))
         && noexcept(heskavern_view_size(HEAP, 48)) && noexcept(heskavern_view(HEAP, 48))
+        && noexcept(heskavern_stand_in(HEAP, 48, "no", 2))
         && noexcept(heskavern_write(HEAP, 48, "owed", 4)) && noexcept(heskavern_roll_call(HEAP, roll, 2)),
         "no call throws");
 #endif
@@ -57,6 +58,8 @@ int main(void)
     EXPECT(roll[0] == moved.value && roll[1] == part.size);
     (void)heskavern_give_back(HEAP, moved.value);
     EXPECT(heskavern_give_back(HEAP, moved.value).number == HESKAVERN_NOT_LIVE);
+    part = heskavern_stand_in(HEAP, moved.value, "no amount", 9);
+    EXPECT(part.size == 9 && memcmp(part.bytes, "no amount", 9) == 0);
 #ifdef FROM_MALLOC
     free(memory);
     free(books);

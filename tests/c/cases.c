@@ -1,5 +1,5 @@
-/* The cases of 01, run through heskavern.h: K1 to K10, the fills, the moves, and each number from 0 to 7; and what the
-   header says is good to know. C99, and C++ too. */
+/* The cases of 01, run through heskavern.h: K1 to K10, the fills, the moves, and each number from 0 to 7; those of 02's
+   W-214; and what the header says is good to know. C99, and C++ too. */
 #include <stdio.h>
 #include <stdlib.h>
 #include <string.h>
@@ -24,6 +24,7 @@ static size_t memory_bytes, books_words, map_words;
 #define GIVE_BACK(o) heskavern_give_back(HEAP, o)
 #define RESIZE(o, n) heskavern_resize(HEAP, o, n)
 #define VIEW_SIZE(o) heskavern_view_size(HEAP, o)
+#define STAND_IN(o, phrase, n) heskavern_stand_in(HEAP, o, phrase, n)
 #define WRITE(o, text, n) heskavern_write(HEAP, o, text, n)
 #define ROLL_CALL(n) heskavern_roll_call(HEAP, roll, n)
 
@@ -45,6 +46,11 @@ static int is(heskavern_answer answer, uint32_t number, uint32_t value)
 }
 
 static int done(heskavern_answer answer, uint32_t value) { return is(answer, HESKAVERN_DONE, value); }
+
+static int lies(heskavern_part part, const void *bytes, size_t size)
+{
+    return part.bytes == bytes && part.size == size;
+}
 
 static void lend(size_t arenas, size_t pools)
 {
@@ -235,7 +241,7 @@ static void view_and_write(void)
     EXPECT(done(ASK(12), 48));
     EXPECT(done(WRITE(48, "payee", 5), 48));
     part = heskavern_view(HEAP, 48);
-    EXPECT(part.bytes == memory + 48 && part.size == 16);
+    EXPECT(lies(part, memory + 48, 16));
     EXPECT(memcmp(part.bytes, "payee", 5) == 0 && filled(part.bytes + 5, 11));
     EXPECT(done(WRITE(48, "", 0), 48));
     EXPECT(done(WRITE(48, books, 4), 48)); /* buffers that are only read may overlap */
@@ -245,9 +251,56 @@ static void view_and_write(void)
     EXPECT(is(WRITE(48, "seventeen letters", 17), HESKAVERN_DOES_NOT_FIT, 0));
     EXPECT(is(WRITE(64, "no", 2), HESKAVERN_NOT_LIVE, 0));
     EXPECT(is(VIEW_SIZE(64), HESKAVERN_NOT_LIVE, 0));
-    part = heskavern_view(HEAP, 64);
-    EXPECT(part.bytes == memory && part.size == 0);
+    EXPECT(lies(heskavern_view(HEAP, 64), memory, 0));
     EXPECT(unchanged());
+    expect_untouched();
+}
+
+/* The phrase itself for an offset that is not live, whatever once stood there, and wherever the phrase lies. */
+static void expect_phrase(size_t offset)
+{
+    static const char phrase[] = "this amount can't be read out";
+    EXPECT(VIEW_SIZE(offset).number != HESKAVERN_DONE);
+    EXPECT(lies(STAND_IN(offset, phrase, 29), phrase, 29));
+    EXPECT(lies(STAND_IN(offset, phrase, 0), phrase, 0));
+    EXPECT(lies(STAND_IN(offset, memory + 40, 24), memory + 40, 24));
+}
+
+/* The block's own part while it is live, whatever the phrase is: also an empty one, one that has the block's bytes, and
+   one that is a part of memory, over the block itself. */
+static void expect_own(size_t offset, size_t size)
+{
+    uint8_t same[HESKAVERN_LARGEST];
+    memcpy(same, memory + offset, size);
+    EXPECT(done(VIEW_SIZE(offset), (uint32_t)size));
+    EXPECT(lies(STAND_IN(offset, "no", 2), memory + offset, size));
+    EXPECT(lies(STAND_IN(offset, "", 0), memory + offset, size));
+    EXPECT(lies(STAND_IN(offset, same, size), memory + offset, size));
+    EXPECT(lies(STAND_IN(offset, memory + offset - 8, size), memory + offset, size));
+}
+
+static void stand_ins(void)
+{
+    static const size_t dead[] = {0, 47, 52, 80, 4144, HESKAVERN_MEMORY_BYTES(1, 2), (size_t)-1};
+    size_t i;
+    fresh(1, 2);
+    expect_phrase(48);
+    EXPECT(done(ASK(12), 48));
+    EXPECT(done(ASK(12), 64));
+    EXPECT(done(WRITE(48, "sixteen letters.", 16), 48));
+    remember();
+    expect_own(48, 16);
+    for (i = 0; i < sizeof dead / sizeof *dead; i++)
+        expect_phrase(dead[i]);
+    EXPECT(unchanged());
+    EXPECT(done(GIVE_BACK(48), 48));
+    remember();
+    expect_phrase(48);
+    expect_own(64, 16);
+    EXPECT(unchanged());
+    EXPECT(done(ASK(16), 48));
+    EXPECT(done(WRITE(48, "the new holder's", 16), 48));
+    expect_own(48, 16);
     expect_untouched();
 }
 
@@ -343,7 +396,8 @@ static void expect_refused(uint32_t number)
     EXPECT(is(GIVE_BACK(48), number, 0));
     EXPECT(is(RESIZE(48, 100), number, 0));
     EXPECT(is(VIEW_SIZE(48), number, 0));
-    EXPECT(heskavern_view(HEAP, 48).bytes == memory && heskavern_view(HEAP, 48).size == 0);
+    EXPECT(lies(heskavern_view(HEAP, 48), memory, 0));
+    expect_phrase(48);
     EXPECT(is(WRITE(48, "owed", 4), number, 0));
     EXPECT(is(ROLL_CALL(100), number, 0));
     EXPECT(unchanged());
@@ -449,7 +503,7 @@ static void copied_and_stale(void)
     fresh(1, 2);
 #define COPY memory_before, memory_bytes, books_before, books_words, map_before, map_words
     part = heskavern_view(COPY, 48);
-    EXPECT(part.bytes == memory_before + 48 && part.size == 8 && memcmp(part.bytes, "owed", 4) == 0);
+    EXPECT(lies(part, memory_before + 48, 8) && memcmp(part.bytes, "owed", 4) == 0);
     EXPECT(done(heskavern_give_back(COPY, 48), 48));
     EXPECT(is(heskavern_give_back(COPY, 48), HESKAVERN_NOT_LIVE, 0));
     EXPECT(done(heskavern_ask(COPY, 4), 48));
@@ -479,6 +533,7 @@ int main(void)
     fill_with_512();
     moves();
     view_and_write();
+    stand_ins();
     roll_calls();
     stray_bits();
     largest();

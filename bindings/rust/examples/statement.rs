@@ -1,5 +1,6 @@
 //! A talking statement keeps each text in a block. The block of the word "owed" is given back twice: the second time
-//! is refused, the payee's name gets a block of its own, and the roll call says what every block that is out holds.
+//! is refused, and while the block is not out a stand-in is spoken for it. Then the payee's name gets a block of its
+//! own, and the roll call says what every block that is out holds.
 //!
 //! cargo run --manifest-path bindings/rust/Cargo.toml --example statement
 
@@ -18,6 +19,16 @@ fn give_back(heap: &mut Heap, offset: u32) {
     println!("give back {offset}: number {number}");
 }
 
+/// The text in a block, up to the zeros that fill it.
+fn text_of(block: &[u8]) -> String {
+    String::from_utf8_lossy(block).trim_end_matches('\0').to_string()
+}
+
+/// Speaks the text at an offset, or for one that is not live the stand-in, never what was once there.
+fn speak(heap: &Heap, offset: u32) {
+    println!("speak {offset}: \"{}\"", text_of(heap.stand_in(offset, b"this amount can't be read out")));
+}
+
 fn main() -> Result<(), Refusal> {
     let mut memory = [0; memory_bytes(1, 2)];
     let mut books = [0; books_words(1, 2)];
@@ -25,15 +36,16 @@ fn main() -> Result<(), Refusal> {
     let mut heap = Heap::format(&mut memory, &mut books, &mut map, 1, 2)?;
 
     let owed = keep(&mut heap, "owed")?;
+    speak(&heap, owed);
     give_back(&mut heap, owed);
+    speak(&heap, owed);
     give_back(&mut heap, owed);
     keep(&mut heap, "owed")?;
     keep(&mut heap, "A. Moss")?;
 
     let mut words = [0; roll_words(1, 2)];
     for (offset, size) in heap.roll_call(&mut words)? {
-        let text = String::from_utf8_lossy(heap.view(offset)?);
-        println!("roll call: {offset}, {size} bytes, \"{}\"", text.trim_end_matches('\0'));
+        println!("roll call: {offset}, {size} bytes, \"{}\"", text_of(heap.view(offset)?));
     }
     Ok(())
 }

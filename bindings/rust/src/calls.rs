@@ -172,6 +172,17 @@ pub fn view_size(memory: &[u8], books: &[u32], map: &[u64], offset: usize) -> An
     }
 }
 
+/// Stand-in: the live block's own part of `memory`, the whole block, or `phrase` itself, exactly where [`view_size`]
+/// refuses. It answers the part alone. Neither is copied: one lifetime holds for both, and the phrase may be a part of
+/// memory too.
+#[must_use]
+pub fn stand_in<'a>(memory: &'a [u8], books: &[u32], map: &[u64], offset: usize, phrase: &'a [u8]) -> &'a [u8] {
+    match view_size(memory, books, map, offset) {
+        Answer { number: 0, value: size } => &memory[offset..][..size as usize],
+        _ => phrase,
+    }
+}
+
 /// Write the text to the start of the live block at `offset`. The value is the offset.
 pub fn write(memory: &mut [u8], books: &[u32], map: &[u64], offset: usize, text: &[u8]) -> Answer {
     // SAFETY: see the module.

@@ -28,8 +28,8 @@
 //!
 //! - An offset names a block and not its holder. While the block is not out, every call on it is refused with
 //!   [`NotLive`](Refusal::NotLive) (a resize to a size out of range with [`BadSize`](Refusal::BadSize), which comes
-//!   first). Once it is out again, a stale offset is the new holder's: a view shows its text, a write or a give-back
-//!   changes it.
+//!   first), and [`stand_in`](Heap::stand_in) hands back its phrase. Once it is out again, a stale offset is the new
+//!   holder's: a view shows its text, a write or a give-back changes it.
 //! - A [`Heap`] holds its three buffers, so those of two heaps cannot be mixed up in a call; [`Heap::open`] and
 //!   [`calls`] can be lent a mixture. It is refused where A × P differs. Where it is the same no call can tell: it
 //!   answers by the three buffers as they are lent and touches no others, but it may write into a block that is held,
@@ -223,6 +223,28 @@ impl<'a> Heap<'a> {
     pub fn view(&self, offset: u32) -> Result<&[u8], Refusal> {
         let size = self.size_at(offset)?;
         Ok(&self.memory[offset as usize..][..size])
+    }
+
+    /// Stand-in: the live block's own part of memory, the whole block, or the lent phrase itself, exactly where
+    /// [`view`](Heap::view) is refused. So a block that is not out is never read out: its offset speaks the phrase. It
+    /// is never refused, and an empty phrase is allowed. Nothing is copied: heap and phrase stay lent while the part is
+    /// used, and the phrase may lie in a block of this heap.
+    ///
+    /// ```
+    /// # use heskavern::{books_words, map_words, memory_bytes, Heap, Refusal};
+    /// # let (mut memory, mut books, mut map) =
+    /// #     ([0; memory_bytes(1, 2)], [0; books_words(1, 2)], [0; map_words(1, 2)]);
+    /// # let mut heap = Heap::format(&mut memory, &mut books, &mut map, 1, 2)?;
+    /// let word = heap.ask(4)?;
+    /// heap.write(word, b"owed")?;
+    /// assert!(heap.stand_in(word, b"this amount can't be read out").starts_with(b"owed"));
+    /// heap.give_back(word)?;
+    /// assert_eq!(heap.stand_in(word, b"this amount can't be read out"), b"this amount can't be read out");
+    /// # Ok::<(), Refusal>(())
+    /// ```
+    #[must_use]
+    pub fn stand_in<'s>(&'s self, offset: u32, phrase: &'s [u8]) -> &'s [u8] {
+        calls::stand_in(self.memory, self.books, self.map, offset as usize, phrase)
     }
 
     /// View, for the holder to write to. Refused with 5.

@@ -1,6 +1,6 @@
 //! 01's cases through the bindings: what a caller in Rust gets for each number, and what it can get hold of.
 
-use heskavern::{books_words, map_words, memory_bytes, roll_words, Heap, Refusal};
+use heskavern::{books_words, calls, map_words, memory_bytes, roll_words, Heap, Refusal};
 
 /// Buffers for A arenas of P pools, which held something else.
 struct Lent {
@@ -134,6 +134,59 @@ fn a_short_roll_is_left_as_it_was() -> Result<(), Refusal> {
     assert_eq!(words, [7; 5]);
     assert_eq!(heap.roll_call(&mut words)?.collect::<Vec<_>>(), [(48, 8), (4144, 16)]);
     assert_eq!(words, [48, 8, 4144, 16, 7]);
+    Ok(())
+}
+
+#[test]
+fn a_stale_offset_speaks_the_phrase() -> Result<(), Refusal> {
+    let phrase = b"this amount can't be read out";
+    let mut lent = lent(1, 2);
+    let mut heap = lent.format(1, 2)?;
+    assert_eq!(heap.ask(8), Ok(48));
+    heap.write(48, b"owed 100")?;
+    assert_eq!(heap.stand_in(48, phrase), b"owed 100");
+    heap.give_back(48)?;
+    for offset in [0, 47, 48, 52, 56, 8192, u32::MAX] {
+        assert!(std::ptr::eq(heap.stand_in(offset, phrase), phrase));
+        assert_eq!(heap.stand_in(offset, b""), b"");
+    }
+    assert_eq!(heap.ask(8), Ok(48));
+    heap.write(48, b"paid 100")?;
+    assert_eq!(heap.stand_in(48, phrase), b"paid 100");
+    Ok(())
+}
+
+#[test]
+fn a_stand_in_is_no_copy() -> Result<(), Refusal> {
+    let mut lent = lent(1, 2);
+    let mut heap = lent.format(1, 2)?;
+    assert_eq!([heap.ask(8)?, heap.ask(8)?], [48, 56]);
+    heap.write(48, b"owed 100")?;
+    heap.write(56, b"no entry")?;
+    // its own part of memory, though the phrase is empty, has the same bytes or lies in memory
+    let own = heap.view(48)?;
+    let same = own.to_vec();
+    for phrase in [b"".as_slice(), &same, heap.view(56)?] {
+        assert!(std::ptr::eq(heap.stand_in(48, phrase), own));
+    }
+    // and the phrase of another block for one that was never handed out
+    assert!(std::ptr::eq(heap.stand_in(64, heap.view(56)?), heap.view(56)?));
+    Ok(())
+}
+
+#[test]
+fn a_heap_of_no_shape_speaks_the_phrase() -> Result<(), Refusal> {
+    let mut lent = lent(1, 2);
+    assert_eq!(lent.format(1, 2)?.ask(8), Ok(48));
+    fn stand_in<'a>(memory: &'a [u8], books: &[u32], map: &[u64]) -> &'a [u8] {
+        calls::stand_in(memory, books, map, 48, b"no")
+    }
+    assert_eq!(stand_in(&lent.memory, &lent.books, &lent.map), &lent.memory[48..56]);
+    assert_eq!(stand_in(&lent.memory[1..], &lent.books, &lent.map), b"no");
+    assert_eq!(stand_in(&lent.memory, &lent.books[..1], &lent.map), b"no");
+    assert_eq!(stand_in(&lent.memory, &lent.books, &[]), b"no");
+    lent.books[0] = 17;
+    assert_eq!(stand_in(&lent.memory, &lent.books, &lent.map), b"no");
     Ok(())
 }
 

@@ -1,4 +1,5 @@
-// Runs 01's "Cases on each side", a line for each: the calls of the case in order, with what each answered.
+// Runs 01's "Cases on each side" and one of 02's W-214, a line for each: the calls of the case in order, with what each
+// answered.
 use books::words::FREEBLOCK;
 use books::words::MAXNEXTOFFSET;
 use books::words::NEXTOFFSET;
@@ -88,6 +89,17 @@ fn view(memory: &[u8], books: &[u32], map: &[u64], offset: usize, n: usize) {
         text(b": ");
         text(&block[..n]);
     }
+}
+
+// What is spoken for an offset: the block's own bytes, or the phrase.
+fn stand_in<'a>(memory: &'a [u8], books: &[u32], map: &[u64], offset: usize, phrase: &'a [u8]) {
+    let spoken = heap::stand_in(memory, books, map, offset, phrase);
+    text(b"; stand-in at ");
+    number(offset);
+    text(b", ");
+    number(spoken.len());
+    text(b" bytes: ");
+    text(spoken);
 }
 
 fn after_blank(n: usize) {
@@ -293,6 +305,20 @@ fn rolls(memory: &mut Memory, books: &mut Books, map: &mut Map) {
     text(b"\n");
 }
 
+// A block speaks while it is live, and then the phrase, never what was once there; an empty phrase is allowed.
+fn stands_in(memory: &mut Memory, books: &mut Books, map: &mut Map) {
+    let phrase = b"this amount can't be read out";
+    format(b"Stand-in", memory, books, map, 16);
+    stand_in(memory, books, map, 48, phrase);
+    ask(memory, books, map, 8);
+    write(memory, books, map, 48, b"owed 100");
+    stand_in(memory, books, map, 48, phrase);
+    give_back(memory, books, map, 48);
+    stand_in(memory, books, map, 48, phrase);
+    stand_in(memory, books, map, 48, b"");
+    text(b"\n");
+}
+
 // The 506th ask gives 4,088, the 507th 4,144, the 1,012th 8,184, the 1,013th is refused; a block
 // given back is served again.
 fn fill_by_8(memory: &mut [u8; 8192], books: &mut [u32; 96], map: &mut [u64; 16]) {
@@ -336,6 +362,7 @@ fn of_16_pools() {
     carries(&mut memory, &mut books, &mut map);
     dead(&mut memory, &mut books, &mut map);
     rolls(&mut memory, &mut books, &mut map);
+    stands_in(&mut memory, &mut books, &mut map);
 }
 
 // The cases of P = 2.

@@ -18,6 +18,8 @@ use Rattle.rules.specs.Promises.{
   ViewPromise,
   ViewPlace,
   ViewSizePromise,
+  StandInPromise,
+  StandInPlace,
   WritePromise,
   RollCallPromise,
 }
@@ -60,6 +62,20 @@ module _ (h g k : Heap) where
   view-size-one o r s e f =
       let t = e ∙ sym f in
       (ap (λ (x : Sized × Heap). x .0) t, ap (λ (x : Sized × Heap). x .1) t)
+
+  -- the stand-in: its bytes, the phrase that it leaves, and its place, `memory` and `lent` being where memory and the
+  -- phrase lie
+  pub stand-in-one : (o : ℕ) (phrase : List ℕ) (memory lent : ℕ × ℕ) (part other kept left : List ℕ) (at to : ℕ × ℕ)
+      → StandInPromise h g o phrase kept part × StandInPlace h o memory lent at
+      → StandInPromise h k o phrase left other × StandInPlace h o memory lent to
+      → (part ≡ other) × (kept ≡ left) × (at ≡ to) × (g ≡ k)
+  stand-in-one o phrase memory lent part other kept left at to e f =
+      let t = e .0 ∙ sym (f .0) in (
+        ap (λ (x : List ℕ × (List ℕ × Heap)). x .0) t,
+        ap (λ (x : List ℕ × (List ℕ × Heap)). x .1 .0) t,
+        e .1 ∙ sym (f .1),
+        ap (λ (x : List ℕ × (List ℕ × Heap)). x .1 .1) t,
+      )
 
   -- and the roll words that it leaves
   pub roll-call-one : (w u v : List ℕ) (r s : Rolled)

@@ -39,6 +39,8 @@ ghost use Rattle.rules.specs.Promises.{
   ViewPromise,
   ViewPlace,
   ViewSizePromise,
+  StandInPromise,
+  StandInPlace,
   WritePromise,
   RollCallPromise,
 };
@@ -171,7 +173,8 @@ fn block_size(books: &[u32], offset: usize) -> usize
     size_of(class_at(books, word(books, 0), offset))
 }
 
-// View: the block's own part of memory, from its offset on for its size, or the empty part at memory's start.
+// View: the block's own part of memory, from its offset on for its size, or the empty part at memory's start, which is
+// the stand-in of nothing.
 pub fn view<'a, 'b, 'c>(
     memory: &'a [u8],
     books: &'b [u32],
@@ -183,12 +186,7 @@ pub fn view<'a, 'b, 'c>(
     ensures wherever { λ r. ⌜ ViewPlace (heapOf (now (memory .entry)) (now (books .entry)) (now (map .entry)))
         offset (ptr (memory .entry)) (ptr r) ⌝ }
 {
-    let number = offset_test(memory, books, map, offset);
-    if number != 0 {
-        return &memory[0..0];
-    }
-    let end = offset + block_size(books, offset);
-    &memory[offset..end]
+    stand_in(memory, books, map, offset, &memory[0..0])
 }
 
 // View's companion: the number and, when done, the block size.
@@ -204,6 +202,29 @@ pub fn view_size(memory: &[u8], books: &[u32], map: &[u64], offset: usize) -> Si
         number: 0,
         size: block_size(books, offset) as u32,
     }
+}
+
+// Stand-in: the block's own part of memory, from its offset on for its size, or the lent phrase itself, which is only
+// handed on and so may be a part of memory too.
+pub fn stand_in<'a, 'b, 'c>(
+    memory: &'a [u8],
+    books: &'b [u32],
+    map: &'c [u64],
+    offset: usize,
+    phrase: &'a [u8],
+) -> &'a [u8]
+    ensures what { λ r. ⌜ StandInPromise (heapOf (now (memory .entry)) (now (books .entry)) (now (map .entry)))
+        (heapOf (now (memory .exit)) (now (books .exit)) (now (map .exit)))
+        offset (now (phrase .entry)) (now (phrase .exit)) (now r) ⌝ }
+    ensures wherever { λ r. ⌜ StandInPlace (heapOf (now (memory .entry)) (now (books .entry)) (now (map .entry)))
+        offset (ptr (memory .entry)) (ptr (phrase .entry)) (ptr r) ⌝ }
+{
+    let refused = offset_test(memory, books, map, offset);
+    if refused != 0 {
+        return phrase;
+    }
+    let end = offset + block_size(books, offset);
+    &memory[offset..end]
 }
 
 // Write: the text is copied to the start of the block.

@@ -12,7 +12,19 @@ use Rattle.rules.specs.declared.Sized.{Sized}
 use Rattle.rules.specs.declared.Rolled.{Rolled}
 use Rattle.rules.specs.Books.{Heap}
 use Rattle.rules.specs.Outcome.{Outcome, outcome}
-use Rattle.rules.specs.Numbers.{RollOutcome, rolledOf, format, ask, giveBack, resize, view, viewSize, write, rollCall}
+use Rattle.rules.specs.Numbers.{
+  RollOutcome,
+  rolledOf,
+  format,
+  ask,
+  giveBack,
+  resize,
+  view,
+  viewSize,
+  standIn,
+  write,
+  rollCall,
+}
 use Rattle.rules.specs.Promises.{
   FormatPromise,
   AskPromise,
@@ -20,6 +32,7 @@ use Rattle.rules.specs.Promises.{
   ResizePromise,
   ViewPromise,
   ViewSizePromise,
+  StandInPromise,
   WritePromise,
   RollCallPromise,
 }
@@ -32,6 +45,7 @@ use Rattle.laws.specs.History.{
   resizes,
   views,
   sizes,
+  standsIn,
   writes,
   rolls,
   pokes,
@@ -42,14 +56,23 @@ use Rattle.laws.specs.History.{
   run,
   NoSix,
 }
-use Rattle.laws.specs.Theorems.{begun, end, no-six, view-shows, entries, entryCount, roll-with-room}
+use Rattle.laws.specs.Theorems.{
+  begun,
+  end,
+  no-six,
+  view-shows,
+  stand-in-shows,
+  entries,
+  entryCount,
+  roll-with-room,
+}
 
 abbrev pub state : Ledger → Heap → State
 state l h = record { heap = h; ledger = l }
 
 -- the call of event e, over the buffers of h, answered number k and left the buffers of g: that it kept its promise,
--- which has here the name that its contract in crate heap uses. View answers no number, and a holder writes its byte
--- itself
+-- which has here the name that its contract in crate heap uses. View and the stand-in answer no number, and a holder
+-- writes its byte itself
 abbrev pub Kept : Ledger → Heap → Event → ℕ → Heap → Type 0
 Kept l h (formats A P) k g = (r : Answer) × (r .number ≡ k) × FormatPromise h g A P r
 Kept l h (asks n) k g = (r : Answer) × (r .number ≡ k) × AskPromise h g n r
@@ -57,6 +80,7 @@ Kept l h (gives o) k g = (r : Answer) × (r .number ≡ k) × GiveBackPromise h 
 Kept l h (resizes o n) k g = (r : Answer) × (r .number ≡ k) × ResizePromise h g o n r
 Kept l h (views o) k g = (part : List ℕ) × (0 ≡ k) × ViewPromise h g o part
 Kept l h (sizes o) k g = (r : Sized) × (r .number ≡ k) × ViewSizePromise h g o r
+Kept l h (standsIn o phrase) k g = (part same : List ℕ) × (0 ≡ k) × StandInPromise h g o phrase same part
 Kept l h (writes o text) k g = (r : Answer) × (r .number ≡ k) × WritePromise h g o text r
 Kept l h (rolls words) k g = (r : Rolled) × (v : List ℕ) × (r .number ≡ k) × RollCallPromise h g words v r
 Kept l h (pokes o d v) k g = (0 ≡ k) × (g ≡ after 8 (state l h) (pokes o d v) .heap)
@@ -87,6 +111,7 @@ kept-is l h (gives o) k g t = answered (giveBack 8 h o) (t .0) g k (t .1) (t .2)
 kept-is l h (resizes o n) k g t = answered (resize 8 h o n) (t .0) g k (t .1) (t .2)
 kept-is l h (views o) k g t = (sym (t .1), sym (ap (λ (x : List ℕ × Heap). x .1) (t .2)))
 kept-is l h (sizes o) k g t = (sym (t .1) ∙ ap (λ (x : Sized × Heap). x .0 .number) (t .2), sym (ap (λ (x : Sized × Heap). x .1) (t .2)))
+kept-is l h (standsIn o phrase) k g t = (sym (t .2), sym (ap (λ (x : List ℕ × (List ℕ × Heap)). x .1 .1) (t .3)))
 kept-is l h (writes o text) k g t = answered (write 8 h o text) (t .0) g k (t .1) (t .2)
 kept-is l h (rolls words) k g t =
     (sym (t .2) ∙ ap (λ (x : RollOutcome × Heap). x .0 .answer .number) (t .3), sym (ap (λ (x : RollOutcome × Heap). x .1) (t .3)))
@@ -114,6 +139,7 @@ kept x (gives o) = let y = giveBack 8 (x .heap) o in (y .answer .number, y .heap
 kept x (resizes o n) = let y = resize 8 (x .heap) o n in (y .answer .number, y .heap, (y .answer, refl, refl))
 kept x (views o) = (0, x .heap, (view 8 (x .heap) o, refl, refl))
 kept x (sizes o) = let y = viewSize 8 (x .heap) o in (y .number, x .heap, (y, refl, refl))
+kept x (standsIn o phrase) = (0, x .heap, (standIn 8 (x .heap) o phrase, phrase, refl, refl))
 kept x (writes o text) = let y = write 8 (x .heap) o text in (y .answer .number, y .heap, (y .answer, refl, refl))
 kept x (rolls words) =
     let y = rollCall 8 (x .heap) words in
@@ -168,3 +194,12 @@ module _ (h : Heap) (A P : ℕ) (ok : format h A P .answer .number ≡ 0) (es : 
   pub ran-view : {left : Heap} (o : ℕ) (part : List ℕ)
       → ViewPromise g left o part → part ≡ end eight h A P ok es .ledger o
   ran-view o part kept = ap (λ (x : List ℕ × Heap). x .0) kept ∙ ap (λ (x : Heap). view 8 x o) (ran-is ran .0) ∙ view-shows eight h A P ok es o
+
+  -- and a stand-in the same, or its phrase where no block is held
+  pub ran-stand-in : {left : Heap} (o : ℕ) (phrase same part : List ℕ) → StandInPromise g left o phrase same part
+      → (end eight h A P ok es .ledger o ≢ [] → part ≡ end eight h A P ok es .ledger o)
+      × (end eight h A P ok es .ledger o ≡ [] → part ≡ phrase)
+  ran-stand-in o phrase same part kept =
+      let e = ap (λ (x : List ℕ × (List ℕ × Heap)). x .0) kept ∙ ap (λ (x : Heap). standIn 8 x o phrase) (ran-is ran .0) in
+      let t = stand-in-shows eight h A P ok es o phrase (0, 0) (0, 0) in
+      (λ some. e ∙ t .0 some .0, λ none. e ∙ t .1 none .0)

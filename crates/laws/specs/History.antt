@@ -25,6 +25,7 @@ pub data Event : Type 0 where
   resizes : ℕ → ℕ → Event  -- offset, size
   views : ℕ → Event  -- offset
   sizes : ℕ → Event  -- offset; view's companion
+  standsIn : ℕ → List ℕ → Event  -- offset, phrase
   writes : ℕ → List ℕ → Event  -- offset, text
   rolls : List ℕ → Event  -- the lent words
   pokes : ℕ → ℕ → ℕ → Event  -- the offset of a block, a place in it, the byte
@@ -43,7 +44,8 @@ abbrev pub noted : ℕ → Heap → Ledger → Ledger → State
 noted number h old new = record { heap = h; ledger = if eqb number 0 then new else old }
 
 module _ (al : ℕ) where
-  -- the number that an event's call answers; view answers a part and no number, and a holder's byte is no call: 0
+  -- the number that an event's call answers; view and the stand-in answer a part and no number, and a holder's byte is
+  -- no call: 0
   unfoldable pub numberOf : State → Event → ℕ
   numberOf x (formats A P) = format (x .heap) A P .answer .number
   numberOf x (asks n) = ask al (x .heap) n .answer .number
@@ -51,6 +53,7 @@ module _ (al : ℕ) where
   numberOf x (resizes o n) = resize al (x .heap) o n .answer .number
   numberOf x (views o) = 0
   numberOf x (sizes o) = viewSize al (x .heap) o .number
+  numberOf x (standsIn o phrase) = 0
   numberOf x (writes o text) = write al (x .heap) o text .answer .number
   numberOf x (rolls words) = rollCall al (x .heap) words .answer .number
   numberOf x (pokes o d v) = 0
@@ -82,6 +85,7 @@ module _ (al : ℕ) where
       else carried n o (y .answer .offset) (ask al (x .heap) n .heap .memory) (x .ledger))
   after x (views o) = x
   after x (sizes o) = x
+  after x (standsIn o phrase) = x
   after x (writes o text) =
       let y = write al (x .heap) o text in
       noted (y .answer .number) (y .heap) (x .ledger) (to o (text ++ drop (length text) (x .ledger o)) (x .ledger))

@@ -1,7 +1,7 @@
 -- What holds after every history of calls, by way of a plain heap of sequences: the sequences and their links (Update
 -- to Families), what the books say (Books), the plain heap (Plain) and that a heap holds it (Counting to Fresh), each
 -- path of ask and give back (Step to Sources), the calls and what is held (Holding to NoRoom), and the theorems, of
--- any heap (Refused, First) and of every history (History to Code).
+-- any heap (Refused to StandIn) and of every history (History to Code).
 --
 -- Letters that mean one thing throughout. A arenas of P pools; al the alignment, and L that the laws hold at it. h
 -- the heap: b its books, m its memory. r the plain heap that it holds, S that it does so soundly. U a view, K that
@@ -36,6 +36,7 @@ pub mod Roll
 pub mod NoRoom
 pub mod Refused
 pub mod First
+pub mod StandIn
 pub mod History
 pub mod Tied
 pub mod Theorems

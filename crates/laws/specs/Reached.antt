@@ -60,6 +60,7 @@ use Rattle.laws.specs.History.{
   resizes,
   views,
   sizes,
+  standsIn,
   writes,
   rolls,
   pokes,
@@ -103,6 +104,7 @@ pathOf A P h (gives o) = backNo (planBack 8 A P (h .books) (classAt A (h .books)
 pathOf A P h (resizes o n) = resize 8 h o n .answer .offset
 pathOf A P h (views o) = 0
 pathOf A P h (sizes o) = 0
+pathOf A P h (standsIn o phrase) = 0
 pathOf A P h (writes o text) = 0
 pathOf A P h (rolls words) = 0
 pathOf A P h (pokes o d v) = 0

@@ -9,6 +9,7 @@ use Prim.Native.Nat.{ℕ, _+_, _*_, _%_, _≤_, _<_}
 use native.Mathlib.Omega.{arith}
 use lib.ListN.{length, drop}
 use borrow.Author.Tests.{le-ltb, lt-ltb}
+use Rattle.rules.specs.declared.Sized.{Sized}
 use Rattle.rules.specs.Say.{if_then_else_}
 use Rattle.rules.specs.Books.{Heap, at, arenas, pools, memoryLength}
 use Rattle.rules.specs.Blocks.{classOf, sizeOf, sizeAt, live}
@@ -22,6 +23,8 @@ use Rattle.rules.specs.Numbers.{
   view,
   viewSize,
   sizedOf,
+  standIn,
+  standInAt,
   rollCall,
   rollOf,
   rollOutcome,
@@ -47,6 +50,7 @@ use Rattle.laws.specs.Calls.{shape-zero, view-is, view-size-is, back-dea
 use Rattle.laws.specs.Free.{live-held, ask-free, ask-bytes, resize-free}
 use Rattle.laws.specs.Roll.{listing-same, listing-count, listing-place, sizeHeld, roll-is}
 use Rattle.laws.specs.NoRoom.{four-full, full-four}
+use Rattle.laws.specs.StandIn.{stand-in-means}
 use Rattle.laws.specs.History.{Event, State, NoSix, run, listing, heldBelow, Full}
 use Rattle.laws.specs.Tied.{Tied, tied, first-format}
 
@@ -143,6 +147,19 @@ module _ {al : ℕ} (L : Aligned al) (h : Heap) (A P : ℕ) (ok : format h A P .
     λ some. view-size-is (T .sound) o ∙ rw (some-live o some) (ap (sizedOf 0) (size-is o (some-live o some))),
     λ none. view-size-is (T .sound) o ∙ rw (none-dead o none) refl,
   )
+
+  -- the stand-in hands back the holder's bytes, in memory itself, where a block is held, and where none is, the phrase
+  -- itself; memory and lent are where memory and the phrase lie
+  pub stand-in-shows : (o : ℕ) (phrase : List ℕ) (memory lent : ℕ × ℕ)
+      → (end .ledger o ≢ [] → (standIn al (end .heap) o phrase ≡ end .ledger o)
+      × (standInAt al (end .heap) o memory lent ≡ (memory .0, o + memory .1)))
+      × (end .ledger o ≡ [] → (standIn al (end .heap) o phrase ≡ phrase)
+      × (standInAt al (end .heap) o memory lent ≡ lent))
+  stand-in-shows o phrase memory lent =
+      let t = stand-in-means al (end .heap) o phrase memory lent in (
+        λ some. let u = t .1 (ap (λ (s : Sized). s .number) (size-shows o .0 some)) in (u .0 ∙ view-shows o, u .1),
+        λ none. t .0 (λ z. absurd (omega (arith, z, ap (λ (s : Sized). s .number) (size-shows o .1 none)))),
+      )
 
   -- no two entries overlap
   pub entries-apart : (o x : ℕ) → end .ledger o ≢ [] → end .ledger x ≢ [] → x ≢ o

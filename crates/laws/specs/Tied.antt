@@ -40,6 +40,7 @@ use Rattle.laws.specs.History.{
   resizes,
   views,
   sizes,
+  standsIn,
   writes,
   rolls,
   pokes,
@@ -323,6 +324,7 @@ module _ {al : ℕ} (L : Aligned al) (m₀ : List ℕ) where
   step T (resizes o n) = step-resize T o n
   step T (views o) = ((omega arith), T)
   step {x} T (sizes o) = (view-six al (x .heap) o, T)
+  step T (standsIn o phrase) = ((omega arith), T)
   step T (writes o text) = step-write T o text
   step {x} T (rolls words) = (roll-six al (x .heap) words, T)
   step T (pokes o d v) = step-poke T o d v

@@ -1,6 +1,6 @@
 -- Damaged books: each clause of 01's rule for 6 from both sides where a row can tell, the three heads of 4, the
--- half-done resize, the order of the tests, and readings R1 to R17 and R22 of docs/DECISIONS.md where they differ
--- from those not taken. One table under one statement.
+-- half-done resize, the order of the tests, and readings R1 to R17 and R22 of docs/DECISIONS.md, and those of 02, where
+-- they differ from those not taken. One table under one statement.
 -- Assumes nothing.
 use mathlib.Core.Path.{_≡_}
 use mathlib.Core.List.{List, [], _∷_, _++_}
@@ -46,6 +46,7 @@ use Rattle.rules.specs.Lines.{
   resizes,
   writes,
   views,
+  standsIn,
   rolls,
   has,
   spoil,
@@ -730,6 +731,27 @@ writing =
     ∷ writes 48 (9 ∷ []) 0 48 ∷ views 48 0 8 (9 ∷ 2 ∷ 3 ∷ 4 ∷ 5 ∷ 6 ∷ 7 ∷ 8 ∷ []) ∷ viewAt? 48 48
     ∷ word= (inPool 0 count) 0 ∷ writes 48 [] 0 48 ∷ []
 
+-- W-214: "either the live block's own bytes or the lent phrase itself": its own, too, where the phrase has the same
+-- bytes; the phrase where the block was never handed out or is given back, and where none starts. "An empty phrase is
+-- allowed."
+abbrev standing : List Line
+standing =
+    standsIn 48 (7 ∷ 7 ∷ []) (7 ∷ 7 ∷ []) 2 2000 ∷ asks 1 0 48 ∷ asks 1 0 56
+    ∷ writes 48 (1 ∷ 2 ∷ 3 ∷ 4 ∷ 5 ∷ 6 ∷ 7 ∷ 8 ∷ []) 0 48
+    ∷ standsIn 48 (7 ∷ 7 ∷ []) (1 ∷ 2 ∷ 3 ∷ 4 ∷ 5 ∷ 6 ∷ 7 ∷ 8 ∷ []) 1 1048
+    ∷ standsIn 48 [] (1 ∷ 2 ∷ 3 ∷ 4 ∷ 5 ∷ 6 ∷ 7 ∷ 8 ∷ []) 1 1048
+    ∷ standsIn 48 (1 ∷ 2 ∷ 3 ∷ 4 ∷ 5 ∷ 6 ∷ 7 ∷ 8 ∷ []) (1 ∷ 2 ∷ 3 ∷ 4 ∷ 5 ∷ 6 ∷ 7 ∷ 8 ∷ []) 1 1048
+    ∷ standsIn 52 (7 ∷ 7 ∷ []) (7 ∷ 7 ∷ []) 2 2000
+    ∷ gives 48 0 48 ∷ standsIn 48 (7 ∷ 7 ∷ []) (7 ∷ 7 ∷ []) 2 2000 ∷ standsIn 48 [] [] 2 2000 ∷ []
+
+-- W-214: 1 and 2 are refusals of view too
+abbrev standingShape : List Line
+standingShape =
+    asks 1 0 48 ∷ writes 48 (1 ∷ 2 ∷ 3 ∷ 4 ∷ 5 ∷ 6 ∷ 7 ∷ 8 ∷ []) 0 48
+    ∷ word= 0 17 ∷ standsIn 48 (7 ∷ []) (7 ∷ []) 2 2000
+    ∷ word= 0 3 ∷ standsIn 48 (7 ∷ []) (1 ∷ 2 ∷ 3 ∷ 4 ∷ 5 ∷ 6 ∷ 7 ∷ 8 ∷ []) 1 1048
+    ∷ spoil (onBooks (take 1)) ∷ standsIn 48 (7 ∷ []) (7 ∷ []) 2 2000 ∷ []
+
 -- "by rising offset, leaves the words after them": two words for each live block, or 7.
 -- R22: no live block and no room is 0
 abbrev rolling : List Line
@@ -776,7 +798,7 @@ damaged =
     ∷ resizeAskSix ∷ resizeNoRoom ∷ resizeCopies ∷ resizeKeeps ∷ halfDoneSix ∷ halfDoneFive ∷ resizeByNewClass
     ∷ orderTwoWords ∷ twoWords ∷ orderOne ∷ rangeEnds ∷ orderTwo
     ∷ orderTwoBooks ∷ orderTwoMap ∷ longMemory ∷ longBooks ∷ longMap ∷ orderRest
-    ∷ notLive ∷ lastBlock ∷ writing ∷ rolling ∷ rollingLast ∷ rollingStray ∷ rollingOnes ∷ []
+    ∷ notLive ∷ lastBlock ∷ writing ∷ standing ∷ standingShape ∷ rolling ∷ rollingLast ∷ rollingStray ∷ rollingOnes ∷ []
 
 -- the table holds of a fresh heap over these three buffers
 abbrev pub Holds : List ℕ → List ℕ → List ℕ → Type 0

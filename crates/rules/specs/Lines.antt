@@ -43,6 +43,8 @@ use Rattle.rules.specs.Numbers.{
   resize,
   view,
   viewSize,
+  standIn,
+  standInAt,
   write,
   rollCall,
 }
@@ -55,6 +57,7 @@ pub data Line : Type 0 where
   resizes : ℕ → ℕ → ℕ → ℕ → Line  -- o n k r: resize o to n gives number k and offset r
   writes : ℕ → List ℕ → ℕ → ℕ → Line  -- o t k r: write of the text t at o gives number k and offset r
   views : ℕ → ℕ → ℕ → List ℕ → Line  -- o k s bytes: view's companion gives number k and size s, view the bytes
+  standsIn : ℕ → List ℕ → List ℕ → ℕ → ℕ → Line  -- o t bytes b i: the stand-in of phrase t is the bytes, at (b, i)
   rolls : List ℕ → ℕ → ℕ → List ℕ → Line  -- w k n v: roll call over words w gives number k and count n, and leaves v
   has : (Heap → ℕ) → ℕ → Line  -- a number of the heap is as said
   spoil : (Heap → Heap) → Line  -- somebody changes the heap
@@ -81,6 +84,10 @@ sizedAs k s r = eqb (r .number) k && eqb (r .size) s
 abbrev rolledAs : ℕ → ℕ → Rolled → Bool
 rolledAs k n r = eqb (r .number) k && eqb (r .count) n
 
+-- a place, where memory lies in buffer 1 from 1,000 on and a phrase in buffer 2 from 2,000 on
+abbrev placedAs : ℕ → ℕ → (ℕ × ℕ → ℕ × ℕ → ℕ × ℕ) → Bool
+placedAs b i place = eqb (place (1, 1000) (2, 2000) .0) b && eqb (place (1, 1000) (2, 2000) .1) i
+
 abbrev pub same : List ℕ → List ℕ → Bool
 same [] [] = true
 same [] (y ∷ ys) = false
@@ -93,7 +100,7 @@ unfolding inRange exact bit putBit isStart linkAt putLink live liveNumber leaveB
     noLink fromFreeblock fromListed setAnew sameClass takeAgain fromMark fromFreed fromUsable fromUnused
     planAsk takeFrom afterAsk askAnswer askStep emptying planBack afterBack backAnswer backStep
     giveOld moved resizeStep rollBlocks rollPool rollPools fitNumber shapeNumber sizeNumber roomNumber
-    format ask giveBack resize view viewSize write rollCall link bitIn
+    format ask giveBack resize view viewSize standIn write rollCall link bitIn
 runs [] h = true
 runs (formats A P k ∷ ls) h = answers k 0 (format h A P .answer) && runs ls (format h A P .heap)
 runs (asks n k o ∷ ls) h = answers k o (ask 8 h n .answer) && runs ls (ask 8 h n .heap)
@@ -101,6 +108,7 @@ runs (gives o k r ∷ ls) h = answers k r (giveBack 8 h o .answer) && runs ls (g
 runs (resizes o n k r ∷ ls) h = answers k r (resize 8 h o n .answer) && runs ls (resize 8 h o n .heap)
 runs (writes o t k r ∷ ls) h = answers k r (write 8 h o t .answer) && runs ls (write 8 h o t .heap)
 runs (views o k s t ∷ ls) h = sizedAs k s (viewSize 8 h o) && same (view 8 h o) t && runs ls h
+runs (standsIn o t u b i ∷ ls) h = same (standIn 8 h o t) u && placedAs b i (standInAt 8 h o) && runs ls h
 runs (rolls w k n v ∷ ls) h = rolledAs k n (rollCall 8 h w .answer) && same (rollCall 8 h w .words) v && runs ls h
 runs (has f v ∷ ls) h = eqb (f h) v && runs ls h
 runs (spoil f ∷ ls) h = runs ls (f h)

@@ -1,8 +1,9 @@
--- 01, "Numbers a call can return": the tests, their order, and the calls: tests first, then the step.
+-- 01, "Numbers a call can return": the tests, their order, and the calls: tests first, then the step. Beside view
+-- stands 02's stand-in (W-214).
 -- Assumes nothing.
 use mathlib.Core.Bool.{not, _&&_}
 use mathlib.Core.List.{List, [], _++_}
-use Prim.Native.Nat.{ℕ, _/_}
+use Prim.Native.Nat.{ℕ, _+_, _/_}
 use lib.Dec.{leb, ltb}
 use lib.ListN.{length, drop, replicate}
 use Rattle.rules.specs.declared.Sized.{Sized}
@@ -111,6 +112,20 @@ module _ (al : ℕ) where
   viewSize h o =
       passing (offsetTests h o) (λ k. sizedOf k 0)
       (sizedOf 0 (blockSize h o))
+
+  -- 02, W-214: "either the live block's own bytes or the lent phrase itself, and the phrase exactly when view would
+  -- refuse", that is where the number which view's companion gives is not 0
+  unfoldable pub standIn : Heap → ℕ → List ℕ → List ℕ
+  standIn h o phrase =
+      passing (viewSize h o .number) (λ k. phrase)
+      (view h o)
+
+  -- and where it lies, "the block's own" and "the phrase itself", of where memory and the phrase lie. A place is a
+  -- buffer and a position in it
+  abbrev pub standInAt : Heap → ℕ → ℕ × ℕ → ℕ × ℕ → ℕ × ℕ
+  standInAt h o memory phrase =
+      passing (viewSize h o .number) (λ k. phrase)
+      (memory .0, o + memory .1)
 
   -- 7: "text longer than its block"
   unfoldable pub write : Heap → ℕ → List ℕ → Outcome

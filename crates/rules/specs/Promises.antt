@@ -18,15 +18,17 @@ use Rattle.rules.specs.Numbers.{
   view,
   viewAt,
   viewSize,
+  standIn,
+  standInAt,
   write,
   rollOutcome,
   rollCall,
 }
 
--- what a call answers that is lent the three buffers to read alone, and the buffers
-infix 12 _beside_
-abbrev pub _beside_ : {Answered : Type 0} → Answered → Heap → Answered × Heap
-answer beside heap = (answer, heap)
+-- what a call answers that is lent buffers to read alone, and the buffers
+infixr 12 _beside_
+abbrev pub _beside_ : {Answered Lent : Type 0} → Answered → Lent → Answered × Lent
+answer beside lent = (answer, lent)
 
 module _ (found left : Heap) where
   abbrev pub FormatPromise : ℕ → ℕ → Answer → Type 0
@@ -48,6 +50,11 @@ module _ (found left : Heap) where
   abbrev pub ViewSizePromise : ℕ → Sized → Type 0
   ViewSizePromise offset answer = answer beside left ≡ viewSize 8 found offset beside found
 
+  -- the stand-in, by its bytes; the lent phrase as it finds and as it leaves it
+  abbrev pub StandInPromise : ℕ → List ℕ → List ℕ → List ℕ → Type 0
+  StandInPromise offset phrase kept part =
+      part beside kept beside left ≡ standIn 8 found offset phrase beside phrase beside found
+
   abbrev pub WritePromise : ℕ → List ℕ → Answer → Type 0
   WritePromise offset text answer = outcome answer left ≡ write 8 found offset text
 
@@ -60,3 +67,7 @@ module _ (found left : Heap) where
 -- position in it
 abbrev pub ViewPlace : Heap → ℕ → ℕ × ℕ → ℕ × ℕ → Type 0
 ViewPlace found offset memory part = (part .0 ≡ memory .0) × (part .1 ≡ viewAt 8 found offset + memory .1)
+
+-- and the stand-in lies where `standInAt` says of where memory and the phrase lie
+abbrev pub StandInPlace : Heap → ℕ → ℕ × ℕ → ℕ × ℕ → ℕ × ℕ → Type 0
+StandInPlace found offset memory phrase part = part ≡ standInAt 8 found offset memory phrase
