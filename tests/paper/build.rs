@@ -21,7 +21,7 @@ fn write_slips() {
     let paper = fs::read_to_string("src/paper.rs").unwrap_or_else(|error| stop(&format!("src/paper.rs: {error}")));
     let mut modules = String::new();
     let mut list = String::new();
-    for (n, slip) in [slips::NAMED, slips::READINGS, slips::TIRED].into_iter().flatten().enumerate() {
+    for (n, slip) in slips::ALL.into_iter().flatten().enumerate() {
         modules += &with_slip(&paper, n, slip);
         list += &format!("Box::new(slip_{n}::paper::Paper::default()), ");
     }

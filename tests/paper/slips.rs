@@ -1,5 +1,6 @@
 // Small changes to src/paper.rs, one at a time: the slips that 01 names, the other reading of each place that leaves
-// room, and the slips of a tired hand. The build makes a program of each, and tests/broken.rs shows that it is found.
+// room, the slips of a tired hand, and those of W-214. The build makes a program of each, and tests/broken.rs shows
+// that it is found.
 
 // the build reads the texts, the tests the rest
 #[allow(dead_code)]
@@ -16,8 +17,10 @@ const fn slip(name: &'static str, case: Option<&'static str>, old: &'static str,
     Slip { name, case, old, new }
 }
 
+pub const ALL: [&[Slip]; 4] = [NAMED, READINGS, TIRED, STAND_IN];
+
 /// The slips that 01 names.
-pub const NAMED: &[Slip] = &[
+const NAMED: &[Slip] = &[
     slip(
         "all blocks of a new pool are linked at once",
         Some("K2"),
@@ -51,7 +54,7 @@ pub const NAMED: &[Slip] = &[
 ];
 
 /// The other reading of each place that leaves room.
-pub const READINGS: &[Slip] = &[
+const READINGS: &[Slip] = &[
     slip(
         "format on books of under two words is 2",
         Some("R1:"),
@@ -245,7 +248,7 @@ pub const READINGS: &[Slip] = &[
 ];
 
 /// The slips of a tired hand.
-pub const TIRED: &[Slip] = &[
+const TIRED: &[Slip] = &[
     slip(
         "a refused step is not undone",
         None,
@@ -349,5 +352,142 @@ pub const TIRED: &[Slip] = &[
         Some("format"),
         "lent.books[next + 1] = link_to(arena.checked_sub(1)) as u32;",
         "",
+    ),
+];
+
+/// The slips of W-214.
+const STAND_IN: &[Slip] = &[
+    slip(
+        "the empty part is handed back where view refuses",
+        Some("W-214: a dead"),
+        "Err(_) => phrase.itself(),",
+        "Err(_) => Place::Memory(0, 0),",
+    ),
+    slip(
+        "the empty part is handed back for 1",
+        Some("W-214: 1 and 2"),
+        "Err(_) => phrase.itself(),",
+        "Err(Answer { number: 1, .. }) => Place::Memory(0, 0),
+         Err(_) => phrase.itself(),",
+    ),
+    slip(
+        "the empty part is handed back for 2",
+        Some("W-214: 1 and 2"),
+        "Err(_) => phrase.itself(),",
+        "Err(Answer { number: 2, .. }) => Place::Memory(0, 0),
+         Err(_) => phrase.itself(),",
+    ),
+    slip(
+        "a dead block's own bytes are handed back",
+        Some("W-214: a dead"),
+        "-> Place {
+        match self.heap(lent).and_then(|heap| heap.live(offset)) {",
+        "-> Place {
+        match self.heap(lent).and_then(|heap| {
+            let pool = offset / POOL;
+            let class = heap.lent.books.get(heap.pool(pool, CLASS)).map_or(64, |class| *class as usize);
+            let k = if class > 63 { None } else { block_at(class, offset % POOL) };
+            k.map_or(refuse(5), |k| Ok(Block { pool, class, k }))
+        }) {",
+    ),
+    slip(
+        "the phrase stands in for a live block",
+        Some("W-214: a live"),
+        "Ok(block) => Place::Memory(offset, block.size()),",
+        "Ok(_) => phrase.itself(),",
+    ),
+    slip(
+        "a live block is cut to the phrase's length",
+        Some("W-214: a live"),
+        "Ok(block) => Place::Memory(offset, block.size()),",
+        "Ok(block) => match phrase.itself() {
+             Place::Memory(_, length) | Place::Phrase(_, length) => Place::Memory(offset, block.size().min(length)),
+             Place::Elsewhere => Place::Elsewhere,
+         },",
+    ),
+    slip(
+        "a phrase is cut to the largest block",
+        Some("W-214: a dead"),
+        "Err(_) => phrase.itself(),",
+        "Err(_) => match phrase.itself() {
+             Place::Phrase(start, length) => Place::Phrase(start, length.min(512)),
+             part => part,
+         },",
+    ),
+    slip(
+        "an empty phrase is a refusal of its own",
+        Some("W-214: an empty"),
+        "Ok(block) => Place::Memory(offset, block.size()),",
+        "Ok(_) if matches!(phrase, LentPhrase::Text([])) => phrase.itself(),
+         Ok(block) => Place::Memory(offset, block.size()),",
+    ),
+    slip(
+        "an empty phrase is handed back as the empty part",
+        Some("W-214: an empty"),
+        "Err(_) => phrase.itself(),",
+        "Err(_) if matches!(phrase, LentPhrase::Text([])) => Place::Memory(0, 0),
+         Err(_) => phrase.itself(),",
+    ),
+    slip(
+        "an empty part of memory is handed back from memory's start",
+        Some("W-214: an empty"),
+        "Err(_) => phrase.itself(),",
+        "Err(_) if matches!(phrase, LentPhrase::Part(_, 0)) => Place::Memory(0, 0),
+         Err(_) => phrase.itself(),",
+    ),
+    slip(
+        "a phrase with the block's bytes stands in for it",
+        Some("W-214: a phrase with"),
+        "-> Place {
+        match self.heap(lent).and_then(|heap| heap.live(offset)) {",
+        "-> Place {
+        let there = lent.memory.get(offset..).unwrap_or(&[]).to_vec();
+        match self.heap(lent).and_then(|heap| heap.live(offset)) {
+            Ok(block) if matches!(phrase, LentPhrase::Text(text) if text == &there[..block.size()]) => {
+                phrase.itself()
+            }",
+    ),
+    slip(
+        "a phrase over a live block stands in for it",
+        Some("W-214: a phrase in"),
+        "Ok(block) => Place::Memory(offset, block.size()),",
+        "Ok(block) => match phrase {
+             LentPhrase::Part(start, length) if start < offset + block.size() && offset < start + length => {
+                 phrase.itself()
+             }
+             _ => Place::Memory(offset, block.size()),
+         },",
+    ),
+    slip(
+        "a part of memory is no phrase",
+        Some("W-214: a phrase in"),
+        "Err(_) => phrase.itself(),",
+        "Err(_) if matches!(phrase, LentPhrase::Part(..)) => Place::Memory(0, 0),
+         Err(_) => phrase.itself(),",
+    ),
+    slip(
+        "the block's bytes are copied",
+        Some("W-214: a live"),
+        "Ok(block) => Place::Memory(offset, block.size()),",
+        "Ok(_) => Place::Elsewhere,",
+    ),
+    slip("the phrase is copied", Some("W-214: a dead"), "Err(_) => phrase.itself(),", "Err(_) => Place::Elsewhere,"),
+    slip(
+        "the phrase is written to the offset",
+        Some("W-214: a dead"),
+        "-> Place {",
+        "-> Place {
+         if let (LentPhrase::Text(text), Some(from)) = (phrase, lent.memory.get_mut(offset..)) {
+             let length = text.len().min(from.len());
+             from[..length].copy_from_slice(&text[..length]);
+         }",
+    ),
+    slip(
+        "stand-in cuts an offset to 32 bits",
+        Some("W-214: past"),
+        "-> Place {
+        match self.heap(lent).and_then(|heap| heap.live(offset)) {",
+        "-> Place {
+        match self.heap(lent).and_then(|heap| heap.live(offset as u32 as usize)) {",
     ),
 ];

@@ -1,16 +1,18 @@
-//! 01's cases, for any program behind the calls. Each number is 01's, or follows from the sentence that its case names.
+//! 01's cases and W-214's, for any program behind the calls. Each number is 01's, or follows from the sentence that its
+//! case names.
 
 use crate::desk::*;
 use crate::readings;
 use crate::steps::Call::*;
-use crate::{Answer, Calls};
+use crate::steps::Phrase::*;
+use crate::{Answer, Calls, Place};
 
 /// A case by its name. It panics where the program answers otherwise.
 pub type Case = (&'static str, fn(&mut dyn Calls));
 
-/// Every case: 01's own and those of the readings.
+/// Every case: 01's own, W-214's and those of the readings.
 pub fn all() -> Vec<Case> {
-    [PAPER, readings::CASES].concat()
+    [PAPER, STAND_IN, readings::CASES].concat()
 }
 
 const PAPER: &[Case] = &[
@@ -35,6 +37,17 @@ const PAPER: &[Case] = &[
     ("roll call", roll_call),
     ("two usable arenas", two_usable_arenas),
     ("released arena", released_arena),
+];
+
+const STAND_IN: &[Case] = &[
+    ("W-214: a live block", stand_in_for_live),
+    ("W-214: a dead block", stand_in_for_dead),
+    ("W-214: no block start", stand_in_for_no_start),
+    ("W-214: past memory", stand_in_past_memory),
+    ("W-214: an empty phrase", empty_phrase),
+    ("W-214: a phrase with the block's bytes", phrase_with_the_bytes),
+    ("W-214: a phrase in memory", phrase_in_memory),
+    ("W-214: out again", out_again),
 ];
 
 fn k1(calls: &mut dyn Calls) {
@@ -250,4 +263,116 @@ fn released_arena(calls: &mut dyn Calls) {
     assert_eq!([*desk.books(USABLE), *desk.books(UNUSED)], [0, 1]);
     assert_eq!(desk.arena_record(0), [0; 8]);
     desk.done(Ask { size: 24 }, 48);
+}
+
+/// The block's own bytes, the whole block as in view, however long text and phrase are.
+fn stand_in_for_live(calls: &mut dyn Calls) {
+    let mut desk = Desk::fresh(calls, 1, 16);
+    desk.done(Ask { size: 9 }, 48);
+    desk.done(Write { offset: 48, length: 3, first: b'a' }, 48);
+    for length in [1, 3, 9, 16, 17, 600] {
+        desk.stand_in(48, Text(length, b'z'), Place::Memory(48, 16));
+    }
+    assert_eq!(desk.view(48), (48, 16));
+}
+
+/// The lent phrase itself, the whole of it, and never what was once there.
+fn stand_in_for_dead(calls: &mut dyn Calls) {
+    let mut desk = Desk::fresh(calls, 1, 16);
+    desk.done(Ask { size: 16 }, 48);
+    desk.done(Ask { size: 16 }, 64);
+    desk.done(Write { offset: 48, length: 16, first: b'a' }, 48);
+    desk.done(GiveBack { offset: 48 }, 48);
+    for length in [1, 15, 16, 17, 600] {
+        desk.stand_in(48, Text(length, b'z'), Place::Phrase(0, length));
+    }
+    // but for the link, the old text still stands there
+    assert_eq!(desk.bytes(52, 12), *b"efghijklmnop");
+
+    // a block that is ready but was never out; and two whose arena is released
+    desk.stand_in(80, Text(6, b'z'), Place::Phrase(0, 6));
+    desk.done(GiveBack { offset: 64 }, 64);
+    for offset in [48, 64] {
+        desk.stand_in(offset, Text(6, b'z'), Place::Phrase(0, 6));
+    }
+}
+
+/// The header, the inside of a live block, a set bit past the last block or in a pool of no class.
+fn stand_in_for_no_start(calls: &mut dyn Calls) {
+    let mut desk = Desk::fresh(calls, 1, 2);
+    desk.done(Ask { size: 512 }, 48);
+    desk.all_bits(u64::MAX);
+    for offset in [0, 47, 49, 52, 559, 3632, 4095, 4144] {
+        desk.stand_in(offset, Text(6, b'z'), Place::Phrase(0, 6));
+    }
+    *desk.pool(0, CLASS) = 64;
+    desk.stand_in(48, Text(6, b'z'), Place::Phrase(0, 6));
+}
+
+/// From memory's end on, and an offset of more than 32 bits is not cut to fit.
+fn stand_in_past_memory(calls: &mut dyn Calls) {
+    let mut desk = Desk::fresh(calls, 1, 2);
+    desk.done(Ask { size: 8 }, 48);
+    for offset in [8192, 8240, (1 << 32) + 48, usize::MAX] {
+        desk.stand_in(offset, Text(6, b'z'), Place::Phrase(0, 6));
+    }
+}
+
+/// It is allowed: a live block's bytes all the same, and otherwise it is handed back itself, not memory's empty part.
+fn empty_phrase(calls: &mut dyn Calls) {
+    let mut desk = Desk::fresh(calls, 1, 16);
+    desk.done(Ask { size: 16 }, 48);
+    desk.stand_in(48, Text(0, 0), Place::Memory(48, 16));
+    desk.stand_in(48, Part(100, 0), Place::Memory(48, 16));
+    desk.stand_in(64, Text(0, 0), Place::Phrase(0, 0));
+    for start in [0, 48, 100, 65_536] {
+        desk.stand_in(64, Part(start, 0), Place::Memory(start, 0));
+    }
+}
+
+/// Still memory's own part for a live block, and still the phrase for a dead one.
+fn phrase_with_the_bytes(calls: &mut dyn Calls) {
+    let mut desk = Desk::fresh(calls, 1, 16);
+    desk.done(Ask { size: 16 }, 48);
+    desk.done(Write { offset: 48, length: 16, first: b'a' }, 48);
+    desk.stand_in(48, Same(16), Place::Memory(48, 16));
+    desk.stand_in(48, Text(16, b'a'), Place::Memory(48, 16));
+    desk.stand_in(48, Same(5), Place::Memory(48, 16));
+    desk.stand_in(64, Same(16), Place::Phrase(0, 16));
+}
+
+/// A part of memory can be the phrase, over the block or apart from it: one or the other, whole, and nothing between.
+fn phrase_in_memory(calls: &mut dyn Calls) {
+    let mut desk = Desk::fresh(calls, 1, 16);
+    desk.done(Ask { size: 16 }, 48);
+    desk.done(Ask { size: 16 }, 64);
+    let parts = [(48, 16), (48, 8), (52, 4), (56, 16), (40, 12), (40, 32), (64, 16), (4144, 600), (65_535, 1)];
+    for (start, length) in parts {
+        desk.stand_in(48, Part(start, length), Place::Memory(48, 16));
+    }
+    desk.done(GiveBack { offset: 48 }, 48);
+    for (start, length) in parts {
+        desk.stand_in(48, Part(start, length), Place::Memory(start, length));
+    }
+}
+
+/// The bytes of who holds the block now, by the class that its pool now has.
+fn out_again(calls: &mut dyn Calls) {
+    let mut desk = Desk::fresh(calls, 1, 16);
+    desk.done(Ask { size: 8 }, 48);
+    desk.done(Ask { size: 16 }, 4144);
+    desk.done(Write { offset: 48, length: 8, first: b'a' }, 48);
+    for size in [8, 24] {
+        desk.done(GiveBack { offset: 48 }, 48);
+        desk.stand_in(48, Text(6, b'z'), Place::Phrase(0, 6));
+        desk.done(Ask { size }, 48);
+        desk.done(Write { offset: 48, length: size, first: 100 }, 48);
+        desk.stand_in(48, Text(6, b'z'), Place::Memory(48, size));
+        assert_eq!(desk.bytes(48, 8), [100, 101, 102, 103, 104, 105, 106, 107]);
+    }
+
+    // a block that moves is dead where it was
+    desk.done(Resize { offset: 48, size: 32 }, 8240);
+    desk.stand_in(48, Text(6, b'z'), Place::Phrase(0, 6));
+    desk.stand_in(8240, Text(6, b'z'), Place::Memory(8240, 32));
 }

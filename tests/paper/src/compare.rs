@@ -1,4 +1,5 @@
-//! Two programs, the same steps: number, value, view's part and every byte and word of every buffer after every call.
+//! Two programs, the same steps: number, value, view's part, the place of what stand-in hands back and every byte and
+//! word of every buffer, a lent phrase too, after every call.
 
 use std::fmt;
 use std::time::{Duration, Instant};
@@ -11,7 +12,7 @@ use crate::{Calls, Path, Rule, Trail};
 pub struct Tally {
     pub calls: u64,
     pub heaps: u64,
-    numbers: [[u64; 8]; Call::NAMES.len()],
+    numbers: [[u64; 8]; Call::KINDS.len()],
     paths: Vec<u64>,
     rules: Vec<u64>,
 }
@@ -33,11 +34,14 @@ impl Tally {
         }
     }
 
-    /// The paths and rules that were met fewer times than this, in words.
+    /// The numbers that a call can give, and the paths and rules, that were met fewer times than this, in words.
     pub fn rarer_than(&self, least: u64) -> Vec<String> {
-        let paths = Path::ALL.iter().zip(&self.paths).map(|(path, n)| (path.words(), n));
-        let rules = Rule::ALL.iter().zip(&self.rules).map(|(rule, n)| (rule.words(), n));
-        let rare = paths.chain(rules).filter(|(_, n)| **n < least);
+        let numbers = Call::KINDS.iter().zip(&self.numbers).flat_map(|((name, can), met)| {
+            can.iter().map(move |number| (format!("{name}: number {number}"), met[*number]))
+        });
+        let paths = Path::ALL.iter().zip(&self.paths).map(|(path, n)| (path.words().to_string(), *n));
+        let rules = Rule::ALL.iter().zip(&self.rules).map(|(rule, n)| (rule.words().to_string(), *n));
+        let rare = numbers.chain(paths).chain(rules).filter(|(_, n)| *n < least);
         rare.map(|(words, n)| format!("{words}: {n} times")).collect()
     }
 }
@@ -51,11 +55,10 @@ impl Default for Tally {
 impl fmt::Display for Tally {
     fn fmt(&self, f: &mut fmt::Formatter) -> fmt::Result {
         writeln!(f, "calls by number, over {} heaps:", self.heaps)?;
-        writeln!(f, "{:12}{}", "", (0..8).map(|n| format!("{n:>10}")).collect::<String>())?;
-        for (name, numbers) in Call::NAMES.iter().zip(&self.numbers) {
-            // view has no number of its own
-            if *name != "view" {
-                writeln!(f, "{name:12}{}", numbers.map(|n| format!("{n:>10}")).concat())?;
+        writeln!(f, "{:34}{}", "", (0..8).map(|n| format!("{n:>9}")).collect::<String>())?;
+        for ((name, can), numbers) in Call::KINDS.iter().zip(&self.numbers) {
+            if !can.is_empty() {
+                writeln!(f, "{name:34}{}", numbers.map(|n| format!("{n:>9}")).concat())?;
             }
         }
         writeln!(f, "paths:")?;
@@ -200,7 +203,10 @@ impl Difference {
 fn said(step: &Step, outcome: &Outcome) -> String {
     match step {
         Step::Call(Call::View { .. }) => format!("{} bytes from {}", outcome.part.1, outcome.part.0),
-        _ => format!("{}, {}", outcome.answer.number, outcome.answer.value),
+        _ => match outcome.place {
+            Some(place) => format!("{place}; view's number is {}", outcome.answer.number),
+            None => format!("{}, {}", outcome.answer.number, outcome.answer.value),
+        },
     }
 }
 
@@ -214,6 +220,7 @@ impl Pair<'_> {
             first(&left.books, &right.books, word),
             first(&left.map, &right.map, |at| format!("word {at} of the map (pool {})", at / 8)),
             first(&left.roll, &right.roll, |at| format!("word {at} of the roll")),
+            first(&left.phrase, &right.phrase, |at| format!("byte {at} of the phrase's buffer")),
         ];
         lines.into_iter().flatten().collect()
     }

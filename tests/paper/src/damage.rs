@@ -2,7 +2,7 @@
 
 use std::collections::VecDeque;
 
-use crate::steps::{lengths, Buffers, Call, Step};
+use crate::steps::{lengths, within, Buffers, Call, Phrase, Step};
 use crate::Answer;
 
 /// A small generator of numbers (splitmix64): the same seed gives the same numbers.
@@ -170,14 +170,15 @@ impl Source {
         if self.rng.one_in(40) {
             self.rise = self.rng.pick(&[5, 20, 50, 80, 95]);
         }
+        let exact = lengths(self.arenas, self.pools);
         if self.rng.one_in(100) {
-            let (wrong, exact) = (self.wrong_lengths(), lengths(self.arenas, self.pools));
-            let call = if self.rng.one_in(4) { self.format() } else { self.call(heap) };
+            let wrong = self.wrong_lengths();
+            let call = if self.rng.one_in(4) { self.format() } else { self.call(heap, wrong[0]) };
             self.waiting.extend([Step::Lend(wrong), Step::Call(call), Step::Lend(exact)]);
         } else if self.kind != Kind::Sound && self.rng.one_in(60) {
             self.take_again(heap);
         } else {
-            let call = self.call(heap);
+            let call = self.call(heap, exact[0]);
             self.waiting.push_back(Step::Call(call));
         }
     }
@@ -209,7 +210,8 @@ fn sizes(rng: &mut Rng, kind: Kind) -> Vec<usize> {
 // Calls
 
 impl Source {
-    fn call(&mut self, heap: &Buffers) -> Call {
+    /// A call that is lent this many bytes of memory.
+    fn call(&mut self, heap: &Buffers, memory: usize) -> Call {
         let offset = self.offset(heap);
         match self.rng.below(100) {
             0..=1 => Call::View { offset },
@@ -221,6 +223,7 @@ impl Source {
             7..=8 => Call::RollCall { words: self.roll_words(heap) },
             9 if self.rng.one_in(3) => self.format(),
             10..=24 => Call::Resize { offset, size: self.new_size(heap, offset) },
+            25..=28 => Call::StandIn { offset, phrase: self.phrase(heap, offset, memory) },
             _ if self.rng.below(100) < self.rise || self.held.is_empty() => Call::Ask { size: self.size() },
             _ => Call::GiveBack { offset },
         }
@@ -282,6 +285,36 @@ impl Source {
         }
     }
 
+    /// A text, empty, as long as the block or of another length; the bytes at the offset; or a part of memory.
+    fn phrase(&mut self, heap: &Buffers, offset: usize, memory: usize) -> Phrase {
+        let block = self.block_size(heap, offset);
+        match self.rng.below(12) {
+            0 | 1 => Phrase::Text(0, 0),
+            2 | 3 => {
+                let length = self.rng.pick(&[1, block - 1, block, block + 1, 513, 600]);
+                Phrase::Text(length, self.rng.draw() as u8)
+            }
+            4 | 5 if offset.saturating_add(block) <= heap.memory.len() => Phrase::Same(block),
+            _ => self.part(offset, block, memory),
+        }
+    }
+
+    /// A part of memory: the block, from inside it, up to inside it, all of it and more, anywhere, or an empty part.
+    fn part(&mut self, offset: usize, block: usize, memory: usize) -> Phrase {
+        let offset = offset.min(memory);
+        let (inside, any) = (self.rng.below(block), self.rng.below(memory + 1));
+        let (start, length) = match self.rng.below(8) {
+            0 => (offset, block),
+            1 => (offset + inside, self.rng.pick(&[1, block])),
+            2 => (offset.saturating_sub(block - inside), block),
+            3 => (offset.saturating_sub(8), block + 16),
+            4 | 5 => (any, self.rng.pick(&[1, block, 600])),
+            _ => (self.rng.pick(&[0, offset, any, memory]), 0),
+        };
+        let (start, length) = within(start, length, memory);
+        Phrase::Part(start, length)
+    }
+
     /// Mostly an offset that is held; otherwise one near it, a start that may be dead, or any number at all.
     fn offset(&mut self, heap: &Buffers) -> usize {
         let all = self.arenas * self.pools;
@@ -336,8 +369,13 @@ impl Source {
             _ => self.spoil_word(heap),
         };
         self.waiting.push_back(spoilt);
-        // a heap with a wrong A or P takes no step, so it isn't left so for long
+        // a heap with a wrong A or P takes no step, so it isn't left so for long; a stand-in has its answer there too
         let shape = matches!(spoilt, Step::Word(0 | 1, _));
+        if shape {
+            let offset = self.offset(heap);
+            let phrase = self.phrase(heap, offset, lengths(self.arenas, self.pools)[0]);
+            self.waiting.push_back(Step::Call(Call::StandIn { offset, phrase }));
+        }
         if shape || !self.rng.one_in(4) {
             let last = if shape { 2 } else { 12 };
             let until = self.calls_left.saturating_sub(self.rng.between(1, last));

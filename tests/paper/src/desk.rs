@@ -1,7 +1,7 @@
 //! A heap on the desk: a program, its buffers, and calls whose answers are laid down.
 
-use crate::steps::{Buffers, Call, Step};
-use crate::{Answer, Calls};
+use crate::steps::{Buffers, Call, Phrase, Step};
+use crate::{Answer, Calls, Place};
 
 pub const USABLE: usize = 2;
 pub const UNUSED: usize = 3;
@@ -53,9 +53,22 @@ impl<'a> Desk<'a> {
     pub fn refused(&mut self, call: Call, number: u32) {
         let before = self.heap.clone();
         assert_eq!(self.answer(call), Answer { number, value: 0 }, "{call}");
+        self.unchanged(&before, call);
+    }
+
+    fn unchanged(&self, before: &Buffers, call: Call) {
         assert!(self.heap.memory == before.memory, "{call}: memory changed");
         assert!(self.heap.books == before.books, "{call}: the books changed");
         assert!(self.heap.map == before.map, "{call}: the map changed");
+    }
+
+    /// Stand-in hands back the bytes at this place, and changes nothing, the phrase neither.
+    pub fn stand_in(&mut self, offset: usize, phrase: Phrase, place: Place) {
+        let call = Call::StandIn { offset, phrase };
+        let before = self.heap.clone();
+        assert_eq!(self.heap.take(self.calls, &Step::Call(call)).place, Some(place), "{call}");
+        self.unchanged(&before, call);
+        assert!(self.heap.phrase == before.text_of(phrase, offset), "{call}: the phrase changed");
     }
 
     /// Start and length of the part that view hands back.

@@ -1,4 +1,5 @@
-//! 01 read a second time: the calls as a trait, one program that keeps 01, and what tells any other program from it.
+//! 01 and W-214 of 02 read a second time: the calls as a trait, one program that keeps them, and what tells any other
+//! program from it.
 
 pub mod cases;
 pub mod compare;
@@ -28,7 +29,35 @@ pub struct Lent<'a> {
     pub map: &'a mut [u64],
 }
 
-/// The seven calls and view's companion, over buffers of any length and with any contents.
+/// A phrase that is lent: a text of its own or, because it is only read, a part of memory by start and length.
+#[derive(Clone, Copy)]
+pub enum LentPhrase<'a> {
+    Text(&'a [u8]),
+    Part(usize, usize),
+}
+
+impl LentPhrase<'_> {
+    /// Where the phrase itself lies, the whole of it.
+    pub fn itself(&self) -> Place {
+        match *self {
+            LentPhrase::Text(text) => Place::Phrase(0, text.len()),
+            LentPhrase::Part(start, length) => Place::Memory(start, length),
+        }
+    }
+}
+
+/// Which bytes are handed back: their buffer, and start and length there. A phrase that is a part of memory lies in
+/// memory, so the same bytes are always the same place.
+#[derive(Clone, Copy, Debug, PartialEq, Eq)]
+pub enum Place {
+    Memory(usize, usize),
+    /// In a phrase that is a text of its own.
+    Phrase(usize, usize),
+    /// In neither of them: a copy.
+    Elsewhere,
+}
+
+/// 01's seven calls, view's companion and 02's stand-in, over buffers of any length and with any contents.
 pub trait Calls {
     fn format(&mut self, lent: Lent, arenas: usize, pools: usize) -> Answer;
     fn ask(&mut self, lent: Lent, size: usize) -> Answer;
@@ -37,6 +66,8 @@ pub trait Calls {
     /// Where in memory the part handed back starts, and its length; the empty part is (0, 0).
     fn view(&mut self, lent: Lent, offset: usize) -> (usize, usize);
     fn view_size(&mut self, lent: Lent, offset: usize) -> Answer;
+    /// The place alone: it has no number, and a phrase may lie over the block that is asked about.
+    fn stand_in(&mut self, lent: Lent, offset: usize, phrase: LentPhrase) -> Place;
     fn write(&mut self, lent: Lent, offset: usize, text: &[u8]) -> Answer;
     fn roll_call(&mut self, lent: Lent, roll: &mut [u32]) -> Answer;
 

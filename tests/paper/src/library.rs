@@ -1,6 +1,6 @@
 //! The proved library behind the same calls, through the Rust crate.
 
-use crate::{Answer, Calls, Lent};
+use crate::{Answer, Calls, Lent, LentPhrase, Place};
 use heskavern::{calls, Heap};
 
 /// The proved library. It keeps nothing between calls.
@@ -10,6 +10,12 @@ impl From<calls::Answer> for Answer {
     fn from(calls::Answer { number, value }: calls::Answer) -> Answer {
         Answer { number, value }
     }
+}
+
+/// Where a part starts in the whole, by their addresses, if it lies there.
+fn start_in(part: &[u8], whole: &[u8]) -> Option<usize> {
+    let start = (part.as_ptr() as usize).checked_sub(whole.as_ptr() as usize)?;
+    (start + part.len() <= whole.len()).then_some(start)
 }
 
 impl Calls for Library {
@@ -42,6 +48,20 @@ impl Calls for Library {
 
     fn view_size(&mut self, lent: Lent, offset: usize) -> Answer {
         calls::view_size(lent.memory, lent.books, lent.map, offset).into()
+    }
+
+    fn stand_in(&mut self, lent: Lent, offset: usize, phrase: LentPhrase) -> Place {
+        let memory = &*lent.memory;
+        let phrase = match phrase {
+            LentPhrase::Text(text) => text,
+            LentPhrase::Part(start, length) => &memory[start..start + length],
+        };
+        let part = calls::stand_in(memory, lent.books, lent.map, offset, phrase);
+        match (start_in(part, memory), start_in(part, phrase)) {
+            (Some(start), _) => Place::Memory(start, part.len()),
+            (None, Some(start)) => Place::Phrase(start, part.len()),
+            (None, None) => Place::Elsewhere,
+        }
     }
 
     fn write(&mut self, lent: Lent, offset: usize, text: &[u8]) -> Answer {

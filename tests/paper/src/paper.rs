@@ -1,9 +1,10 @@
-//! 01 as a program: its calls over lent buffers, in its order and its words, on any lengths and any contents.
+//! 01 as a program: its calls over lent buffers, in its order and its words, on any lengths and any contents. The call
+//! of W-214 of 02 stands beside view.
 //!
 //! A step writes as it goes, in the order that 01 gives, and notes what stood there before. Where a used word breaks
 //! its rule, the notes are walked back and the answer is 6. So 01 can be laid beside this file sentence by sentence.
 
-use super::{Answer, Calls, Lent, Path, Rule, Trail};
+use super::{Answer, Calls, Lent, LentPhrase, Path, Place, Rule, Trail};
 
 // Memory, books, map
 
@@ -588,7 +589,7 @@ impl Heap<'_> {
 
 // Numbers a call can return
 
-/// 01's calls, over whatever is lent.
+/// 01's calls and 02's stand-in, over whatever is lent.
 #[derive(Default)]
 pub struct Paper {
     notes: Vec<Was>,
@@ -664,6 +665,15 @@ impl Calls for Paper {
     /// View's companion gives its number and, when done, the block size, otherwise 0.
     fn view_size(&mut self, lent: Lent, offset: usize) -> Answer {
         answer(self.heap(lent).and_then(|heap| Ok(heap.live(offset)?.size())))
+    }
+
+    /// **A stand-in phrase** (W-214) hands back either the live block's own bytes or the lent phrase itself, and the
+    /// phrase exactly when view would refuse. Neither buffer is copied or changed: the answer is a place in one.
+    fn stand_in(&mut self, lent: Lent, offset: usize, phrase: LentPhrase) -> Place {
+        match self.heap(lent).and_then(|heap| heap.live(offset)) {
+            Ok(block) => Place::Memory(offset, block.size()),
+            Err(_) => phrase.itself(),
+        }
     }
 
     fn write(&mut self, lent: Lent, offset: usize, text: &[u8]) -> Answer {

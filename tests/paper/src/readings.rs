@@ -1,9 +1,10 @@
-//! A case for each reading of 01 where its words leave room, which tells it from the other reading.
+//! A case for each reading of 01 and 02 where their words leave room, which tells it from the other reading.
 
 use crate::cases::Case;
 use crate::desk::*;
 use crate::steps::Call::*;
-use crate::{Answer, Calls};
+use crate::steps::Phrase::*;
+use crate::{Answer, Calls, Place};
 
 pub const CASES: &[Case] = &[
     ("R1: format tests its own A and P before any length", r1),
@@ -27,6 +28,7 @@ pub const CASES: &[Case] = &[
     ("R23: no number of a caller is cut to fit", r23),
     ("a returning pool reads the freed-pool head", returning_pool),
     ("W-202: a bit at no block is in no roll, and takes no room", w202),
+    ("W-214: 1 and 2 are refusals of view too, so the phrase", w214),
 ];
 
 fn r1(calls: &mut dyn Calls) {
@@ -262,6 +264,36 @@ fn w202(calls: &mut dyn Calls) {
     *desk.pool(0, CLASS) = 64;
     desk.done(RollCall { words: 0 }, 0);
     desk.done(RollCall { words: 2024 }, 0);
+}
+
+/// The block would be live but for A and P, or for the lengths.
+fn w214(calls: &mut dyn Calls) {
+    fn stands_in(desk: &mut Desk, number: u32) {
+        desk.refused(ViewSize { offset: 48 }, number);
+        for offset in [48, 49] {
+            desk.stand_in(offset, Text(6, b'z'), Place::Phrase(0, 6));
+            desk.stand_in(offset, Text(0, 0), Place::Phrase(0, 0));
+            desk.stand_in(offset, Same(8), Place::Phrase(0, 8));
+            desk.stand_in(offset, Part(44, 8), Place::Memory(44, 8));
+        }
+    }
+    let mut desk = Desk::fresh(calls, 1, 2);
+    desk.done(Ask { size: 8 }, 48);
+    for (memory, map) in [(8191, 16), (8193, 16), (8192, 15), (8192, 17)] {
+        desk.lend(memory, 96, map);
+        stands_in(&mut desk, 2);
+    }
+    for books in [0, 1, 2, 95, 97] {
+        desk.lend(8192, books, 16);
+        stands_in(&mut desk, 2);
+    }
+    desk.lend(8192, 96, 16);
+    desk.stand_in(48, Text(6, b'z'), Place::Memory(48, 8));
+    for (arenas, pools) in [(0, 2), (17, 2), (1, 1), (1, 65), (u32::MAX, u32::MAX)] {
+        *desk.books(0) = arenas;
+        *desk.books(1) = pools;
+        stands_in(&mut desk, 1);
+    }
 }
 
 fn r22(calls: &mut dyn Calls) {

@@ -3,7 +3,7 @@
 use std::fmt;
 
 use crate::damage::Rng;
-use crate::{Answer, Calls, Lent};
+use crate::{Answer, Calls, Lent, LentPhrase, Place};
 
 /// A call with its arguments. A text is said by its length and first byte; a roll by how many words it has.
 #[derive(Clone, Copy, Debug, PartialEq, Eq)]
@@ -16,15 +16,46 @@ pub enum Call {
     ViewSize { offset: usize },
     Write { offset: usize, length: usize, first: u8 },
     RollCall { words: usize },
+    StandIn { offset: usize, phrase: Phrase },
 }
 
-impl Call {
-    pub const NAMES: [&'static str; 8] =
-        ["format", "ask", "give back", "resize", "view", "view's size", "write", "roll call"];
+/// A phrase to lend. Only a part of memory has no buffer of its own.
+#[derive(Clone, Copy, Debug, PartialEq, Eq)]
+pub enum Phrase {
+    /// A text, by its length and first byte.
+    Text(usize, u8),
+    /// A text of this length that has the bytes at the offset.
+    Same(usize),
+    /// A part of memory, by its start and length.
+    Part(usize, usize),
+}
 
-    /// Which of the names is its own.
+/// The numbers that view can give.
+const VIEW: &[usize] = &[0, 1, 2, 5];
+
+impl Call {
+    /// The kinds of calls, each with the numbers that it can give. View gives none, its companion gives view's.
+    /// Stand-in gives none either, but goes by view's, and is a kind of its own with each kind of phrase.
+    pub const KINDS: [(&'static str, &'static [usize]); 14] = [
+        ("format", &[0, 1, 2]),
+        ("ask", &[0, 1, 2, 3, 4, 6]),
+        ("give back", &[0, 1, 2, 5, 6]),
+        ("resize", &[0, 1, 2, 3, 4, 5, 6]),
+        ("view", &[]),
+        ("view's size", VIEW),
+        ("write", &[0, 1, 2, 5, 7]),
+        ("roll call", &[0, 1, 2, 7]),
+        ("stand-in: an empty text", VIEW),
+        ("stand-in: a text", VIEW),
+        ("stand-in: the bytes at the offset", VIEW),
+        ("stand-in: an empty part of memory", VIEW),
+        ("stand-in: memory over the offset", VIEW),
+        ("stand-in: other memory", VIEW),
+    ];
+
+    /// Which of the kinds it is.
     pub fn kind(&self) -> usize {
-        match self {
+        match *self {
             Call::Format { .. } => 0,
             Call::Ask { .. } => 1,
             Call::GiveBack { .. } => 2,
@@ -33,6 +64,14 @@ impl Call {
             Call::ViewSize { .. } => 5,
             Call::Write { .. } => 6,
             Call::RollCall { .. } => 7,
+            Call::StandIn { offset, phrase } => match phrase {
+                Phrase::Text(0, _) => 8,
+                Phrase::Text(..) => 9,
+                Phrase::Same(_) => 10,
+                Phrase::Part(_, 0) => 11,
+                Phrase::Part(start, length) if (start..start + length).contains(&offset) => 12,
+                Phrase::Part(..) => 13,
+            },
         }
     }
 }
@@ -61,28 +100,38 @@ pub fn lengths(arenas: usize, pools: usize) -> [usize; 3] {
     [all * 4096, 72 + 8 * arenas + 8 * all, 8 * all]
 }
 
-/// One program's buffers, with one element of each beyond what a heap needs, and its last roll.
+/// As much of a part of memory as lies in this many bytes of it.
+pub fn within(start: usize, length: usize, memory: usize) -> (usize, usize) {
+    let start = start.min(memory);
+    (start, length.min(memory - start))
+}
+
+/// One program's buffers, with one element of each beyond what a heap needs, its last roll and its last phrase.
 #[derive(Clone, PartialEq, Eq)]
 pub struct Buffers {
     pub memory: Vec<u8>,
     pub books: Vec<u32>,
     pub map: Vec<u64>,
     pub roll: Vec<u32>,
+    pub phrase: Vec<u8>,
     lent: [usize; 3],
 }
 
-/// What a call answers: number and value, and view's part.
+/// What a call answers: number and value, view's part, and the place of what stand-in hands back. The buffers are
+/// compared as well, so what is handed back at the same place has the same bytes.
 #[derive(Clone, Copy, Debug, Default, PartialEq, Eq)]
 pub struct Outcome {
     pub answer: Answer,
     pub part: (usize, usize),
+    pub place: Option<Place>,
 }
 
 impl Buffers {
     pub fn new(arenas: usize, pools: usize) -> Buffers {
         let lent = lengths(arenas, pools);
         let [memory, books, map] = lent.map(|length| length + 1);
-        Buffers { memory: vec![0; memory], books: vec![0; books], map: vec![0; map], roll: Vec::new(), lent }
+        let (memory, books, map) = (vec![0; memory], vec![0; books], vec![0; map]);
+        Buffers { memory, books, map, roll: Vec::new(), phrase: Vec::new(), lent }
     }
 
     pub fn lend(&mut self) -> Lent<'_> {
@@ -122,8 +171,37 @@ impl Buffers {
                 self.roll = roll;
                 answer
             }
+            Call::StandIn { offset, phrase } => return self.stand_in(calls, offset, phrase),
         };
         Outcome { answer, ..Outcome::default() }
+    }
+
+    /// The place of what stand-in hands back, and beside it what view's companion answers, which decides it.
+    fn stand_in(&mut self, calls: &mut dyn Calls, offset: usize, phrase: Phrase) -> Outcome {
+        let text = self.text_of(phrase, offset);
+        let lent = match phrase {
+            Phrase::Text(..) | Phrase::Same(_) => LentPhrase::Text(&text[1..text.len() - 1]),
+            Phrase::Part(start, length) => {
+                // a shortened sequence may lend less of memory than the part was made for
+                let (start, length) = within(start, length, self.lent[0]);
+                LentPhrase::Part(start, length)
+            }
+        };
+        let answer = calls.view_size(self.lend(), offset);
+        let place = Some(calls.stand_in(self.lend(), offset, lent));
+        self.phrase = text;
+        Outcome { answer, place, ..Outcome::default() }
+    }
+
+    /// A phrase's own buffer, if it has one, with a byte on either side that is not lent: so even an empty phrase has
+    /// an address at which no other buffer begins or ends.
+    pub fn text_of(&self, phrase: Phrase, offset: usize) -> Vec<u8> {
+        let bytes = match phrase {
+            Phrase::Text(length, first) => text(length, first),
+            Phrase::Same(length) => self.memory[offset..offset + length].to_vec(),
+            Phrase::Part(..) => return Vec::new(),
+        };
+        [vec![0xA5], bytes, vec![0xA5]].concat()
     }
 
     fn noise(&mut self, seed: u64) {
@@ -176,6 +254,28 @@ impl fmt::Display for Call {
                 write!(f, "write {length} bytes, {first} and rising, to {offset}")
             }
             Call::RollCall { words } => write!(f, "roll call with {words} words"),
+            Call::StandIn { offset, phrase } => write!(f, "stand-in for {offset}, lent {phrase}"),
+        }
+    }
+}
+
+impl fmt::Display for Phrase {
+    fn fmt(&self, f: &mut fmt::Formatter) -> fmt::Result {
+        match self {
+            Phrase::Text(0, _) => write!(f, "an empty phrase"),
+            Phrase::Text(length, first) => write!(f, "a phrase of {length} bytes, {first} and rising"),
+            Phrase::Same(length) => write!(f, "a phrase of the {length} bytes there"),
+            Phrase::Part(start, length) => write!(f, "{length} bytes of memory from {start}"),
+        }
+    }
+}
+
+impl fmt::Display for Place {
+    fn fmt(&self, f: &mut fmt::Formatter) -> fmt::Result {
+        match self {
+            Place::Memory(start, length) => write!(f, "{length} bytes of memory from {start}"),
+            Place::Phrase(start, length) => write!(f, "{length} bytes of the phrase from {start}"),
+            Place::Elsewhere => write!(f, "bytes that were not lent"),
         }
     }
 }

@@ -14,7 +14,7 @@ include!(concat!(env!("OUT_DIR"), "/broken.rs"));
 const CALLS: u64 = 1_000_000;
 
 fn all_slips() -> impl Iterator<Item = &'static slips::Slip> {
-    [slips::NAMED, slips::READINGS, slips::TIRED].into_iter().flatten()
+    slips::ALL.into_iter().flatten()
 }
 
 /// Where the comparison finds the slip and how it shows it, in words.

@@ -10,7 +10,7 @@ const USAGE: &str = "usage: compare [--seed N] [--calls N] [--coverage [--least 
   --seed N      the seed of the first heap (1); a difference names the seed of its heap
   --calls N     at least this many calls (3000000)
   --coverage    make the calls of the paper alone and print how often each number, path and rule was met
-  --least N     with --coverage: fail where a path or rule was met fewer times (0)";
+  --least N     with --coverage: fail where a number that a call can give, a path or a rule was met fewer times (0)";
 
 struct Wanted {
     seed: u64,
