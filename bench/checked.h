@@ -1,5 +1,5 @@
 /* A variant with the calls of include/heskavern.h, over buffers of its own. Included once for each, with THIS(name) for
- * its own names and CALL(name) for the calls. */
+ * its own names and CALL(name) for the calls; with STANDS_IN where it has the stand-in. */
 
 static _Alignas(4096) uint8_t THIS(memory)[HESKAVERN_MEMORY_BYTES(ARENAS, POOLS)];
 static _Alignas(64) uint32_t THIS(books)[HESKAVERN_BOOKS_WORDS(ARENAS, POOLS)];
@@ -46,6 +46,13 @@ static inline uint32_t THIS(view_size)(BLOCK block, unsigned *refused)
 {
     return THIS(value)(CALL(view_size)(LENT, block), refused);
 }
+
+#ifdef STANDS_IN
+static inline size_t THIS(stand_in)(BLOCK block, const uint8_t *phrase, size_t bytes)
+{
+    return CALL(stand_in)(LENT, block, phrase, bytes).size;
+}
+#endif
 
 static inline uint32_t THIS(place)(BLOCK block)
 {

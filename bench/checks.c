@@ -558,6 +558,17 @@ heskavern_answer CHECKS(view_size)(const uint8_t *memory, size_t memory_bytes, c
     return answer(HESKAVERN_DONE, size_of(h.pool[offset / POOL_BYTES].class));
 }
 
+heskavern_part CHECKS(stand_in)(const uint8_t *memory, size_t memory_bytes, const uint32_t *books, size_t books_words,
+                                const uint64_t *map, size_t map_words, size_t offset, const void *phrase,
+                                size_t phrase_bytes)
+{
+    struct heap h;
+    if (open_heap(&h, memory, memory_bytes, books, books_words, map, map_words) != HESKAVERN_DONE
+        || live_at(&h, offset) == NO_BLOCK)
+        return (heskavern_part){phrase, phrase_bytes};
+    return (heskavern_part){memory + offset, size_of(h.pool[offset / POOL_BYTES].class)};
+}
+
 heskavern_answer CHECKS(write)(uint8_t *memory, size_t memory_bytes, const uint32_t *books, size_t books_words,
                                const uint64_t *map, size_t map_words, size_t offset, const void *text,
                                size_t text_bytes)

@@ -15,7 +15,7 @@ enum { PAIRS = 8192, WARM = 2048, WINDOWS = 32, COUNTED = 8 * PAIRS };
 enum { RUNS = 32, SHORTEST_RUN = 50, LONGEST_RUN = 400, RUN_WINDOWS = 8, TEXT = 40 };
 
 static struct step mixed[WINDOWS * PAIRS + WARM], texts[RUN_WINDOWS][RUNS * LONGEST_RUN];
-static struct step start[SLOTS], wide[SLOTS], up[SLOTS], down[SLOTS];
+static struct step start[SLOTS], wide[SLOTS], up[SLOTS], down[SLOTS], halves[SLOTS / 2];
 static uint16_t runs[RUN_WINDOWS][RUNS];
 static uint8_t text[512];
 
@@ -62,6 +62,7 @@ void make_traces(void)
         wide[i] = (struct step){i, (uint16_t)between(200, 512)};
         up[i] = (struct step){other, a > b ? a : b};
         down[i] = (struct step){other, a > b ? b : a};
+        halves[i / 2] = (struct step){i, 0};
     }
     for (size_t i = 0; i < sizeof text; i++)
         text[i] = (uint8_t)below(256);
@@ -198,6 +199,15 @@ static double visit_write_200(const struct variant *v, size_t round)
     return write_bytes(v, round, 200);
 }
 
+/* Holds the sum of a variant that has places to the library's, which is kept. */
+static void hold(const struct variant *v, uint64_t *kept, uint64_t sum, const char *otherwise)
+{
+    if (v == variants[0])
+        *kept = sum;
+    if (v->place != NULL && *kept != 0 && *kept != sum)
+        fail(v->name, otherwise);
+}
+
 static double visit_view(const struct variant *v, size_t round)
 {
     const struct step *window = mixed + round % WINDOWS * PAIRS;
@@ -208,10 +218,33 @@ static double visit_view(const struct variant *v, size_t round)
     unsigned refused = v->view_size(window + WARM, PAIRS, &sum);
     double end = now();
     must(refused, v);
-    if (v == variants[0])
-        sums[round % WINDOWS] = sum;
-    if (v->place != NULL && sums[round % WINDOWS] != 0 && sums[round % WINDOWS] != sum)
-        fail(v->name, "its view sizes are not the library's");
+    hold(v, &sums[round % WINDOWS], sum, "its view sizes are not the library's");
+    return (end - begin) / PAIRS;
+}
+
+/* ---- the stand-in, of offsets half of which are not live any more */
+
+static bool can_stand_in(const struct variant *v)
+{
+    return v->stand_in != NULL;
+}
+
+static void prepare_stand_in(const struct variant *v)
+{
+    prepare_write(v);
+    must(v->drain(halves, SLOTS / 2), v);
+}
+
+static double visit_stand_in(const struct variant *v, size_t round)
+{
+    const struct step *window = mixed + round % WINDOWS * PAIRS;
+    static uint64_t sums[WINDOWS];
+    uint64_t sum = 0, warm = 0;
+    v->stand_in(window, WARM, text, TEXT, &warm);
+    double begin = now();
+    v->stand_in(window + WARM, PAIRS, text, TEXT, &sum);
+    double end = now();
+    hold(v, &sums[round % WINDOWS], sum, "its stand-ins are not the library's");
     return (end - begin) / PAIRS;
 }
 
@@ -355,6 +388,7 @@ const struct task tasks[TASKS] = {
     {"write 16 bytes (source: memcpy): ns", can_write, prepare_write, .visit = visit_write_16},
     {"write 200 bytes (source: memcpy): ns", can_write, prepare_write, .visit = visit_write_200},
     {"view_size: ns", can_write, prepare_write, .visit = visit_view},
+    {"stand-in, half of the blocks given back: ns", can_stand_in, prepare_stand_in, .visit = visit_stand_in},
     {"format (C: memset and a loop): µs", can_format, prepare_format, visit_format, {4, 64, 8, 0, false}},
     ROLLS("16 pools, blocks of 8 bytes", 1, 16, 8),
     ROLLS("16 pools, blocks of all sizes", 1, 16, HESKAVERN_LARGEST),

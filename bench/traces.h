@@ -85,6 +85,17 @@ static unsigned THIS(view_trace)(const struct step *steps, size_t n, uint64_t *s
 }
 #endif
 
+#ifdef STANDS_IN
+/* Also with  static inline size_t THIS(stand_in)(BLOCK block, const uint8_t *phrase, size_t bytes), which gives how
+ * long the part is that is handed back. */
+
+static void THIS(stand_in_trace)(const struct step *steps, size_t n, const uint8_t *phrase, size_t bytes, uint64_t *sum)
+{
+    for (size_t i = 0; i < n; i++)
+        *sum += THIS(stand_in)(THIS(slots)[steps[i].slot], phrase, bytes);
+}
+#endif
+
 #ifdef PLACES
 /* Also with  static inline uint32_t THIS(place)(BLOCK block), its offset. */
 
@@ -97,4 +108,5 @@ static uint32_t THIS(place_of_slot)(size_t slot)
 #undef THIS
 #undef BLOCK
 #undef WRITES
+#undef STANDS_IN
 #undef PLACES

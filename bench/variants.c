@@ -16,6 +16,7 @@
     .statement = v##_statement_trace, .resize = v##_resize_trace
 #define WITH_BLOCKS(v) .same = v##_same_block
 #define WRITE_TRACES(v) .write = v##_write_trace, .view_size = v##_view_trace
+#define STAND_IN_TRACE(v) .stand_in = v##_stand_in_trace
 #define WITH_PLACES(v) .place = v##_place_of_slot
 
 /* ---- this library, an older archive of it, and the same checks in C by two compilers */
@@ -24,9 +25,11 @@
 
 #define THIS(name) library_##name
 #define CALL(name) heskavern_##name
+#define STANDS_IN
 #include "checked.h"
 static const struct variant library = {
-    "this library", CHECKED(library), .roll_call = heskavern_roll_call, .format = heskavern_format
+    "this library", CHECKED(library), STAND_IN_TRACE(library), .roll_call = heskavern_roll_call,
+    .format = heskavern_format
 };
 
 #ifdef BEFORE   /* it is linked, with before_ask for heskavern_ask and so on */
@@ -45,9 +48,11 @@ static const struct variant archive_before = {
 #include "checks.h"
 #define THIS(name) by_gcc_##name
 #define CALL(name) CHECKS(name)
+#define STANDS_IN
 #include "checked.h"
 static const struct variant by_gcc = {
-    "the same checks in C, gcc -O2", CHECKED(by_gcc), .roll_call = gcc_roll_call, .format = gcc_format
+    "the same checks in C, gcc -O2", CHECKED(by_gcc), STAND_IN_TRACE(by_gcc), .roll_call = gcc_roll_call,
+    .format = gcc_format
 };
 static const struct variant plain_by_gcc = {"a plain loop with ctz, gcc -O2", .roll_call = gcc_plain_roll_call};
 #undef CHECKS
@@ -56,9 +61,11 @@ static const struct variant plain_by_gcc = {"a plain loop with ctz, gcc -O2", .r
 #include "checks.h"
 #define THIS(name) by_clang_##name
 #define CALL(name) CHECKS(name)
+#define STANDS_IN
 #include "checked.h"
 static const struct variant by_clang = {
-    "the same checks in C, clang -O3", CHECKED(by_clang), .roll_call = clang_roll_call, .format = clang_format
+    "the same checks in C, clang -O3", CHECKED(by_clang), STAND_IN_TRACE(by_clang), .roll_call = clang_roll_call,
+    .format = clang_format
 };
 static const struct variant plain_by_clang = {"a plain loop with ctz, clang -O3", .roll_call = clang_plain_roll_call};
 #undef CHECKS
@@ -165,6 +172,7 @@ static bool find_calls(struct system_calls *calls, const char *library, const ch
 #define THIS(name) loop_##name
 #define BLOCK uint32_t
 #define WRITES
+#define STANDS_IN
 #define NOTHING(x) nothing(HESKAVERN_LENT(library_memory, library_books, library_map, ARENAS, POOLS), x)
 
 static inline BLOCK loop_ask(size_t size, unsigned *refused)
@@ -193,8 +201,16 @@ static inline uint32_t loop_view_size(BLOCK block, unsigned *refused)
     return library_value(NOTHING(block), refused);
 }
 
+static inline size_t loop_stand_in(BLOCK block, const uint8_t *phrase, size_t bytes)
+{
+    (void)phrase, (void)bytes;
+    return NOTHING(block).value;
+}
+
 #include "traces.h"
-static const struct variant loop = {"the loop alone", .fresh = no_heap, TRACES(loop), WRITE_TRACES(loop)};
+static const struct variant loop = {
+    "the loop alone", .fresh = no_heap, TRACES(loop), WRITE_TRACES(loop), STAND_IN_TRACE(loop)
+};
 
 /* ---- all of them */
 

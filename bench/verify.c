@@ -11,7 +11,7 @@
 #include <string.h>
 
 enum { MOST_POOLS = 64, MOST_HELD = 4096 };
-enum { FORMAT, ASK, GIVE_BACK, RESIZE, VIEW_SIZE, WRITE, ROLL_CALL, PLAIN_ROLL_CALL, CALLS };
+enum { FORMAT, ASK, GIVE_BACK, RESIZE, VIEW_SIZE, STAND_IN, WRITE, ROLL_CALL, PLAIN_ROLL_CALL, CALLS };
 enum { AT_BLOCKS, PAST_THE_LAST, NO_CLASS, WHOLE_WORDS, ALL_ONES, LAST_WORD, CROWDED, MAPS };
 enum { FOR_ALL, MORE, ENOUGH, ONE_TOO_FEW, FEWER, ROOMS };
 
@@ -30,8 +30,8 @@ struct call {
     bool in_map[MAPS];
 };
 
-static const char *const names[CALLS] = {"format", "ask", "give back", "resize", "view_size", "write", "roll call",
-                                         "plain roll call"};
+static const char *const names[CALLS] = {"format", "ask", "give back", "resize", "view_size", "stand-in", "write",
+                                         "roll call", "plain roll call"};
 static const char *const maps[MAPS] = {
     [AT_BLOCKS] = "bits at blocks alone",
     [PAST_THE_LAST] = "bits past a pool's last block",
@@ -57,6 +57,15 @@ static uint8_t text[600];
 
 #define LENT(b) (b)->memory, c->memory_bytes, (b)->books, c->books_words, (b)->map, c->map_words
 
+/* What a stand-in hands back as a number and a value: of the text, which is its phrase, 5 and its length, of a part of
+ * memory 0 and both its place and its size. */
+static heskavern_answer handed(const struct buffers *b, heskavern_part part)
+{
+    if (part.bytes == text)
+        return (heskavern_answer){HESKAVERN_NOT_LIVE, (uint32_t)part.size};
+    return (heskavern_answer){HESKAVERN_DONE, (uint32_t)(1024 * (part.bytes - b->memory)) + (uint32_t)part.size};
+}
+
 static heskavern_answer by_library(struct buffers *b, const struct call *c)
 {
     switch (c->kind) {
@@ -65,6 +74,7 @@ static heskavern_answer by_library(struct buffers *b, const struct call *c)
     case GIVE_BACK: return heskavern_give_back(LENT(b), c->x);
     case RESIZE: return heskavern_resize(LENT(b), c->x, c->y);
     case VIEW_SIZE: return heskavern_view_size(LENT(b), c->x);
+    case STAND_IN: return handed(b, heskavern_stand_in(LENT(b), c->x, text, c->y));
     case WRITE: return heskavern_write(LENT(b), c->x, text, c->y);
     default: return heskavern_roll_call(LENT(b), b->roll, c->roll_words);
     }
@@ -78,6 +88,7 @@ static heskavern_answer by_checks(struct buffers *b, const struct call *c)
     case GIVE_BACK: return CHECKS(give_back)(LENT(b), c->x);
     case RESIZE: return CHECKS(resize)(LENT(b), c->x, c->y);
     case VIEW_SIZE: return CHECKS(view_size)(LENT(b), c->x);
+    case STAND_IN: return handed(b, CHECKS(stand_in)(LENT(b), c->x, text, c->y));
     case WRITE: return CHECKS(write)(LENT(b), c->x, text, c->y);
     case ROLL_CALL: return CHECKS(roll_call)(LENT(b), b->roll, c->roll_words);
     default: return CHECKS(plain_roll_call)(LENT(b), b->roll, c->roll_words);
@@ -151,8 +162,8 @@ static void blank_rolls(void)
 
 static struct call random_call(void)
 {
-    static const uint8_t kinds[] = {ASK,    ASK,    ASK,       ASK,   ASK,       GIVE_BACK,      GIVE_BACK, GIVE_BACK,
-                                    RESIZE, RESIZE, VIEW_SIZE, WRITE, ROLL_CALL, PLAIN_ROLL_CALL};
+    static const uint8_t kinds[] = {ASK,    ASK,    ASK,       ASK,      ASK,   GIVE_BACK, GIVE_BACK,      GIVE_BACK,
+                                    RESIZE, RESIZE, VIEW_SIZE, STAND_IN, WRITE, ROLL_CALL, PLAIN_ROLL_CALL};
     struct call c = {.kind = kinds[below(sizeof kinds)],
                      .memory_bytes = arenas * pools * 4096,
                      .books_words = 72 + 8 * arenas + 8 * arenas * pools,
