@@ -48,9 +48,9 @@ static inline uint32_t THIS(view_size)(BLOCK block, unsigned *refused)
 }
 
 #ifdef STANDS_IN
-static inline size_t THIS(stand_in)(BLOCK block, const uint8_t *phrase, size_t bytes)
+static inline heskavern_part THIS(stand_in)(BLOCK block, const uint8_t *phrase, size_t bytes)
 {
-    return CALL(stand_in)(LENT, block, phrase, bytes).size;
+    return CALL(stand_in)(LENT, block, phrase, bytes);
 }
 #endif
 

@@ -62,7 +62,8 @@ void make_traces(void)
         wide[i] = (struct step){i, (uint16_t)between(200, 512)};
         up[i] = (struct step){other, a > b ? a : b};
         down[i] = (struct step){other, a > b ? b : a};
-        halves[i / 2] = (struct step){i, 0};
+        if (i % 2 != 0)
+            halves[i / 2] = (struct step){i, 0};
     }
     for (size_t i = 0; i < sizeof text; i++)
         text[i] = (uint8_t)below(256);

@@ -86,13 +86,14 @@ static unsigned THIS(view_trace)(const struct step *steps, size_t n, uint64_t *s
 #endif
 
 #ifdef STANDS_IN
-/* Also with  static inline size_t THIS(stand_in)(BLOCK block, const uint8_t *phrase, size_t bytes), which gives how
- * long the part is that is handed back. */
+/* Also with  static inline heskavern_part THIS(stand_in)(BLOCK block, const uint8_t *phrase, size_t bytes) */
 
 static void THIS(stand_in_trace)(const struct step *steps, size_t n, const uint8_t *phrase, size_t bytes, uint64_t *sum)
 {
-    for (size_t i = 0; i < n; i++)
-        *sum += THIS(stand_in)(THIS(slots)[steps[i].slot], phrase, bytes);
+    for (size_t i = 0; i < n; i++) {
+        heskavern_part part = THIS(stand_in)(THIS(slots)[steps[i].slot], phrase, bytes);
+        *sum += part.size + (uintptr_t)part.bytes % 4096;
+    }
 }
 #endif
 

@@ -201,10 +201,9 @@ static inline uint32_t loop_view_size(BLOCK block, unsigned *refused)
     return library_value(NOTHING(block), refused);
 }
 
-static inline size_t loop_stand_in(BLOCK block, const uint8_t *phrase, size_t bytes)
+static inline heskavern_part loop_stand_in(BLOCK block, const uint8_t *phrase, size_t bytes)
 {
-    (void)phrase, (void)bytes;
-    return NOTHING(block).value;
+    return (heskavern_part){phrase, bytes + NOTHING(block).value};
 }
 
 #include "traces.h"

@@ -27,7 +27,7 @@ struct variant {
     unsigned (*resize)(const struct step *steps, size_t n);
     unsigned (*write)(const struct step *steps, size_t n, const uint8_t *text, size_t bytes);
     unsigned (*view_size)(const struct step *steps, size_t n, uint64_t *sum);   /* adds up the sizes */
-    /* adds up how long the parts are that are handed back */
+    /* adds up how long the parts are that are handed back, and where they begin in a page */
     void (*stand_in)(const struct step *steps, size_t n, const uint8_t *phrase, size_t bytes, uint64_t *sum);
     bool (*same)(size_t slot, size_t other);                /* whether two slots hold the same block */
     uint32_t (*place)(size_t slot);                         /* the offset of the slot's block */

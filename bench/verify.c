@@ -1,7 +1,8 @@
 /* Holds bench/checks.c, by its names CHECKS(name), to the library: verify SEED CALLS. Both get the same random calls
- * over the same buffers, on sound books and on damaged ones, and must give the same number and value and leave the same
- * memory, books, map and roll. Fails also where the calls never met a number, a half-done resize, or one of the roll
- * calls over one of the kinds of map with one of the kinds of room. */
+ * over the same buffers, on sound books and on damaged ones, and must give the same number and value, or of a stand-in
+ * the same part, and leave the same memory, books, map and roll. Fails also where the calls never met a number, a
+ * half-done resize, a stand-in that is the phrase or one that is the block's own part, or one of the roll calls over
+ * one of the kinds of map with one of the kinds of room. */
 #include "checks.h"
 #include "random.h"
 
@@ -52,18 +53,18 @@ static const char *const rooms[ROOMS] = {
 static struct buffers library, checks;
 static size_t arenas, pools;
 static uint32_t held[MOST_HELD], held_count;    /* offsets that were handed out, as far as the answers tell */
-static unsigned long met[8], half_done, rolls_met[CALLS][MAPS][ROOMS];
+static unsigned long met[8], half_done, stood_in[2], rolls_met[CALLS][MAPS][ROOMS];
 static uint8_t text[600];
 
 #define LENT(b) (b)->memory, c->memory_bytes, (b)->books, c->books_words, (b)->map, c->map_words
 
-/* What a stand-in hands back as a number and a value: of the text, which is its phrase, 5 and its length, of a part of
- * memory 0 and both its place and its size. */
+/* What a stand-in hands back, to be compared as an answer is: 1 with its length where it is the phrase, which is the
+ * text, and 0 with both its place and its size where it is a part of memory. */
 static heskavern_answer handed(const struct buffers *b, heskavern_part part)
 {
     if (part.bytes == text)
-        return (heskavern_answer){HESKAVERN_NOT_LIVE, (uint32_t)part.size};
-    return (heskavern_answer){HESKAVERN_DONE, (uint32_t)(1024 * (part.bytes - b->memory)) + (uint32_t)part.size};
+        return (heskavern_answer){1, (uint32_t)part.size};
+    return (heskavern_answer){0, (uint32_t)(1024 * (part.bytes - b->memory)) + (uint32_t)part.size};
 }
 
 static heskavern_answer by_library(struct buffers *b, const struct call *c)
@@ -298,6 +299,10 @@ static void note_roll(const struct call *c)
 static void note(const struct call *c, heskavern_answer a)
 {
     bool moved = c->kind == RESIZE && a.value != c->x;
+    if (c->kind == STAND_IN) {
+        stood_in[a.number]++;
+        return;
+    }
     met[a.number]++;
     if (c->kind == RESIZE && a.number == HESKAVERN_DAMAGED && a.value != 0)
         half_done++;
@@ -361,13 +366,13 @@ static bool say_rolls(void)
 /* Says what was met, and whether all of it was. */
 static bool say_met(const char *calls)
 {
-    bool all = half_done != 0;
+    bool all = half_done != 0 && stood_in[0] != 0 && stood_in[1] != 0;
     printf("bench/verify: checks.c and the library agree on %s calls; numbers 0 to 7:", calls);
     for (unsigned number = 0; number < 8; number++) {
         printf(" %lu", met[number]);
         all &= met[number] != 0;
     }
-    printf("; half-done resizes: %lu\n", half_done);
+    printf("; half-done resizes: %lu; stand-ins: %lu blocks, %lu phrases\n", half_done, stood_in[0], stood_in[1]);
     return say_rolls() && all;
 }
 

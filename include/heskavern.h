@@ -8,8 +8,8 @@ macros below; HESKAVERN_LENT makes all six arguments. A block is known by its of
 Every call answers a number and a value, but for view and the stand-in, which hand back a part. The number is 0 when it
 is done, and otherwise says why it is refused. A refusal has value 0 and leaves every byte and word as it was, but for
 the half-done resize. Any lengths, any contents of the buffers and any arguments get their number: that is proved of the
-source, and so is that a call always returns and touches nothing but the buffers. No call allocates or makes a system
-call.
+source, and so is that a call always returns and touches nothing but the buffers. (View and the stand-in are lines of
+this header over view_size.) No call allocates or makes a system call.
 
 What the caller owes, and no call can test:
 - Each pointer is valid for its length and aligned for its type. It is not null, even where the length is 0.
@@ -24,8 +24,8 @@ still answers by its rules, but it may meet damage and give 6, or hand out what 
 
 What is good to know:
 - An offset names a block and not its holder. While the block is not out, every call on it is refused, with 5 (a resize
-  to a size out of range with 3, which comes first); its stand-in is the phrase. Once it is out again, a stale offset is
-  the new holder's: a view shows its text, a write or a give-back changes it.
+  to a size out of range with 3, which comes first), but for the stand-in, which is then the phrase. Once it is out
+  again, a stale offset is the new holder's: a view or a stand-in shows its text, a write or a give-back changes it.
 - Buffers of two heaps in one call, each with its own length, are refused with 2 where A x P differs. (HESKAVERN_LENT
   makes the lengths from A and P: with a smaller heap's buffers it breaks the first rule above.) Where A x P is the same
   no call can tell: it answers by the three buffers as they are lent and touches no others, but it may write into a
@@ -191,8 +191,9 @@ HESKAVERN_MUST_USE heskavern_answer heskavern_roll_call(
     size_t map_words, uint32_t *roll, size_t roll_words) HESKAVERN_NOEXCEPT;
 
 /* Stand-in: the live block's own part of memory, the whole block; where view_size refuses, the phrase itself, all of
-   it. So a block that is not out is never read out: its offset speaks the phrase. Neither is copied, and the phrase is
-   only handed on: it may be empty, and it may be a part of memory. It answers the part alone, and no number. */
+   it. So, on a heap that is kept as said above, a block that is not out is never read out: its offset speaks the
+   phrase. Neither is copied: what is handed back shows the block while it is out, or the phrase while that stands. The
+   phrase is only handed on: it may be empty, though not null, and it may be a part of memory. */
 static inline heskavern_part heskavern_stand_in(
     const uint8_t *memory, size_t memory_bytes, const uint32_t *books, size_t books_words, const uint64_t *map,
     size_t map_words, size_t offset, const void *phrase, size_t phrase_bytes) HESKAVERN_NOEXCEPT

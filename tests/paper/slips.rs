@@ -443,7 +443,7 @@ const STAND_IN: &[Slip] = &[
         "-> Place {
         let there = lent.memory.get(offset..).unwrap_or(&[]).to_vec();
         match self.heap(lent).and_then(|heap| heap.live(offset)) {
-            Ok(block) if matches!(phrase, LentPhrase::Text(text) if text == &there[..block.size()]) => {
+            Ok(block) if matches!(&phrase, LentPhrase::Text(text) if **text == there[..block.size()]) => {
                 phrase.itself()
             }",
     ),
@@ -477,9 +477,19 @@ const STAND_IN: &[Slip] = &[
         Some("W-214: a dead"),
         "-> Place {",
         "-> Place {
-         if let (LentPhrase::Text(text), Some(from)) = (phrase, lent.memory.get_mut(offset..)) {
+         if let (LentPhrase::Text(text), Some(from)) = (&phrase, lent.memory.get_mut(offset..)) {
              let length = text.len().min(from.len());
              from[..length].copy_from_slice(&text[..length]);
+         }",
+    ),
+    slip(
+        "the phrase is written",
+        Some("W-214: a dead"),
+        "-> Place {",
+        "-> Place {
+         let mut phrase = phrase;
+         if let LentPhrase::Text([.., last]) = &mut phrase {
+             *last ^= 1;
          }",
     ),
     slip(

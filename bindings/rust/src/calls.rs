@@ -2,7 +2,7 @@
 //! [`Heap`](crate::Heap) says the same with types.
 //!
 //! Each takes any lengths, any contents of the buffers and any arguments, and answers by its rules:
-//! [`Answer::number`] is 0 when it is done.
+//! [`Answer::number`] is 0 when it is done. [`stand_in`] alone hands back a part: it is made here from [`view_size`].
 //!
 //! ```
 //! use heskavern::calls::{ask, Answer};

@@ -22,14 +22,15 @@
 //! ```
 //!
 //! The calls are those of `libheskavern.a`, for x86-64 Linux, whose source is proved (docs/PROMISES.md in the
-//! repository). This crate adds types, and nothing to what they do.
+//! repository). This crate adds types, and nothing to what they do; view and the stand-in are cut from memory here, by
+//! the size that the library gives.
 //!
 //! # What is good to know
 //!
 //! - An offset names a block and not its holder. While the block is not out, every call on it is refused with
 //!   [`NotLive`](Refusal::NotLive) (a resize to a size out of range with [`BadSize`](Refusal::BadSize), which comes
-//!   first), and [`stand_in`](Heap::stand_in) hands back its phrase. Once it is out again, a stale offset is the new
-//!   holder's: a view shows its text, a write or a give-back changes it.
+//!   first), but for [`stand_in`](Heap::stand_in), which hands back its phrase. Once it is out again, a stale offset is
+//!   the new holder's: a view or a stand-in shows its text, a write or a give-back changes it.
 //! - A [`Heap`] holds its three buffers, so those of two heaps cannot be mixed up in a call; [`Heap::open`] and
 //!   [`calls`] can be lent a mixture. It is refused where A × P differs. Where it is the same no call can tell: it
 //!   answers by the three buffers as they are lent and touches no others, but it may write into a block that is held,

@@ -1,4 +1,5 @@
-//! 01's cases through the bindings: what a caller in Rust gets for each number, and what it can get hold of.
+//! 01's cases and W-214's through the bindings: what a caller in Rust gets for each number, and what it can get hold
+//! of.
 
 use heskavern::{books_words, calls, map_words, memory_bytes, roll_words, Heap, Refusal};
 
@@ -163,14 +164,16 @@ fn a_stand_in_is_no_copy() -> Result<(), Refusal> {
     assert_eq!([heap.ask(8)?, heap.ask(8)?], [48, 56]);
     heap.write(48, b"owed 100")?;
     heap.write(56, b"no entry")?;
-    // its own part of memory, though the phrase is empty, has the same bytes or lies in memory
+    // its own part of memory, though the phrase is empty, has the same bytes, or lies in memory, over the block too
     let own = heap.view(48)?;
     let same = own.to_vec();
-    for phrase in [b"".as_slice(), &same, heap.view(56)?] {
+    for phrase in [b"".as_slice(), &same, heap.view(56)?, &own[..4], &own[4..]] {
         assert!(std::ptr::eq(heap.stand_in(48, phrase), own));
     }
-    // and the phrase of another block for one that was never handed out
-    assert!(std::ptr::eq(heap.stand_in(64, heap.view(56)?), heap.view(56)?));
+    // and the phrase itself where no block is, though it lies in one
+    for offset in [52, 64] {
+        assert!(std::ptr::eq(heap.stand_in(offset, &own[4..]), &own[4..]));
+    }
     Ok(())
 }
 

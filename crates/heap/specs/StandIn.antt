@@ -21,7 +21,7 @@ view-number h o = go (offsetTests 8 h o)
     go zero = refl
     go (suc n) = refl
 
--- n is the number of the tests; phrase and memory are where they lie, where a place is spoken of
+-- n is the number of the tests; memory and lent are where memory and the phrase lie
 module _ (h : Heap) (o n : ℕ) (tested : n ≡ offsetTests 8 h o) where
   number-is : n ≡ viewSize 8 h o .number
   number-is = tested ∙ sym (view-number h o)
@@ -36,8 +36,8 @@ module _ (h : Heap) (o n : ℕ) (tested : n ≡ offsetTests 8 h o) where
     unfolding standIn
     phrase-stands-in phrase = ap (λ (p : List ℕ). p beside phrase beside h) (sym (stopped (λ k. phrase) _ _ no-view))
 
-    pub phrase-lies : (memory phrase : ℕ × ℕ) → phrase ≡ standInAt 8 h o memory phrase
-    phrase-lies memory phrase = sym (stopped (λ k. phrase) _ _ no-view)
+    pub phrase-lies : (memory lent : ℕ × ℕ) → lent ≡ standInAt 8 h o memory lent
+    phrase-lies memory lent = sym (stopped (λ k. lent) _ _ no-view)
 
   -- ---- where they pass; s is the block's size
   module _ (passes : n ≡ 0) where
@@ -53,8 +53,8 @@ module _ (h : Heap) (o n : ℕ) (tested : n ≡ offsetTests 8 h o) where
         ∙ sym (passed (λ k. []) _ _ (sym tested ∙ passes))
         ∙ sym (passed (λ k. phrase) _ _ viewed))
 
-    pub own-lies : (memory phrase : ℕ × ℕ) → (memory .0, o + memory .1) ≡ standInAt 8 h o memory phrase
-    own-lies memory phrase = sym (passed (λ k. phrase) _ _ viewed)
+    pub own-lies : (memory lent : ℕ × ℕ) → (memory .0, o + memory .1) ≡ standInAt 8 h o memory lent
+    own-lies memory lent = sym (passed (λ k. lent) _ _ viewed)
 
 -- ---- the stand-in of nothing is view's part
 pub nothing-stands-in : (h : Heap) (o : ℕ) → standIn 8 h o [] ≡ view 8 h o

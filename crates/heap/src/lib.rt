@@ -1,4 +1,5 @@
-// The calls of 01, over three lent buffers: memory, books and map. Each tests in 01's order and then takes its step.
+// The calls of 01 and 02's stand-in, over three lent buffers: memory, books and map. Each tests in 01's order and then
+// takes its step.
 // None requires anything of its caller, and the promise of each (`Promises` in crate rules) is one equation: what it
 // answers and what it leaves is what the rules say.
 use asks::answers::answer;
@@ -173,8 +174,8 @@ fn block_size(books: &[u32], offset: usize) -> usize
     size_of(class_at(books, word(books, 0), offset))
 }
 
-// View: the block's own part of memory, from its offset on for its size, or the empty part at memory's start, which is
-// the stand-in of nothing.
+// View: the block's own part of memory, from its offset on for its size, or the empty part at memory's start. It is the
+// stand-in of nothing.
 pub fn view<'a, 'b, 'c>(
     memory: &'a [u8],
     books: &'b [u32],

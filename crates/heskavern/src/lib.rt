@@ -1,6 +1,6 @@
 // The calls of 01 for C and Rust: crate heap's calls under names that the archive exports, each with the promise of the
 // call that it passes on. include/heskavern.h declares them. A slice is a pointer and its length in elements there.
-// View is made there from `heskavern_view_size`, since an exported function cannot return a slice.
+// View and the stand-in are made there from `heskavern_view_size`, since an exported function cannot return a slice.
 ghost use Rattle.rules.specs.Outcome.{heapOf};
 ghost use Rattle.rules.specs.Promises.{
   FormatPromise,

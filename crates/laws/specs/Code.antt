@@ -4,7 +4,7 @@
 use mathlib.Core.Path.{_≡_, refl, sym, ap, ap₂, _∙_, subst}
 use mathlib.Core.Logic.{_≢_}
 use mathlib.Core.List.{List, [], _∷_, _++_}
-use Prim.Native.Nat.{ℕ, _≤_}
+use Prim.Native.Nat.{ℕ, _+_, _≤_}
 use native.Mathlib.Omega.{arith}
 use lib.ListN.{length, drop}
 use Rattle.rules.specs.declared.Answer.{Answer}
@@ -22,6 +22,7 @@ use Rattle.rules.specs.Numbers.{
   view,
   viewSize,
   standIn,
+  standInAt,
   write,
   rollCall,
 }
@@ -33,6 +34,7 @@ use Rattle.rules.specs.Promises.{
   ViewPromise,
   ViewSizePromise,
   StandInPromise,
+  StandInPlace,
   WritePromise,
   RollCallPromise,
 }
@@ -195,11 +197,14 @@ module _ (h : Heap) (A P : ℕ) (ok : format h A P .answer .number ≡ 0) (es : 
       → ViewPromise g left o part → part ≡ end eight h A P ok es .ledger o
   ran-view o part kept = ap (λ (x : List ℕ × Heap). x .0) kept ∙ ap (λ (x : Heap). view 8 x o) (ran-is ran .0) ∙ view-shows eight h A P ok es o
 
-  -- and a stand-in the same, or its phrase where no block is held
-  pub ran-stand-in : {left : Heap} (o : ℕ) (phrase same part : List ℕ) → StandInPromise g left o phrase same part
-      → (end eight h A P ok es .ledger o ≢ [] → part ≡ end eight h A P ok es .ledger o)
-      × (end eight h A P ok es .ledger o ≡ [] → part ≡ phrase)
-  ran-stand-in o phrase same part kept =
-      let e = ap (λ (x : List ℕ × (List ℕ × Heap)). x .0) kept ∙ ap (λ (x : Heap). standIn 8 x o phrase) (ran-is ran .0) in
-      let t = stand-in-shows eight h A P ok es o phrase (0, 0) (0, 0) in
-      (λ some. e ∙ t .0 some .0, λ none. e ∙ t .1 none .0)
+  -- and a stand-in hands back the same, from memory itself, or its phrase where no block is held
+  pub ran-stand-in : {left : Heap} (o : ℕ) (phrase same part : List ℕ) (memory lent at : ℕ × ℕ)
+      → StandInPromise g left o phrase same part × StandInPlace g o memory lent at
+      → (end eight h A P ok es .ledger o ≢ []
+      → (part ≡ end eight h A P ok es .ledger o) × (at ≡ (memory .0, o + memory .1)))
+      × (end eight h A P ok es .ledger o ≡ [] → (part ≡ phrase) × (at ≡ lent))
+  ran-stand-in o phrase same part memory lent at kept =
+      let e = ap (λ (x : List ℕ × (List ℕ × Heap)). x .0) (kept .0) ∙ ap (λ (x : Heap). standIn 8 x o phrase) (ran-is ran .0) in
+      let f = kept .1 ∙ ap (λ (x : Heap). standInAt 8 x o memory lent) (ran-is ran .0) in
+      let t = stand-in-shows eight h A P ok es o phrase memory lent in
+      (λ some. let u = t .0 some in (e ∙ u .0, f ∙ u .1), λ none. let u = t .1 none in (e ∙ u .0, f ∙ u .1))

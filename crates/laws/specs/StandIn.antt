@@ -23,8 +23,10 @@ module _ (al : ℕ) (h : Heap) where
     λ done. (passed (λ k. phrase) _ _ done, passed (λ k. lent) _ _ done),
   )
 
-  -- so what lies where the phrase lies is handed back only where view would refuse, unless the phrase that is lent lies
-  -- at the offset itself
-  pub stand-in-only : (o : ℕ) (memory lent : ℕ × ℕ) → lent ≢ (memory .0, o + memory .1)
-      → standInAt al h o memory lent ≡ lent → viewSize al h o .number ≢ 0
-  stand-in-only o memory lent elsewhere e done = elsewhere (sym e ∙ passed (λ k. lent) _ _ done)
+  -- so the phrase itself is handed back only where view would refuse, unless what is lent as the phrase is the block's
+  -- own part
+  pub stand-in-only : (o : ℕ) (phrase : List ℕ) (memory lent : ℕ × ℕ)
+      → ((phrase ≡ view al h o) × (lent ≡ (memory .0, o + memory .1)) → ⊥)
+      → (standIn al h o phrase ≡ phrase) × (standInAt al h o memory lent ≡ lent) → viewSize al h o .number ≢ 0
+  stand-in-only o phrase memory lent other e done =
+      let t = stand-in-means o phrase memory lent .1 done in other (sym (e .0) ∙ t .0, sym (e .1) ∙ t .1)

@@ -120,11 +120,11 @@ module _ (al : ℕ) where
       passing (viewSize h o .number) (λ k. phrase)
       (view h o)
 
-  -- and where it lies, "the block's own" and "the phrase itself", of where memory and the phrase lie. A place is a
-  -- buffer and a position in it
+  -- and where it lies, "the block's own" or "the phrase itself": memory and lent are where memory and the phrase lie.
+  -- A place is a buffer and a position in it
   abbrev pub standInAt : Heap → ℕ → ℕ × ℕ → ℕ × ℕ → ℕ × ℕ
-  standInAt h o memory phrase =
-      passing (viewSize h o .number) (λ k. phrase)
+  standInAt h o memory lent =
+      passing (viewSize h o .number) (λ k. lent)
       (memory .0, o + memory .1)
 
   -- 7: "text longer than its block"

@@ -68,6 +68,6 @@ module _ (found left : Heap) where
 abbrev pub ViewPlace : Heap → ℕ → ℕ × ℕ → ℕ × ℕ → Type 0
 ViewPlace found offset memory part = (part .0 ≡ memory .0) × (part .1 ≡ viewAt 8 found offset + memory .1)
 
--- and the stand-in lies where `standInAt` says of where memory and the phrase lie
+-- and the stand-in lies where `standInAt` says, by where memory and the phrase are lent
 abbrev pub StandInPlace : Heap → ℕ → ℕ × ℕ → ℕ × ℕ → ℕ × ℕ → Type 0
-StandInPlace found offset memory phrase part = part ≡ standInAt 8 found offset memory phrase
+StandInPlace found offset memory lent part = part ≡ standInAt 8 found offset memory lent

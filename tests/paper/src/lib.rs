@@ -29,19 +29,19 @@ pub struct Lent<'a> {
     pub map: &'a mut [u64],
 }
 
-/// A phrase that is lent: a text of its own or, because it is only read, a part of memory by start and length.
-#[derive(Clone, Copy)]
+/// A phrase that is lent: a text of its own or, because it is only read, a part of memory by start and length. Like the
+/// buffers of [`Lent`] a text can be written, so that a program which does is seen.
 pub enum LentPhrase<'a> {
-    Text(&'a [u8]),
+    Text(&'a mut [u8]),
     Part(usize, usize),
 }
 
 impl LentPhrase<'_> {
     /// Where the phrase itself lies, the whole of it.
     pub fn itself(&self) -> Place {
-        match *self {
+        match self {
             LentPhrase::Text(text) => Place::Phrase(0, text.len()),
-            LentPhrase::Part(start, length) => Place::Memory(start, length),
+            LentPhrase::Part(start, length) => Place::Memory(*start, *length),
         }
     }
 }

@@ -53,7 +53,7 @@ impl Calls for Library {
     fn stand_in(&mut self, lent: Lent, offset: usize, phrase: LentPhrase) -> Place {
         let memory = &*lent.memory;
         let phrase = match phrase {
-            LentPhrase::Text(text) => text,
+            LentPhrase::Text(text) => &*text,
             LentPhrase::Part(start, length) => &memory[start..start + length],
         };
         let part = calls::stand_in(memory, lent.books, lent.map, offset, phrase);

@@ -178,9 +178,10 @@ impl Buffers {
 
     /// The place of what stand-in hands back, and beside it what view's companion answers, which decides it.
     fn stand_in(&mut self, calls: &mut dyn Calls, offset: usize, phrase: Phrase) -> Outcome {
-        let text = self.text_of(phrase, offset);
+        let mut text = self.text_of(phrase, offset);
+        let last = text.len().saturating_sub(1);
         let lent = match phrase {
-            Phrase::Text(..) | Phrase::Same(_) => LentPhrase::Text(&text[1..text.len() - 1]),
+            Phrase::Text(..) | Phrase::Same(_) => LentPhrase::Text(&mut text[1..last]),
             Phrase::Part(start, length) => {
                 // a shortened sequence may lend less of memory than the part was made for
                 let (start, length) = within(start, length, self.lent[0]);
