@@ -205,8 +205,8 @@ pub fn view_size(memory: &[u8], books: &[u32], map: &[u64], offset: usize) -> Si
     }
 }
 
-// Stand-in: the block's own part of memory, from its offset on for its size, or the lent phrase itself, which is only
-// handed on and so may be a part of memory too.
+// Stand-in: the block's own part of memory, from its offset on for its size, or, where view would refuse, the lent
+// phrase itself. That is only handed on, and so may be a part of memory too.
 pub fn stand_in<'a, 'b, 'c>(
     memory: &'a [u8],
     books: &'b [u32],
