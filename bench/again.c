@@ -12,7 +12,7 @@
 #include <unistd.h>
 
 enum { BYTES = 40, OUT = 100, ONE = 50, MOST_ASKS = 1000 };     /* the block of slot ONE is given back twice */
-enum { ONCE = 0, TWICE = 2, REFUSED = 10 };                     /* how the child exits */
+enum { ONCE = 0, TWICE = 2, REFUSED = 10 };     /* how the child exits; a refusal's number is added to the last */
 
 const char *const ways[WAYS] = {
     [AT_ONCE] = "at once",
@@ -98,11 +98,11 @@ bool passed(const char *said)
     return strncmp(said, "passes", strlen("passes")) == 0;
 }
 
-bool refused(const char *said)
+bool refused(const char *said, unsigned number)
 {
-    char not_live[SAID];
-    snprintf(not_live, SAID, "is refused with number %d", HESKAVERN_NOT_LIVE);
-    return strcmp(said, not_live) == 0;
+    char so[SAID];
+    snprintf(so, SAID, "is refused with number %u", number);
+    return strcmp(said, so) == 0;
 }
 
 void try_again(const struct variant *v, size_t way, char said[SAID])

@@ -12,8 +12,8 @@ extern const char *const ways[WAYS];
 /* Tries it in a child process, and says what came of it. */
 void try_again(const struct variant *v, size_t way, char said[SAID]);
 
-/* Whether that says that it was taken for a first give-back, or that it was refused as not live. */
+/* Whether that says that it was taken for a first give-back, or that it was refused with this number. */
 bool passed(const char *said);
-bool refused(const char *said);
+bool refused(const char *said, unsigned number);
 
 #endif

@@ -1,18 +1,18 @@
-/* 01 read once more, in C: every check at every call, each step decided before it is written. Nothing is proved of it;
- * bench/verify.c holds it to the library's answers. Its times say what the checks themselves cost. Roll call is here
- * twice, by the library's passes over the map and by a plain loop. Compiled with CHECKS(name) for the names of its
- * calls. */
+/* 01, and what has landed of 02, read once more, in C: every check at every call, each step decided before it is
+ * written. Nothing is proved of it; bench/verify.c holds it to the library's answers. Its times say what the checks
+ * themselves cost. Roll call is here twice, by the library's passes over the map and by a plain loop. Compiled with
+ * CHECKS(name) for the names of its calls. */
 #include "checks.h"
 
 #include <stdbool.h>
 #include <string.h>
 
-/* Everything is inlined into the calls, so that the struct of the buffers costs nothing. */
+/* Everything but `refuse` is inlined into the calls, so that the struct of the buffers costs nothing. */
 #define INLINE static inline __attribute__((always_inline))
 
 enum { POOL_BYTES = 4096, FIRST_BLOCK = 48, ALIGNMENT = 8, LARGEST = 512, LAST_CLASS = 63, NO_CLASS = 65535 };
 enum { USABLE_HEAD = 2, UNUSED_HEAD = 3, CLASS_HEADS = 4, RECORDS = 72, RECORD = 8 };
-enum { NO_BLOCK = 512 };    /* no pool has so many blocks */
+enum { NONE = 512 };    /* the number of no block: no pool has so many */
 
 struct arena {
     uint32_t open, mark, free_pools, freed_head, next, previous, zero[2];
@@ -76,13 +76,13 @@ INLINE uint32_t size_of(uint32_t class)
     return ALIGNMENT * (class + 1);
 }
 
-/* Which block starts at this place of a pool, or NO_BLOCK. */
+/* Which block starts at this place of a pool, or NONE. */
 INLINE uint32_t block_at(uint32_t size, uint32_t place)
 {
     if (place < FIRST_BLOCK || place > POOL_BYTES - size)
-        return NO_BLOCK;
+        return NONE;
     uint32_t k = (place - FIRST_BLOCK) / size;
-    return k * size == place - FIRST_BLOCK ? k : NO_BLOCK;
+    return k * size == place - FIRST_BLOCK ? k : NONE;
 }
 
 INLINE uint64_t *map_word(const struct heap *h, uint32_t p, uint32_t k)
@@ -95,16 +95,31 @@ INLINE bool is_set(const struct heap *h, uint32_t p, uint32_t k)
     return *map_word(h, p, k) >> k % 64 & 1;
 }
 
-/* Which block of its pool is live at this offset, or NO_BLOCK. */
+/* Which block of its pool is live at this offset, or NONE. */
 INLINE uint32_t live_at(const struct heap *h, size_t offset)
 {
     if (offset >= (size_t)h->all * POOL_BYTES)
-        return NO_BLOCK;
+        return NONE;
     uint32_t p = (uint32_t)(offset / POOL_BYTES), class = h->pool[p].class;
     if (class > LAST_CLASS)
-        return NO_BLOCK;
+        return NONE;
     uint32_t k = block_at(size_of(class), offset % POOL_BYTES);
-    return k != NO_BLOCK && is_set(h, p, k) ? k : NO_BLOCK;
+    return k != NONE && is_set(h, p, k) ? k : NONE;
+}
+
+/* The refusal of an offset at which no block is live: 10 where one starts there, below nextoffset, in a pool that is
+ * carved, and otherwise 5. It stands apart, so that nothing of it is done for a live offset. */
+static __attribute__((noinline, cold)) heskavern_answer refuse(const uint32_t *books, size_t offset)
+{
+    uint32_t arenas = books[0], pools = books[1], p = (uint32_t)(offset / POOL_BYTES), place = offset % POOL_BYTES;
+    if (offset >= HESKAVERN_MEMORY_BYTES(arenas, pools))
+        return answer(HESKAVERN_NO_BLOCK, 0);
+    const struct arena *arena = (const struct arena *)(books + RECORDS) + p / pools;
+    const struct pool *pool = (const struct pool *)(books + RECORDS + RECORD * arenas) + p;
+    bool carved = arena->open == 1 && p % pools < arena->mark;
+    if (!carved || pool->class > LAST_CLASS || place >= pool->nextoffset)
+        return answer(HESKAVERN_NO_BLOCK, 0);
+    return answer(block_at(size_of(pool->class), place) != NONE ? HESKAVERN_DEAD_BLOCK : HESKAVERN_NO_BLOCK, 0);
 }
 
 /* ---- links and lists */
@@ -163,11 +178,11 @@ INLINE bool arena_may_leave(const struct heap *h, uint32_t a)
 
 /* ---- ask */
 
-/* Which block starts at this place of pool p and is not live, or NO_BLOCK. */
+/* Which block starts at this place of pool p and is not live, or NONE. */
 INLINE uint32_t spare_at(const struct heap *h, uint32_t p, uint32_t size, uint32_t place)
 {
     uint32_t k = block_at(size, place);
-    return k != NO_BLOCK && !is_set(h, p, k) ? k : NO_BLOCK;
+    return k != NONE && !is_set(h, p, k) ? k : NONE;
 }
 
 INLINE heskavern_answer hand_out(const struct heap *h, uint32_t p, uint32_t place, uint32_t k)
@@ -183,17 +198,17 @@ INLINE heskavern_answer ask_listed(const struct heap *h, uint32_t class, uint32_
     if (pool->class != class || pool->maxnextoffset != POOL_BYTES - size || pool->count > 505)
         return answer(HESKAVERN_DAMAGED, 0);
     uint32_t place = pool->freeblock, k = spare_at(h, p, size, place);
-    if (k == NO_BLOCK)
+    if (k == NONE)
         return answer(HESKAVERN_DAMAGED, 0);
     uint32_t link = get_link(place_in(h, p, place));
     if (link != 0) {
-        if (spare_at(h, p, size, link) == NO_BLOCK)
+        if (spare_at(h, p, size, link) == NONE)
             return answer(HESKAVERN_DAMAGED, 0);
         pool->count++;
         pool->freeblock = link;
     } else if (pool->nextoffset <= pool->maxnextoffset) {
         uint32_t following = pool->nextoffset;
-        if (spare_at(h, p, size, following) == NO_BLOCK)
+        if (spare_at(h, p, size, following) == NONE)
             return answer(HESKAVERN_DAMAGED, 0);
         pool->count++;
         pool->freeblock = following;
@@ -246,16 +261,16 @@ INLINE bool can_give_pool(const struct heap *h, uint32_t a)
 INLINE heskavern_answer ask_freed(const struct heap *h, uint32_t class, uint32_t size, uint32_t a, uint32_t p)
 {
     struct pool *pool = &h->pool[p];
-    uint32_t place = pool->freeblock, k = NO_BLOCK, link = 0;
+    uint32_t place = pool->freeblock, k = NONE, link = 0;
     bool again = pool->class == class;
     if (pool->next > h->all || !can_give_pool(h, a))
         return answer(HESKAVERN_DAMAGED, 0);
     if (again) {
         k = spare_at(h, p, size, place);
-        if (k == NO_BLOCK)
+        if (k == NONE)
             return answer(HESKAVERN_DAMAGED, 0);
         link = get_link(place_in(h, p, place));
-        if (link != 0 && spare_at(h, p, size, link) == NO_BLOCK)
+        if (link != 0 && spare_at(h, p, size, link) == NONE)
             return answer(HESKAVERN_DAMAGED, 0);
     } else if (!can_be_set(h, p)) {
         return answer(HESKAVERN_DAMAGED, 0);
@@ -381,7 +396,7 @@ INLINE uint32_t back_step(const struct heap *h, size_t offset, uint32_t k)
         join(&h->pool->next, &h->books[CLASS_HEADS + class], p);
         return HESKAVERN_DONE;
     }
-    if (block_at(size_of(class), free) == NO_BLOCK)
+    if (block_at(size_of(class), free) == NONE)
         return HESKAVERN_DAMAGED;
     if (count == 1) {
         uint32_t a = p / h->pools;
@@ -516,8 +531,8 @@ heskavern_answer CHECKS(give_back)(uint8_t *memory, size_t memory_bytes, uint32_
     if (number != HESKAVERN_DONE)
         return answer(number, 0);
     uint32_t k = live_at(&h, offset);
-    if (k == NO_BLOCK)
-        return answer(HESKAVERN_NOT_LIVE, 0);
+    if (k == NONE)
+        return refuse(books, offset);
     number = back_step(&h, offset, k);
     return answer(number, number == HESKAVERN_DONE ? (uint32_t)offset : 0);
 }
@@ -531,8 +546,8 @@ heskavern_answer CHECKS(resize)(uint8_t *memory, size_t memory_bytes, uint32_t *
         return answer(number, 0);
     if (size < 1 || size > LARGEST)
         return answer(HESKAVERN_BAD_SIZE, 0);
-    if (live_at(&h, offset) == NO_BLOCK)
-        return answer(HESKAVERN_NOT_LIVE, 0);
+    if (live_at(&h, offset) == NONE)
+        return refuse(books, offset);
     size_t old = size_of(h.pool[offset / POOL_BYTES].class);
     if (size <= old && 4 * size > 3 * old)
         return answer(HESKAVERN_DONE, (uint32_t)offset);
@@ -541,7 +556,7 @@ heskavern_answer CHECKS(resize)(uint8_t *memory, size_t memory_bytes, uint32_t *
         return asked;
     memcpy(memory + asked.value, memory + offset, size < old ? size : old);
     uint32_t k = live_at(&h, offset);
-    if (k == NO_BLOCK || back_step(&h, offset, k) != HESKAVERN_DONE)
+    if (k == NONE || back_step(&h, offset, k) != HESKAVERN_DONE)
         return answer(HESKAVERN_DAMAGED, asked.value);
     return asked;
 }
@@ -553,8 +568,8 @@ heskavern_answer CHECKS(view_size)(const uint8_t *memory, size_t memory_bytes, c
     uint32_t number = open_heap(&h, memory, memory_bytes, books, books_words, map, map_words);
     if (number != HESKAVERN_DONE)
         return answer(number, 0);
-    if (live_at(&h, offset) == NO_BLOCK)
-        return answer(HESKAVERN_NOT_LIVE, 0);
+    if (live_at(&h, offset) == NONE)
+        return refuse(books, offset);
     return answer(HESKAVERN_DONE, size_of(h.pool[offset / POOL_BYTES].class));
 }
 
@@ -564,7 +579,7 @@ heskavern_part CHECKS(stand_in)(const uint8_t *memory, size_t memory_bytes, cons
 {
     struct heap h;
     if (open_heap(&h, memory, memory_bytes, books, books_words, map, map_words) != HESKAVERN_DONE
-        || live_at(&h, offset) == NO_BLOCK)
+        || live_at(&h, offset) == NONE)
         return (heskavern_part){phrase, phrase_bytes};
     return (heskavern_part){memory + offset, size_of(h.pool[offset / POOL_BYTES].class)};
 }
@@ -577,8 +592,8 @@ heskavern_answer CHECKS(write)(uint8_t *memory, size_t memory_bytes, const uint3
     uint32_t number = open_heap(&h, memory, memory_bytes, books, books_words, map, map_words);
     if (number != HESKAVERN_DONE)
         return answer(number, 0);
-    if (live_at(&h, offset) == NO_BLOCK)
-        return answer(HESKAVERN_NOT_LIVE, 0);
+    if (live_at(&h, offset) == NONE)
+        return refuse(books, offset);
     if (text_bytes > size_of(h.pool[offset / POOL_BYTES].class))
         return answer(HESKAVERN_DOES_NOT_FIT, 0);
     memcpy(memory + offset, text, text_bytes);

@@ -262,7 +262,9 @@ static size_t find_peers(struct peer *peers, size_t n, char **words)
     return found;
 }
 
-/* What a second give-back does. The calls of include/heskavern.h must refuse it, unless the block is out again. */
+/* What a second give-back does. The calls of include/heskavern.h must refuse it as that of a dead block, since others
+ * of its pool are out, unless the block is out again. An archive of before W-206 has one number for all that is not
+ * live. */
 static const char *tried(const struct variant *v, size_t way)
 {
     static char said[SAID];
@@ -270,8 +272,9 @@ static const char *tried(const struct variant *v, size_t way)
         return v->peer->said[way];
     fflush(stdout);
     try_again(v, way, said);
-    if (v->roll_call != NULL && way != OUT_AGAIN && !refused(said))
-        fail(v->name, "a second give-back is not refused as not live");
+    bool dead = refused(said, HESKAVERN_DEAD_BLOCK) || (v->older && refused(said, HESKAVERN_NO_BLOCK));
+    if (v->roll_call != NULL && way != OUT_AGAIN && !dead)
+        fail(v->name, "a second give-back is not refused as that of a dead block");
     return said;
 }
 

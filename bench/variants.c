@@ -39,7 +39,8 @@ static const struct variant library = {
 #define CALL(name) CHECKS(name)
 #include "checked.h"
 static const struct variant archive_before = {
-    "this library, before", CHECKED(archive_before), .roll_call = before_roll_call, .format = before_format
+    "this library, before", .older = true, CHECKED(archive_before), .roll_call = before_roll_call,
+    .format = before_format
 };
 #undef CHECKS
 #endif

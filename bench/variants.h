@@ -17,6 +17,7 @@ struct step {
 struct variant {
     const char *name;
     struct peer *peer;              /* the process that it runs in, where that is not this one */
+    bool older;                     /* whether it is an older archive of the library */
     const char *stem;               /* what the names of its traces' functions begin with: callgrind knows them by it */
     void (*fresh)(void);                                    /* an empty heap */
     unsigned (*fill)(const struct step *steps, size_t n);   /* asks */

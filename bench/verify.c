@@ -1,7 +1,8 @@
 /* Holds bench/checks.c, by its names CHECKS(name), to the library: verify SEED CALLS. Both get the same random calls
  * over the same buffers, on sound books and on damaged ones, and must give the same number and value, or of a stand-in
  * the same part, and leave the same memory, books, map and roll. Fails also where the calls never met a number, a
- * half-done resize, a stand-in that is the phrase or one that is the block's own part, or one of the roll calls over
+ * half-done resize whose give-back meets 5, 6 or 10, a stand-in that is the phrase or one that is the block's own part,
+ * one of the calls on an offset with one of the reasons why that is a dead block or none, or one of the roll calls over
  * one of the kinds of map with one of the kinds of room. */
 #include "checks.h"
 #include "random.h"
@@ -11,10 +12,12 @@
 #include <stdlib.h>
 #include <string.h>
 
-enum { MOST_POOLS = 64, MOST_HELD = 4096 };
+enum { MOST_POOLS = 64, MOST_HELD = 4096, GONE = 64 };
 enum { FORMAT, ASK, GIVE_BACK, RESIZE, VIEW_SIZE, STAND_IN, WRITE, ROLL_CALL, PLAIN_ROLL_CALL, CALLS };
 enum { AT_BLOCKS, PAST_THE_LAST, NO_CLASS, WHOLE_WORDS, ALL_ONES, LAST_WORD, CROWDED, MAPS };
 enum { FOR_ALL, MORE, ENOUGH, ONE_TOO_FEW, FEWER, ROOMS };
+enum { DEAD, DEAD_DAMAGED, OPEN_0, OPEN_ABOVE_1, PAST_THE_MARK, AT_NEXTOFFSET, PAST_NEXTOFFSET, NO_START, NO_END,
+       ABOVE_63, SEVERAL, REASONS };
 
 struct buffers {
     uint8_t memory[MOST_POOLS * 4096];
@@ -50,10 +53,28 @@ static const char *const rooms[ROOMS] = {
     [FEWER] = "fewer still",
 };
 
+static const char *const reasons[REASONS] = {
+    [DEAD] = "a dead block, on sound books",
+    [DEAD_DAMAGED] = "a dead block, on damaged books",
+    [OPEN_0] = "none, only because the open word is 0",
+    [OPEN_ABOVE_1] = "none, only because the open word is above 1",
+    [PAST_THE_MARK] = "none, only because the pool is not below the mark",
+    [AT_NEXTOFFSET] = "none, only because it is at nextoffset",
+    [PAST_NEXTOFFSET] = "none, only because it is past nextoffset",
+    [NO_START] = "none, only because no block starts there",
+    [NO_END] = "none, only because the block would not end in its pool",
+    [ABOVE_63] = "none, only because the class is above 63",
+    [SEVERAL] = "none, because of several of these, or outside memory",
+};
+static const unsigned numbers[] = {0, 1, 2, 3, 4, 5, 6, 7, 10};
+static const uint8_t on_offsets[] = {GIVE_BACK, RESIZE, VIEW_SIZE, WRITE};
+
 static struct buffers library, checks;
 static size_t arenas, pools;
+static bool sound;                              /* nothing was damaged since format */
 static uint32_t held[MOST_HELD], held_count;    /* offsets that were handed out, as far as the answers tell */
-static unsigned long met[8], half_done, stood_in[2], rolls_met[CALLS][MAPS][ROOMS];
+static uint32_t gone[GONE], gone_count;         /* the last of those that came back, and how many came in all */
+static unsigned long met[11], half_done[11], stood_in[2], rolls_met[CALLS][MAPS][ROOMS], met_on[CALLS][REASONS];
 static uint8_t text[600];
 
 #define LENT(b) (b)->memory, c->memory_bytes, (b)->books, c->books_words, (b)->map, c->map_words
@@ -103,18 +124,26 @@ static size_t random_size(void)
     return below(40) == 0 ? below(3) * 513 : below(4) == 0 ? between(1, 512) : sizes[below(5)];
 }
 
-static size_t random_offset(void)
-{
-    if (held_count != 0 && below(12) != 0)
-        return held[below(held_count)];
-    return below(2) == 0 ? below((uint32_t)(arenas * pools) * 4096 + 64)
-                         : 4096 * below((uint32_t)(arenas * pools)) + 48 + 8 * below(506);
-}
-
-/* Where the books have the class of pool p. */
+/* Where the books have the class of pool p; nextoffset is the word after it. */
 static size_t class_word(size_t p)
 {
     return 72 + 8 * arenas + 8 * p + 4;
+}
+
+/* Most often one that was handed out; or any, one that came back, one about where a pool has its nextoffset, or the one
+ * after its last block. */
+static size_t random_offset(void)
+{
+    uint32_t all = (uint32_t)(arenas * pools), p = below(all), class = library.books[class_word(p)];
+    uint32_t size = class > 63 ? 512 : 8 * (class + 1);
+    switch (below(held_count != 0 ? 25 : 5)) {
+    case 0: return below(4096 * all + 64);
+    case 1: return 4096 * p + 48 + 8 * below(506);
+    case 2: return gone[below(GONE)];
+    case 3: return 4096 * p + library.books[class_word(p) + 1] + size * below(4) - 2 * size;
+    case 4: return 4096 * p + 48 + 4048 / size * size;
+    default: return held[below(held_count)];
+    }
 }
 
 /* What a roll call is to meet, bit by bit. */
@@ -175,6 +204,8 @@ static struct call random_call(void)
         c.kind = FORMAT, c.x = below(4) == 0 ? below(18) : arenas, c.y = below(4) == 0 ? below(66) : pools;
     if (c.kind == ASK)
         c.x = random_size();
+    if (c.kind == RESIZE && below(4) == 0)
+        c.y = c.x % 4096 - 48;      /* in blocks of this size, the second one of its pool would start where it does */
     if (c.kind >= ROLL_CALL) {
         look(&c);
         c.roll_words = random_room(c.live);
@@ -206,6 +237,7 @@ static uint32_t odd_word(void)
 static void crowd(void)
 {
     bool all = below(2) == 0;
+    sound = false;
     for (size_t p = 0; p < arenas * pools; p++) {
         if (!all && below(8) == 0)
             continue;
@@ -215,12 +247,24 @@ static void crowd(void)
     }
 }
 
-/* Damages a word of the books, a pool's class, a bit or a word of the map or a link, the same in both. */
+/* The pool of a block that was handed out becomes the first freed one of the arena that the next pool is taken from,
+ * without its first two blocks, the same in both: so that a resize may take it for another size, and find its own block
+ * gone. */
+static void free_in_use(void)
+{
+    uint32_t p = held[below(held_count)] / 4096, front = library.books[2];
+    size_t head = 72 + 8 * (front >= 1 && front <= arenas ? front - 1 : below((uint32_t)arenas)) + 3;
+    library.books[head] = checks.books[head] = p + 1;
+    library.map[8 * p] = checks.map[8 * p] = library.map[8 * p] & ~(uint64_t)3;
+}
+
+/* Damages words of the books, a bit or a word of the map or a link, the same in both. */
 static void damage(void)
 {
     size_t words = 72 + 8 * arenas + 8 * arenas * pools, p = below((uint32_t)(arenas * pools)), at;
     uint32_t word = odd_word();
-    switch (below(8)) {
+    sound = false;
+    switch (below(11)) {
     case 0:
         at = 8 * p + below(1 + below(8));
         library.map[at] = checks.map[at] = library.map[at] ^ (uint64_t)1 << below(64);
@@ -241,6 +285,19 @@ static void damage(void)
         at = held_count != 0 ? held[below(held_count)] : 48;
         memcpy(library.memory + at, &word, sizeof word);
         memcpy(checks.memory + at, &word, sizeof word);
+        break;
+    case 5:
+        at = 72 + 8 * below((uint32_t)arenas) + below(2);
+        library.books[at] = checks.books[at] = below((uint32_t)pools + 2);
+        break;
+    case 6:
+        at = class_word(p) + 1;
+        word = below(2) == 0 ? 4096 : library.books[at] + 8 * below(3) - 8;
+        library.books[at] = checks.books[at] = word;
+        break;
+    case 7:
+        if (held_count != 0)
+            free_in_use();
         break;
     default:
         at = below(20) == 0 ? below(2) : 2 + below((uint32_t)words - 2);
@@ -281,6 +338,41 @@ static bool same(const struct call *c, heskavern_answer x, heskavern_answer y)
     return false;
 }
 
+/* Why an offset that is not live is a dead block or none, by the words that the books hold. */
+static size_t reason_of(size_t offset)
+{
+    if (offset >= 4096 * arenas * pools)
+        return SEVERAL;
+    size_t p = offset / 4096, place = offset % 4096, start = 48, reason = sound ? DEAD : DEAD_DAMAGED;
+    uint32_t open = library.books[72 + 8 * (p / pools)], mark = library.books[72 + 8 * (p / pools) + 1];
+    uint32_t class = library.books[class_word(p)], next = library.books[class_word(p) + 1];
+    while (class <= 63 && start < place)
+        start += 8 * (class + 1);
+    const bool against[REASONS] = {
+        [OPEN_0] = open == 0,
+        [OPEN_ABOVE_1] = open > 1,
+        [PAST_THE_MARK] = p % pools >= mark,
+        [AT_NEXTOFFSET] = place == next,
+        [PAST_NEXTOFFSET] = place > next,
+        [NO_START] = class <= 63 && start != place,
+        [NO_END] = class <= 63 && start == place && start + 8 * (class + 1) > 4096,
+        [ABOVE_63] = class > 63,
+    };
+    for (size_t i = 0; i < REASONS; i++)
+        if (against[i])
+            reason = reason > DEAD_DAMAGED ? SEVERAL : i;
+    return reason;
+}
+
+/* Counts a resize that was half done, by what its give-back met: 6 where the block is live. */
+static void note_half_done(const struct call *c)
+{
+    struct call view = *c;
+    view.kind = VIEW_SIZE;
+    uint32_t number = by_library(&library, &view).number;
+    half_done[number == HESKAVERN_DONE ? HESKAVERN_DAMAGED : number]++;
+}
+
 /* Counts a roll call that was done or did not fit. */
 static void note_roll(const struct call *c)
 {
@@ -304,14 +396,20 @@ static void note(const struct call *c, heskavern_answer a)
         return;
     }
     met[a.number]++;
+    if (a.number == HESKAVERN_NO_BLOCK || a.number == HESKAVERN_DEAD_BLOCK)
+        met_on[c->kind][reason_of(c->x)]++;
     if (c->kind == RESIZE && a.number == HESKAVERN_DAMAGED && a.value != 0)
-        half_done++;
+        note_half_done(c);
     if (c->kind >= ROLL_CALL && (a.number == HESKAVERN_DONE || a.number == HESKAVERN_DOES_NOT_FIT))
         note_roll(c);
     if (a.number != HESKAVERN_DONE)
         return;
-    if (c->kind == FORMAT)
+    if (c->kind == FORMAT) {
         held_count = 0;
+        sound = true;
+    }
+    if (c->kind == GIVE_BACK || moved)
+        gone[gone_count++ % GONE] = (uint32_t)c->x;
     for (uint32_t i = 0; (c->kind == GIVE_BACK || moved) && i < held_count; i++)
         if (held[i] == c->x)
             held[i--] = held[--held_count];
@@ -363,16 +461,38 @@ static bool say_rolls(void)
     return all;
 }
 
+/* Says what was met of offsets that are not live, and whether each of the calls on one met all of it. */
+static bool say_reasons(void)
+{
+    bool all = true;
+    printf("  offsets that are not live, by");
+    for (size_t i = 0; i < sizeof on_offsets; i++)
+        printf("%s %s", i == 0 ? "" : ",", names[on_offsets[i]]);
+    for (size_t reason = 0; reason < REASONS; reason++) {
+        printf("\n    %s:", reasons[reason]);
+        for (size_t i = 0; i < sizeof on_offsets; i++) {
+            printf(" %lu", met_on[on_offsets[i]][reason]);
+            all &= met_on[on_offsets[i]][reason] != 0;
+        }
+    }
+    printf("\n");
+    return all;
+}
+
 /* Says what was met, and whether all of it was. */
 static bool say_met(const char *calls)
 {
-    bool all = half_done != 0 && stood_in[0] != 0 && stood_in[1] != 0;
-    printf("bench/verify: checks.c and the library agree on %s calls; numbers 0 to 7:", calls);
-    for (unsigned number = 0; number < 8; number++) {
-        printf(" %lu", met[number]);
-        all &= met[number] != 0;
+    unsigned long five = half_done[HESKAVERN_NO_BLOCK], six = half_done[HESKAVERN_DAMAGED];
+    unsigned long ten = half_done[HESKAVERN_DEAD_BLOCK];
+    bool all = five != 0 && six != 0 && ten != 0 && stood_in[0] != 0 && stood_in[1] != 0;
+    printf("bench/verify: checks.c and the library agree on %s calls; numbers 0 to 7, and 10:", calls);
+    for (size_t i = 0; i < sizeof numbers / sizeof *numbers; i++) {
+        printf(" %lu", met[numbers[i]]);
+        all &= met[numbers[i]] != 0;
     }
-    printf("; half-done resizes: %lu; stand-ins: %lu blocks, %lu phrases\n", half_done, stood_in[0], stood_in[1]);
+    printf("; half-done resizes by 5, 6 and 10: %lu %lu %lu; stand-ins: %lu blocks, %lu phrases\n", five, six, ten,
+           stood_in[0], stood_in[1]);
+    all &= say_reasons();
     return say_rolls() && all;
 }
 

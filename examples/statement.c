@@ -1,6 +1,6 @@
 /* A talking statement keeps each text in a block. The block of the word "owed" is given back twice: the second time
-   is refused, and while the block is not out a stand-in is spoken for it. Then the payee's name gets a block of its
-   own, and the roll call says what every block that is out holds.
+   is refused with 10, a dead block, and while the block is not out a stand-in is spoken for it. Then the payee's name
+   gets a block of its own, and the roll call says what every block that is out holds.
 
    gcc -Iinclude examples/statement.c target/staticlib/libheskavern.a -o target/statement && target/statement */
 #include <stdio.h>
@@ -50,6 +50,7 @@ int main(void)
 {
     value_of(heskavern_format(HEAP, 1, 2));
     uint32_t owed = keep("owed");
+    keep("paid");
     speak(owed);
     give_back(owed);
     speak(owed);

@@ -23,9 +23,14 @@ format on, and no block is handed out twice and no call gives 6. After any other
 still answers by its rules, but it may meet damage and give 6, or hand out what is in use.
 
 What is good to know:
-- An offset names a block and not its holder. While the block is not out, every call on it is refused, with 5 (a resize
-  to a size out of range with 3, which comes first), but for the stand-in, which is then the phrase. Once it is out
-  again, a stale offset is the new holder's: a view or a stand-in shows its text, a write or a give-back changes it.
+- An offset names a block and not its holder. While the block is not out, every call on it is refused (a resize to a
+  size out of range with 3, which comes first), but for the stand-in, which is then the phrase. Once it is out again, a
+  stale offset is the new holder's: a view or a stand-in shows its text, a write or a give-back changes it.
+- On a heap that is kept as said above, a block that has come back is refused with 10, as a dead one, until it goes out
+  again; or until its pool, with no block out, is set to another block size, after which the offset may be 10 or 5, or a
+  block that is out; or until the last block of its arena comes back. That releases the arena, and the offset is 5, no
+  block, at least until its pool is used anew. So a second give-back is 10, or 5 where the first one released the arena.
+  The block that a pool has set ready for a later ask is 10 too, though it was never out.
 - Buffers of two heaps in one call, each with its own length, are refused with 2 where A x P differs. (HESKAVERN_LENT
   makes the lengths from A and P: with a smaller heap's buffers it breaks the first rule above.) Where A x P is the same
   no call can tell: it answers by the three buffers as they are lent and touches no others, but it may write into a
@@ -54,12 +59,18 @@ Example:
     int main(void) {
         if (heskavern_format(HEAP, 1, 16).number != HESKAVERN_DONE)
             return 1;
-        heskavern_answer word = heskavern_ask(HEAP, 4);
-        if (word.number != HESKAVERN_DONE || heskavern_write(HEAP, word.value, "owed", 4).number != HESKAVERN_DONE)
+        heskavern_answer owed = heskavern_ask(HEAP, 4), paid = heskavern_ask(HEAP, 4);
+        if (owed.number != HESKAVERN_DONE || paid.number != HESKAVERN_DONE)
             return 1;
-        if (heskavern_give_back(HEAP, word.value).number != HESKAVERN_DONE)
+        if (heskavern_write(HEAP, owed.value, "owed", 4).number != HESKAVERN_DONE)
             return 1;
-        return heskavern_give_back(HEAP, word.value).number == HESKAVERN_NOT_LIVE ? 0 : 1;
+        if (heskavern_give_back(HEAP, owed.value).number != HESKAVERN_DONE)
+            return 1;
+        if (heskavern_give_back(HEAP, owed.value).number != HESKAVERN_DEAD_BLOCK)
+            return 1;
+        if (heskavern_give_back(HEAP, paid.value).number != HESKAVERN_DONE) // the last one: the arena is released
+            return 1;
+        return heskavern_give_back(HEAP, paid.value).number == HESKAVERN_NO_BLOCK ? 0 : 1;
     }
 */
 #ifndef HESKAVERN_H
@@ -73,16 +84,18 @@ extern "C" {
 #endif
 
 /* The numbers. Format tests its A and P and then the lengths. In every other call books of under two words are 2; then
-   the tests come in the order 1, 2, 3, 5, 7, and then the step, which gives 4 or 6. */
+   the tests come in the order 1, 2, 3, then 5 or 10, then 7, and then the step, which gives 4 or 6. (8 and 9 are the
+   replay program's alone.) */
 enum {
     HESKAVERN_DONE = 0,         /* done */
     HESKAVERN_OUT_OF_RANGE = 1, /* A or P out of range */
     HESKAVERN_NOT_EXACT = 2,    /* a lent length is not exact */
     HESKAVERN_BAD_SIZE = 3,     /* size 0 or above 512 */
     HESKAVERN_NO_ROOM = 4,      /* no room */
-    HESKAVERN_NOT_LIVE = 5,     /* offset not live */
+    HESKAVERN_NO_BLOCK = 5,     /* no block there */
     HESKAVERN_DAMAGED = 6,      /* books damaged; see resize for its one answer with a value */
-    HESKAVERN_DOES_NOT_FIT = 7  /* text longer than its block, or fewer than two roll words for each live block */
+    HESKAVERN_DOES_NOT_FIT = 7, /* text longer than its block, or fewer than two roll words for each live block */
+    HESKAVERN_DEAD_BLOCK = 10   /* a block that is not live: it was given back, or never handed out */
 };
 
 /* The largest size that can be asked for. */
@@ -157,28 +170,28 @@ HESKAVERN_MUST_USE heskavern_answer heskavern_ask(
     size_t size) HESKAVERN_NOEXCEPT;
 
 /* Give back: the block is live no more. Value: the given offset. Writes books, map, and a link in the block's first
-   four bytes. Refuses with 1, 2, 5, 6. */
+   four bytes. Refuses with 1, 2, 5, 10, 6. */
 HESKAVERN_MUST_USE heskavern_answer heskavern_give_back(
     uint8_t *memory, size_t memory_bytes, uint32_t *books, size_t books_words, uint64_t *map, size_t map_words,
     size_t offset) HESKAVERN_NOEXCEPT;
 
 /* Resize: makes room for size bytes. Value: the offset of the block that the text is then in. Of a block of s bytes,
    the offset is kept and nothing changes where size <= s and 4 * size > 3 * s. Otherwise a block is asked for, the
-   first min(size, s) bytes are copied to it, and the old block is given back. Refuses with 1, 2, 3, 5, 4, 6. Number 6
-   with a value other than 0 is the half-done resize: the text stands in the new block, at that offset, and the old
-   block could not be given back. */
+   first min(size, s) bytes are copied to it, and the old block is given back. Refuses with 1, 2, 3, 5, 10, 4, 6.
+   Number 6 with a value other than 0 is the half-done resize: the text stands in the new block, at that offset, and the
+   old block could not be given back. */
 HESKAVERN_MUST_USE heskavern_answer heskavern_resize(
     uint8_t *memory, size_t memory_bytes, uint32_t *books, size_t books_words, uint64_t *map, size_t map_words,
     size_t offset, size_t size) HESKAVERN_NOEXCEPT;
 
-/* View's companion: value is the size of the live block. Writes nothing. Refuses with 1, 2, 5. */
+/* View's companion: value is the size of the live block. Writes nothing. Refuses with 1, 2, 5, 10. */
 HESKAVERN_MUST_USE heskavern_answer heskavern_view_size(
     const uint8_t *memory, size_t memory_bytes, const uint32_t *books, size_t books_words, const uint64_t *map,
     size_t map_words, size_t offset) HESKAVERN_NOEXCEPT;
 
 /* Write: copies the text to the start of a live block; the rest of the block stays. Value: the given offset. Text lies
    outside memory, so what a view shows is copied out before it is written to another block; and text is not null, even
-   where text_bytes is 0. Refuses with 1, 2, 5, 7. */
+   where text_bytes is 0. Refuses with 1, 2, 5, 10, 7. */
 HESKAVERN_MUST_USE heskavern_answer heskavern_write(
     uint8_t *memory, size_t memory_bytes, const uint32_t *books, size_t books_words, const uint64_t *map,
     size_t map_words, size_t offset, const void *text, size_t text_bytes) HESKAVERN_NOEXCEPT;

@@ -46,18 +46,19 @@ int main(void)
         "no call throws");
 #endif
     EXPECT(heskavern_format(HEAP, A, P).number == HESKAVERN_DONE);
-    EXPECT(heskavern_view_size(HEAP, 48).number == HESKAVERN_NOT_LIVE);
+    EXPECT(heskavern_view_size(HEAP, 48).number == HESKAVERN_NO_BLOCK);
     word = heskavern_ask(HEAP, 4);
     EXPECT(word.number == HESKAVERN_DONE);
     EXPECT(heskavern_write(HEAP, word.value, "owed", 4).number == HESKAVERN_DONE);
     moved = heskavern_resize(HEAP, word.value, 100);
     EXPECT(moved.number == HESKAVERN_DONE);
+    EXPECT(heskavern_view_size(HEAP, word.value).number == HESKAVERN_DEAD_BLOCK);
     part = heskavern_view(HEAP, moved.value);
     EXPECT(part.size == 104 && memcmp(part.bytes, "owed", 4) == 0);
     EXPECT(heskavern_roll_call(HEAP, roll, 2).value == 1);
     EXPECT(roll[0] == moved.value && roll[1] == part.size);
     (void)heskavern_give_back(HEAP, moved.value);
-    EXPECT(heskavern_give_back(HEAP, moved.value).number == HESKAVERN_NOT_LIVE);
+    EXPECT(heskavern_give_back(HEAP, moved.value).number == HESKAVERN_NO_BLOCK);
     part = heskavern_stand_in(HEAP, moved.value, "no amount", 9);
     EXPECT(part.size == 9 && memcmp(part.bytes, "no amount", 9) == 0);
 #ifdef FROM_MALLOC

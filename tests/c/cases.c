@@ -1,5 +1,5 @@
 /* The cases of 01, run through heskavern.h: K1 to K10, the fills, the moves, and each number from 0 to 7; those of 02's
-   W-214; and what the header says is good to know. C99, and C++ too. */
+   W-206, with number 10, and W-214; and what the header says is good to know. C99, and C++ too. */
 #include <stdio.h>
 #include <stdlib.h>
 #include <string.h>
@@ -70,7 +70,9 @@ static void fresh(size_t arenas, size_t pools)
     EXPECT(done(FORMAT(arenas, pools), 0));
 }
 
-/* A word of a pool record, by its place there. */
+/* A word of an arena's record, and of a pool's, by its place there. */
+enum { OPEN = 0, MARK = 1, FREED_HEAD = 3 };
+static uint32_t *arena_word(size_t arena, size_t place) { return &books[72 + 8 * arena + place]; }
 enum { COUNT = 0, FREEBLOCK = 1, CLASS = 4, NEXTOFFSET = 5, MAXNEXTOFFSET = 6 };
 static uint32_t *pool_word(size_t pool, size_t place) { return &books[72 + 8 * books[0] + 8 * pool + place]; }
 
@@ -165,12 +167,12 @@ static void k7_to_k10(void)
     EXPECT(done(RESIZE(56, 7), 56));
     fresh(1, 16);
     EXPECT(done(ASK(1), 48));
-    EXPECT(is(GIVE_BACK(52), HESKAVERN_NOT_LIVE, 0));
-    EXPECT(is(GIVE_BACK(0), HESKAVERN_NOT_LIVE, 0));
-    EXPECT(is(GIVE_BACK(65536), HESKAVERN_NOT_LIVE, 0));
-    EXPECT(is(GIVE_BACK((size_t)-1), HESKAVERN_NOT_LIVE, 0));
+    EXPECT(is(GIVE_BACK(52), HESKAVERN_NO_BLOCK, 0));
+    EXPECT(is(GIVE_BACK(0), HESKAVERN_NO_BLOCK, 0));
+    EXPECT(is(GIVE_BACK(65536), HESKAVERN_NO_BLOCK, 0));
+    EXPECT(is(GIVE_BACK((size_t)-1), HESKAVERN_NO_BLOCK, 0));
     EXPECT(done(GIVE_BACK(48), 48));
-    EXPECT(is(GIVE_BACK(48), HESKAVERN_NOT_LIVE, 0));
+    EXPECT(is(GIVE_BACK(48), HESKAVERN_NO_BLOCK, 0)); /* its arena is released */
     expect_untouched();
 }
 
@@ -207,7 +209,7 @@ static void fill_with_512(void)
         EXPECT(done(ASK(512), (n - 1) / 7 * 4096 + 48 + 512 * ((n - 1) % 7)));
     EXPECT(done(VIEW_SIZE(3120), 512));
     EXPECT(is(ASK(512), HESKAVERN_NO_ROOM, 0));
-    EXPECT(is(VIEW_SIZE(3632), HESKAVERN_NOT_LIVE, 0));
+    EXPECT(is(VIEW_SIZE(3632), HESKAVERN_NO_BLOCK, 0));
     expect_untouched();
 }
 
@@ -228,9 +230,9 @@ static void moves(void)
     EXPECT(done(moved, 4144));
     EXPECT(done(VIEW_SIZE(moved.value), 112));
     EXPECT(memcmp(memory + moved.value, text, sizeof text) == 0);
-    EXPECT(is(VIEW_SIZE(48), HESKAVERN_NOT_LIVE, 0));
+    EXPECT(is(VIEW_SIZE(48), HESKAVERN_DEAD_BLOCK, 0));
     EXPECT(is(RESIZE(48, 0), HESKAVERN_BAD_SIZE, 0));
-    EXPECT(is(RESIZE(48, 1), HESKAVERN_NOT_LIVE, 0));
+    EXPECT(is(RESIZE(48, 1), HESKAVERN_DEAD_BLOCK, 0));
     expect_untouched();
 }
 
@@ -249,8 +251,8 @@ static void view_and_write(void)
     EXPECT(done(WRITE(48, "sixteen letters.", 16), 48));
     remember();
     EXPECT(is(WRITE(48, "seventeen letters", 17), HESKAVERN_DOES_NOT_FIT, 0));
-    EXPECT(is(WRITE(64, "no", 2), HESKAVERN_NOT_LIVE, 0));
-    EXPECT(is(VIEW_SIZE(64), HESKAVERN_NOT_LIVE, 0));
+    EXPECT(is(WRITE(64, "no", 2), HESKAVERN_DEAD_BLOCK, 0)); /* it is set ready for the next ask */
+    EXPECT(is(VIEW_SIZE(64), HESKAVERN_DEAD_BLOCK, 0));
     EXPECT(lies(heskavern_view(HEAP, 64), memory, 0));
     EXPECT(unchanged());
     expect_untouched();
@@ -281,7 +283,7 @@ static void expect_own(size_t offset, size_t size)
 
 static void stand_ins(void)
 {
-    static const size_t dead[] = {0, 47, 52, 80, 4144, HESKAVERN_MEMORY_BYTES(1, 2), (size_t)-1};
+    static const size_t not_live[] = {0, 47, 52, 80, 4144, HESKAVERN_MEMORY_BYTES(1, 2), (size_t)-1};
     size_t i;
     fresh(1, 2);
     expect_phrase(48);
@@ -290,8 +292,8 @@ static void stand_ins(void)
     EXPECT(done(WRITE(48, "sixteen letters.", 16), 48));
     remember();
     expect_own(48, 16);
-    for (i = 0; i < sizeof dead / sizeof *dead; i++)
-        expect_phrase(dead[i]);
+    for (i = 0; i < sizeof not_live / sizeof *not_live; i++)
+        expect_phrase(not_live[i]);
     EXPECT(unchanged());
     EXPECT(done(GIVE_BACK(48), 48));
     remember();
@@ -301,6 +303,194 @@ static void stand_ins(void)
     EXPECT(done(ASK(16), 48));
     EXPECT(done(WRITE(48, "the new holder's", 16), 48));
     expect_own(48, 16);
+    expect_untouched();
+}
+
+/* Every call on this offset is refused with 10, or with 5, whatever the text; a bad size comes first. Nothing changes,
+   and the stand-in is the phrase. */
+static void expect_not_live(size_t offset, uint32_t number)
+{
+    static const uint8_t text[HESKAVERN_LARGEST + 1] = {0};
+    remember();
+    EXPECT(is(GIVE_BACK(offset), number, 0));
+    EXPECT(is(RESIZE(offset, 8), number, 0));
+    EXPECT(is(RESIZE(offset, HESKAVERN_LARGEST), number, 0));
+    EXPECT(is(RESIZE(offset, 0), HESKAVERN_BAD_SIZE, 0));
+    EXPECT(is(VIEW_SIZE(offset), number, 0));
+    EXPECT(lies(heskavern_view(HEAP, offset), memory, 0));
+    EXPECT(is(WRITE(offset, text, 0), number, 0));
+    EXPECT(is(WRITE(offset, text, sizeof text), number, 0));
+    expect_phrase(offset);
+    EXPECT(unchanged());
+}
+
+static void expect_dead(size_t offset) { expect_not_live(offset, HESKAVERN_DEAD_BLOCK); }
+static void expect_none(size_t offset) { expect_not_live(offset, HESKAVERN_NO_BLOCK); }
+
+/* What a user meets, on a heap that only the calls have written. */
+static void dead_or_none(void)
+{
+    fresh(1, 2);
+    expect_none(48);
+    EXPECT(done(ASK(1), 48));
+    expect_dead(56);    /* set ready, and never handed out */
+    expect_none(64);    /* the block after it */
+    expect_none(52);
+    expect_none(40);
+    expect_none(0);
+    expect_none(4144);  /* a pool that is not carved */
+    expect_none(HESKAVERN_MEMORY_BYTES(1, 2) + 56);
+    expect_none((size_t)-1);
+    EXPECT(done(ASK(1), 56));
+    EXPECT(done(GIVE_BACK(48), 48));
+    expect_dead(48);    /* a second give-back, with another block out */
+    EXPECT(done(ASK(1), 48));
+    EXPECT(done(GIVE_BACK(48), 48));
+    EXPECT(done(GIVE_BACK(56), 56));
+    expect_none(48);    /* with the last block its arena was released */
+    expect_none(56);
+
+    EXPECT(done(ASK(8), 48));
+    EXPECT(done(ASK(9), 4144));
+    EXPECT(done(GIVE_BACK(48), 48));
+    expect_dead(48);    /* an emptied pool keeps its blocks */
+    expect_dead(56);
+    EXPECT(done(ASK(17), 48));
+    expect_none(56);    /* until it is set to another size */
+    expect_dead(72);
+    expect_none(96);
+    EXPECT(done(GIVE_BACK(48), 48));
+    EXPECT(done(GIVE_BACK(4144), 4144));
+    EXPECT(done(ASK(17), 48));
+    expect_none(4144);  /* the arena is open again, and this pool not carved again */
+    EXPECT(done(ASK(9), 4144));
+    expect_dead(4160);
+    expect_untouched();
+}
+
+/* The last block of a pool: of one that the blocks fill to its end, and of one that they do not. */
+static void last_blocks(void)
+{
+    uint32_t n;
+    fresh(1, 2);
+    EXPECT(serves_of_8(506));
+    EXPECT(done(GIVE_BACK(4088), 4088));
+    expect_dead(4088);
+    expect_none(4092);
+    expect_none(4096);
+    fresh(1, 2);
+    for (n = 0; n < 7; n++)
+        EXPECT(done(ASK(512), 48 + 512 * n));
+    EXPECT(done(GIVE_BACK(3120), 3120));
+    expect_dead(3120);
+    expect_none(3632);  /* a block there would end past its pool */
+    expect_untouched();
+}
+
+/* Pool 3 of two arenas of two pools, the second of its arena, with blocks of 32 bytes at the places 48, which was given
+   back, 80, which is out, 112, which is set ready, and 144, which is nextoffset. All four pools are in use. */
+enum { POOL = 3, START = POOL * 4096 };
+static void four_in_use(void)
+{
+    fresh(2, 2);
+    EXPECT(done(ASK(8), 48));
+    EXPECT(done(ASK(16), 4144));
+    EXPECT(done(ASK(24), 8240));
+    EXPECT(done(ASK(32), START + 48));
+    EXPECT(done(ASK(32), START + 80));
+    EXPECT(done(GIVE_BACK(START + 48), START + 48));
+    EXPECT(*arena_word(1, OPEN) == 1 && *arena_word(1, MARK) == 2 && *pool_word(POOL, NEXTOFFSET) == 144);
+    expect_dead(START + 48);
+    expect_dead(START + 112);
+    expect_none(START + 144);
+}
+
+/* With this value in a word of the books, the dead block at this place of pool 3 is dead still, or none. */
+static void expect_with(uint32_t *word, uint32_t value, size_t place, uint32_t number)
+{
+    uint32_t before = *word;
+    *word = value;
+    expect_not_live(START + place, number);
+    *word = before;
+}
+
+/* Each word that tells a dead block from none, on both sides of its bound: on damaged books too the tests go by what
+   the word says. */
+static void dead_by_the_books(void)
+{
+    uint32_t *open = arena_word(1, OPEN), *mark = arena_word(1, MARK), *class_word, *next;
+    const uint32_t dead = HESKAVERN_DEAD_BLOCK, none = HESKAVERN_NO_BLOCK;
+    four_in_use();
+    class_word = pool_word(POOL, CLASS);
+    next = pool_word(POOL, NEXTOFFSET);
+    expect_with(open, 0, 48, none);
+    expect_with(open, 1, 48, dead);
+    expect_with(open, 2, 48, none);
+    expect_with(open, UINT32_MAX, 48, none);
+    expect_with(mark, 0, 48, none);         /* the pool's number in its arena is 1 */
+    expect_with(mark, 1, 48, none);
+    expect_with(mark, 2, 48, dead);
+    expect_with(mark, 3, 48, dead);         /* above P: the mark is compared, whatever it is */
+    expect_with(mark, UINT32_MAX, 48, dead);
+    expect_with(next, 0, 48, none);         /* the place in the pool is compared, not the offset */
+    expect_with(next, 48, 48, none);
+    expect_with(next, 49, 48, dead);        /* also with what is no block's end */
+    expect_with(next, 111, 112, none);
+    expect_with(next, 112, 112, none);
+    expect_with(next, 113, 112, dead);
+    expect_with(next, 145, 144, dead);      /* never set ready: only the word says so */
+    expect_with(next, UINT32_MAX, 4048, dead);
+    expect_with(next, UINT32_MAX, 4080, none);  /* no block starts so near to the end */
+    expect_with(next, UINT32_MAX, 4095, none);
+    expect_with(next, UINT32_MAX, 16, none);    /* nor before the first one, or between two */
+    expect_with(next, UINT32_MAX, 47, none);
+    expect_with(next, UINT32_MAX, 49, none);
+    expect_with(next, UINT32_MAX, 64, none);
+    expect_with(class_word, 0, 64, dead);   /* a start by the class that stands there */
+    expect_with(class_word, 0, 112, dead);
+    expect_with(class_word, 63, 48, dead);
+    expect_with(class_word, 63, 112, none);
+    expect_with(class_word, 64, 48, none);
+    expect_with(class_word, 65535, 48, none);
+    expect_untouched();
+}
+
+/* The other arena and the other pools have no say; a block whose bit is set is live, whatever those words are. */
+static void dead_or_live(void)
+{
+    four_in_use();
+    *arena_word(0, OPEN) = *arena_word(0, MARK) = 0;
+    *pool_word(2, CLASS) = 64;
+    *pool_word(2, NEXTOFFSET) = 0;
+    expect_dead(START + 48);
+    *arena_word(1, OPEN) = *arena_word(1, MARK) = *pool_word(POOL, NEXTOFFSET) = 0;
+    expect_none(START + 48);
+    EXPECT(done(VIEW_SIZE(START + 80), 32));
+    map[8 * POOL] |= 1;
+    EXPECT(done(VIEW_SIZE(START + 48), 32));
+    EXPECT(done(WRITE(START + 48, "owed", 4), START + 48));
+    EXPECT(done(RESIZE(START + 48, 32), START + 48));
+    EXPECT(done(GIVE_BACK(START + 48), START + 48));
+    expect_none(START + 48);
+    expect_untouched();
+}
+
+/* A resize whose ask takes the pool of its own block, and sets it to another size: by that one the old offset is a dead
+   block, or none. Either way the give-back cannot be done, and what the ask has left of the text stands in the new
+   block. */
+static void half_done(size_t size, const char *text, uint32_t number)
+{
+    fresh(1, 2);
+    EXPECT(done(ASK(8), 48));
+    EXPECT(done(ASK(8), 56));
+    EXPECT(done(ASK(8), 64));
+    EXPECT(done(WRITE(64, "owed 100", 8), 64));
+    EXPECT(done(GIVE_BACK(48), 48));
+    EXPECT(done(GIVE_BACK(56), 56));
+    *arena_word(0, FREED_HEAD) = 1;
+    EXPECT(is(RESIZE(64, size), HESKAVERN_DAMAGED, 48));
+    EXPECT(done(VIEW_SIZE(48), (uint32_t)size) && memcmp(memory + 48, text, 8) == 0);
+    expect_not_live(64, number);
     expect_untouched();
 }
 
@@ -459,7 +649,7 @@ static void damaged(void)
     EXPECT(done(ROLL_CALL(4), 2));
     EXPECT(roll[0] == 48 && roll[1] == 8 && roll[2] == 4144 && roll[3] == 104);
     *pool_word(0, CLASS) = 64;
-    EXPECT(is(VIEW_SIZE(48), HESKAVERN_NOT_LIVE, 0));
+    EXPECT(is(VIEW_SIZE(48), HESKAVERN_NO_BLOCK, 0));
     expect_untouched();
 }
 
@@ -505,7 +695,7 @@ static void copied_and_stale(void)
     part = heskavern_view(COPY, 48);
     EXPECT(lies(part, memory_before + 48, 8) && memcmp(part.bytes, "owed", 4) == 0);
     EXPECT(done(heskavern_give_back(COPY, 48), 48));
-    EXPECT(is(heskavern_give_back(COPY, 48), HESKAVERN_NOT_LIVE, 0));
+    EXPECT(is(heskavern_give_back(COPY, 48), HESKAVERN_NO_BLOCK, 0)); /* its arena is released */
     EXPECT(done(heskavern_ask(COPY, 4), 48));
     EXPECT(done(heskavern_give_back(COPY, 48), 48));
 #undef COPY
@@ -534,6 +724,12 @@ int main(void)
     moves();
     view_and_write();
     stand_ins();
+    dead_or_none();
+    last_blocks();
+    dead_by_the_books();
+    dead_or_live();
+    half_done(16, "\0\0\0\0 100", HESKAVERN_DEAD_BLOCK); /* the link of the block set ready is written there */
+    half_done(24, "owed 100", HESKAVERN_NO_BLOCK);
     roll_calls();
     stray_bits();
     largest();

@@ -11,11 +11,13 @@
 #include <stdlib.h>
 
 enum { ASK = 1, GIVE_BACK = 2, RESIZE = 3 };
+enum { STALE = 64 };
 
 static struct pymalloc heap;
 static block *memory;
 static uint32_t bytes;          /* of memory */
 static uint32_t *live, count;   /* the offsets of the live blocks, and how many */
+static uint32_t stale[STALE], dropped;  /* the offsets of the last blocks that came back, and how many came in all */
 static uint32_t *place;         /* for each offset / ALIGNMENT: 1 + where it stands in live, 0 if it is not live */
 static uint64_t calls, wanted;  /* written, and to be written in all */
 
@@ -36,6 +38,7 @@ static void drop(uint32_t offset)
     live[at - 1] = last;
     place[last / ALIGNMENT] = at;
     place[offset / ALIGNMENT] = 0;
+    stale[dropped++ % STALE] = offset;
 }
 
 /* Writes a record. The program ends with the last one that was wanted. */
@@ -206,14 +209,24 @@ static uint32_t bad_size(void)
     return bad[below(5)];
 }
 
-/* An offset that is most often not live. */
+/* The last block that a pool with a live one has handed out or set ready, or the one after it. */
+static uint32_t near_nextoffset(void)
+{
+    uint32_t offset = some_block(), start = offset / POOL_SIZE * POOL_SIZE;
+    const struct pool_header *pool = (const struct pool_header *)(memory + start);
+    return start + pool->nextoffset - below(2) * pymalloc_size(memory + offset);
+}
+
+/* An offset that is most often not live: of a dead block, or where there is none. */
 static uint32_t bad_offset(void)
 {
-    switch (below(5)) {
+    switch (below(7)) {
     case 0: return some_block() + between(1, 7);
     case 1: return some_block() + 8 * between(1, 64);
     case 2: return 8 * below(bytes / 8);
     case 3: return bytes + below(8192);
+    case 4: return stale[below(STALE)];
+    case 5: return near_nextoffset();
     default: return UINT32_MAX - below(8192);
     }
 }

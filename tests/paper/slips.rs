@@ -1,6 +1,6 @@
 // Small changes to src/paper.rs, one at a time: the slips that 01 names, the other reading of each place that leaves
-// room, the slips of a tired hand, and those of W-214. The build makes a program of each, and tests/broken.rs shows
-// that it is found.
+// room, the slips of a tired hand, and those of W-206 and W-214. The build makes a program of each, and tests/broken.rs
+// shows that it is found.
 
 // the build reads the texts, the tests the rest
 #[allow(dead_code)]
@@ -17,7 +17,7 @@ const fn slip(name: &'static str, case: Option<&'static str>, old: &'static str,
     Slip { name, case, old, new }
 }
 
-pub const ALL: [&[Slip]; 4] = [NAMED, READINGS, TIRED, STAND_IN];
+pub const ALL: [&[Slip]; 5] = [NAMED, READINGS, TIRED, SPLIT, STAND_IN];
 
 /// The slips that 01 names.
 const NAMED: &[Slip] = &[
@@ -322,7 +322,7 @@ const TIRED: &[Slip] = &[
     ),
     slip("a half-done resize answers offset 0", Some("R9:"), "value: new as u32", "value: 0"),
     slip(
-        "a half-done resize answers 5",
+        "a half-done resize answers what its give-back met",
         Some("R9:"),
         "Answer { number: 6, value: new",
         "Answer { number: refusal.number, value: new",
@@ -352,6 +352,271 @@ const TIRED: &[Slip] = &[
         Some("format"),
         "lent.books[next + 1] = link_to(arena.checked_sub(1)) as u32;",
         "",
+    ),
+];
+
+/// The slips of W-206: first those of its clauses.
+const SPLIT: &[Slip] = &[
+    slip(
+        "any open word but 0 is open",
+        Some("W-206: carved, the open"),
+        "self.read(self.arena(arena, OPEN)) == 1",
+        "self.read(self.arena(arena, OPEN)) != 0",
+    ),
+    slip(
+        "an odd open word is open",
+        Some("W-206: carved, the open"),
+        "self.read(self.arena(arena, OPEN)) == 1",
+        "self.read(self.arena(arena, OPEN)) % 2 == 1",
+    ),
+    slip(
+        "a pool is carved whether its arena is open or not",
+        Some("W-206: carved, the open"),
+        "self.read(self.arena(arena, OPEN)) == 1 && number",
+        "number",
+    ),
+    slip(
+        "the pool at the mark is carved",
+        Some("W-206: carved, below"),
+        "number < self.read(self.arena(arena, CARVE_MARK))",
+        "number <= self.read(self.arena(arena, CARVE_MARK))",
+    ),
+    slip(
+        "every pool of an open arena is carved",
+        Some("W-206: carved, below"),
+        " && number < self.read(self.arena(arena, CARVE_MARK))",
+        "",
+    ),
+    slip(
+        "below a mark above P no pool is carved",
+        Some("W-206: carved, below"),
+        "number < self.read(self.arena(arena, CARVE_MARK))",
+        "(number + 1..=self.pools).contains(&self.read(self.arena(arena, CARVE_MARK)))",
+    ),
+    slip(
+        "a pool's number in the heap is held against the mark",
+        Some("W-206: carved, below"),
+        "number < self.read(self.arena(arena, CARVE_MARK))",
+        "pool < self.read(self.arena(arena, CARVE_MARK))",
+    ),
+    slip(
+        "the first arena's record is read for every pool",
+        Some("W-206: carved, below"),
+        "(pool / self.pools, pool % self.pools)",
+        "(0, pool % self.pools)",
+    ),
+    slip(
+        "a carved pool that is freed has no dead blocks",
+        Some("W-206: 01's whole"),
+        "&& self.carved(pool) =>",
+        "&& self.carved(pool) && self.read(self.pool(pool, COUNT)) != 0 =>",
+    ),
+    slip(
+        "the block at nextoffset is dead",
+        Some("W-206: the in-pool"),
+        "start < self.read(self.pool(pool, NEXTOFFSET))",
+        "start <= self.read(self.pool(pool, NEXTOFFSET))",
+    ),
+    slip(
+        "a virgin block is dead",
+        Some("W-206: the in-pool"),
+        "start < self.read(self.pool(pool, NEXTOFFSET)) && self",
+        "self",
+    ),
+    slip(
+        "the whole offset is held against nextoffset",
+        Some("W-206: the in-pool"),
+        "start < self.read(self.pool(pool, NEXTOFFSET))",
+        "offset < self.read(self.pool(pool, NEXTOFFSET))",
+    ),
+    slip(
+        "a dead block must end at nextoffset or below",
+        Some("W-206: the in-pool"),
+        "start < self.read(self.pool(pool, NEXTOFFSET))",
+        "start + block_size(class) <= self.read(self.pool(pool, NEXTOFFSET))",
+    ),
+    slip(
+        "the block that was set ready is not dead",
+        Some("W-206: 10 for a block never"),
+        "start < self.read(self.pool(pool, NEXTOFFSET))",
+        "start + block_size(class) < self.read(self.pool(pool, NEXTOFFSET))",
+    ),
+    slip(
+        "maxnextoffset is read for nextoffset",
+        Some("W-206: 10 for a block never"),
+        "start < self.read(self.pool(pool, NEXTOFFSET))",
+        "start < self.read(self.pool(pool, MAXNEXTOFFSET))",
+    ),
+    slip(
+        "class 64 has dead blocks",
+        Some("W-206: a class above"),
+        "if class > 63 {
+            return refuse(5);",
+        "if class == 64 && block_at(class, start).is_some() {
+            let dead = start < self.read(self.pool(pool, NEXTOFFSET)) && self.carved(pool);
+            return refuse(if dead { 10 } else { 5 });
+        }
+        if class > 63 {
+            return refuse(5);",
+    ),
+    slip(
+        "a pool of any class has dead blocks",
+        Some("W-206: a class above"),
+        "if class > 63 {
+            return refuse(5);",
+        "if class > 63 {
+            let dead = start < self.read(self.pool(pool, NEXTOFFSET)) && self.carved(pool);
+            return refuse(if dead && block_at(63, start).is_some() { 10 } else { 5 });",
+    ),
+    slip("every place below nextoffset is dead", Some("W-206: where no block"), "Some(_) if start <", "_ if start <"),
+    slip(
+        "every place that a small block could start at is dead",
+        Some("W-206: where no block"),
+        "Some(_) if start <",
+        "_ if block_at(0, start).is_some() && start <",
+    ),
+    slip(
+        "a dead block may run past its pool",
+        Some("W-206: where no block"),
+        "Some(_) if start <",
+        "_ if start >= HEADER && (start - HEADER) % block_size(class) == 0 && start <",
+    ),
+    slip(
+        "an offset past memory is 10",
+        Some("W-206: in each"),
+        "if offset >= self.lent.memory.len() {
+            return refuse(5);",
+        "if offset >= self.lent.memory.len() {
+            return refuse(10);",
+    ),
+    slip(
+        "a live block must lie in a carved pool",
+        Some("W-206: carved, the open"),
+        "Some(k) if self.bit(pool, k) =>",
+        "Some(k) if self.bit(pool, k) && self.carved(pool) =>",
+    ),
+    slip(
+        "a live block must lie below nextoffset",
+        Some("W-206: the in-pool"),
+        "Some(k) if self.bit(pool, k) =>",
+        "Some(k) if self.bit(pool, k) && start < self.read(self.pool(pool, NEXTOFFSET)) =>",
+    ),
+    // the numbers, and where they are given
+    slip(
+        "10 and 5 are exchanged",
+        Some("W-206: 01's whole"),
+        "=> refuse(10),
+            _ => refuse(5),",
+        "=> refuse(5),
+            _ => refuse(10),",
+    ),
+    slip("5 is not split", Some("W-206: 01's whole"), "=> refuse(10),", "=> refuse(5),"),
+    slip("a dead block is 6", Some("W-206: 01's whole"), "=> refuse(10),", "=> refuse(6),"),
+    slip(
+        "10 repeats the offset",
+        Some("W-206: 01's whole"),
+        "=> refuse(10),",
+        "=> Err(Answer { number: 10, value: offset as u32 }),",
+    ),
+    slip(
+        "give back doesn't take the split",
+        Some("W-206: in each"),
+        "let block = heap.live(offset)?;
+            heap.step(",
+        "let block = heap.live(offset).or_else(|_| refuse(5))?;
+            heap.step(",
+    ),
+    slip(
+        "resize doesn't take the split",
+        Some("W-206: in each"),
+        "let block = heap.live(offset)?;
+            heap.resize(",
+        "let block = heap.live(offset).or_else(|_| refuse(5))?;
+            heap.resize(",
+    ),
+    slip(
+        "view's companion doesn't take the split",
+        Some("W-206: in each"),
+        "Ok(heap.live(offset)?.size())",
+        "Ok(heap.live(offset).or_else(|_| refuse(5))?.size())",
+    ),
+    slip(
+        "write doesn't take the split",
+        Some("W-206: in each"),
+        "let block = heap.live(offset)?;
+            heap.write(",
+        "let block = heap.live(offset).or_else(|_| refuse(5))?;
+            heap.write(",
+    ),
+    slip(
+        "view hands back a dead block",
+        Some("W-206: in each"),
+        "Err(_) => (0, 0),",
+        "Err(Answer { number: 10, .. }) => (offset, 8),
+         Err(_) => (0, 0),",
+    ),
+    slip(
+        "the empty part is handed back for 10",
+        Some("W-206: in each"),
+        "Err(_) => phrase.itself(),",
+        "Err(Answer { number: 10, .. }) => Place::Memory(0, 0),
+         Err(_) => phrase.itself(),",
+    ),
+    slip(
+        "a text that is too long for any block is 7 before it is 10",
+        Some("W-206: in the same"),
+        "let block = heap.live(offset)?;
+            heap.write(",
+        "let block = match heap.live(offset) {
+                Err(Answer { number: 10, .. }) if text.len() > 512 => return refuse(7),
+                found => found?,
+            };
+            heap.write(",
+    ),
+    slip(
+        "a dead block that is resized is 4 before it is 10",
+        Some("W-206: in the same"),
+        "let block = heap.live(offset)?;
+            heap.resize(",
+        "let block = match heap.live(offset) {
+                Err(Answer { number: 10, .. }) if heap.read(USABLE) == 0 && heap.read(UNUSED) == 0
+                    && heap.read(CLASSES + class_of(size)) == 0 => return refuse(4),
+                found => found?,
+            };
+            heap.resize(",
+    ),
+    // the half-done resize
+    slip(
+        "a half-done resize that meets 5 answers 5",
+        Some("W-206: the half-done"),
+        "Answer { number: 6, value: new",
+        "Answer { number: if refusal.number == 5 { 5 } else { 6 }, value: new",
+    ),
+    slip(
+        "a half-done resize that meets 10 answers 10",
+        Some("W-206: the half-done"),
+        "Answer { number: 6, value: new",
+        "Answer { number: if refusal.number == 10 { 10 } else { 6 }, value: new",
+    ),
+    slip(
+        "a half-done resize that meets 10 is refused with it",
+        Some("W-206: the half-done"),
+        "Err(refusal) => {",
+        "Err(Answer { number: 10, .. }) => return refuse(10),
+            Err(refusal) => {",
+    ),
+    slip(
+        "a half-done resize that meets 10 is done",
+        Some("W-206: the half-done"),
+        "Ok(_) => self.walk(Path::Moved),",
+        "Ok(_) | Err(Answer { number: 10, .. }) => self.walk(Path::Moved),",
+    ),
+    slip(
+        "a resize's give-back that meets 10 clears the bit",
+        Some("W-206: the half-done"),
+        "Err(refusal) => {",
+        "Err(refusal) => {
+                if refusal.number == 10 { self.put_bit(offset / POOL, (offset % POOL - HEADER) / s, false); }",
     ),
 ];
 

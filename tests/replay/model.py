@@ -1,5 +1,6 @@
-"""The replay program's answers, from 01's rules: a heap of one arena of 16 pools, and the records. No memory and no
-books: a pool keeps its freed blocks as a list whose last is freeblock, and a list's front is a Python list's first."""
+"""The replay program's answers, from 01's rules and W-206's: a heap of one arena of 16 pools, and the records. No
+memory and no books: a pool keeps its freed blocks as a list whose last is freeblock, and a list's front is a Python
+list's first."""
 import struct
 
 POOLS, POOL, HEADER, RECORD = 16, 4096, 48, 16
@@ -37,6 +38,10 @@ class Pool:
         self.live.remove(block)
         self.freed.append(block)
 
+    def has_made(self, block):
+        """Whether a block starts there that was handed out or set ready, be it live or not."""
+        return block in range(HEADER, self.nextoffset, self.size)
+
 
 class Heap:
     """One arena. While it is not open its mark is 0 and no pool is freed: so it need not be told from an open one."""
@@ -51,11 +56,11 @@ class Heap:
         return sum(len(pool.live) for pool in self.pools)
 
     def pool_of(self, offset):
-        """The pool of a live offset."""
+        """The pool of a live offset. One that is not live is a dead block in a pool that is carved, or no block."""
         n, block = divmod(offset, POOL)
-        if n >= POOLS or block not in self.pools[n].live:
-            raise Refused(5)
-        return self.pools[n], block
+        if n < POOLS and block in self.pools[n].live:
+            return self.pools[n], block
+        raise Refused(10 if n < self.mark and self.pools[n].has_made(block) else 5)
 
     def ask(self, n):
         if not 1 <= n <= 512:

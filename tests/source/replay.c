@@ -1,5 +1,5 @@
-/* Replays 01's records through the allocator written from the source: replay [A P] < records > replies.
- * A heap has one arena of 16 pools where A and P are not given. */
+/* Replays 01's records through the allocator written from the source: replay [A P] < records > replies. An offset that
+ * is not live is refused by W-206's split. A heap has one arena of 16 pools where A and P are not given. */
 #define _POSIX_C_SOURCE 200112L
 #include "bytes.h"
 #include "pymalloc.h"
@@ -14,7 +14,7 @@
 
 enum { RECORD = 16, PIECE = 4096 * RECORD };
 enum { ASK = 1, GIVE_BACK = 2, RESIZE = 3 };
-enum { DONE = 0, BAD_SIZE = 3, NO_ROOM = 4, NOT_LIVE = 5, SHORT_RECORD = 8, BAD_RECORD = 9 };
+enum { DONE = 0, BAD_SIZE = 3, NO_ROOM = 4, NO_BLOCK = 5, SHORT_RECORD = 8, BAD_RECORD = 9, DEAD_BLOCK = 10 };
 
 /* The heap, and beside it which blocks are live, which the allocator itself cannot tell. */
 struct ledger {
@@ -48,6 +48,24 @@ static bool open_ledger(struct ledger *l, unsigned arenas, unsigned pools)
 static bool is_live(const struct ledger *l, uint32_t offset)
 {
     return offset < l->bytes && offset % ALIGNMENT == 0 && l->live[offset / ALIGNMENT];
+}
+
+/* The number of an offset that is not live: DEAD_BLOCK where a block starts there, below nextoffset, in a pool that is
+ * carved, and otherwise NO_BLOCK. A pool is carved where its arena is open, which the unused ones are not, and the next
+ * pool to be carved off there comes after it; it then has its class. */
+static unsigned dead_or_none(const struct ledger *l, uint32_t offset)
+{
+    const size_t first = sizeof(struct pool_header), n = offset / POOL_SIZE, place = offset % POOL_SIZE;
+    if (offset >= l->bytes)
+        return NO_BLOCK;
+    const block *start = l->memory + n * POOL_SIZE;
+    const struct pool_header *pool = (const struct pool_header *)start;
+    const struct arena_object *ao = &l->heap.arenas[n / l->heap.pools], *unused = l->heap.unused_arena_objects;
+    while (unused != NULL && unused != ao)
+        unused = unused->nextarena;
+    bool carved = unused == NULL && start < ao->pool_address;
+    return carved && place >= first && place < pool->nextoffset && (place - first) % INDEX2SIZE(pool->szidx) == 0
+        ? DEAD_BLOCK : NO_BLOCK;
 }
 
 static bool is_small(uint32_t size)
@@ -86,7 +104,7 @@ static struct answer ask(struct ledger *l, uint32_t size)
 static struct answer give_back(struct ledger *l, uint32_t offset)
 {
     if (!is_live(l, offset))
-        return refuse(NOT_LIVE, offset);
+        return refuse(dead_or_none(l, offset), offset);
     struct answer a = {DONE, offset, pymalloc_size(l->memory + offset)};
     pymalloc_give_back(&l->heap, l->memory + offset);
     mark(l, offset, false);
@@ -98,7 +116,7 @@ static struct answer resize(struct ledger *l, uint32_t size, uint32_t offset)
     if (!is_small(size))
         return refuse(BAD_SIZE, offset);
     if (!is_live(l, offset))
-        return refuse(NOT_LIVE, offset);
+        return refuse(dead_or_none(l, offset), offset);
     const block *p = pymalloc_resize(&l->heap, l->memory + offset, size);
     if (p != NULL)
         mark(l, offset, false);

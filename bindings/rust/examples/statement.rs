@@ -1,6 +1,6 @@
 //! A talking statement keeps each text in a block. The block of the word "owed" is given back twice: the second time
-//! is refused, and while the block is not out a stand-in is spoken for it. Then the payee's name gets a block of its
-//! own, and the roll call says what every block that is out holds.
+//! is refused with 10, a dead block, and while the block is not out a stand-in is spoken for it. Then the payee's name
+//! gets a block of its own, and the roll call says what every block that is out holds.
 //!
 //! cargo run --manifest-path bindings/rust/Cargo.toml --example statement
 
@@ -36,6 +36,7 @@ fn main() -> Result<(), Refusal> {
     let mut heap = Heap::format(&mut memory, &mut books, &mut map, 1, 2)?;
 
     let owed = keep(&mut heap, "owed")?;
+    keep(&mut heap, "paid")?;
     speak(&heap, owed);
     give_back(&mut heap, owed);
     speak(&heap, owed);

@@ -13,11 +13,13 @@
 //! let mut map = [0; map_words(1, 16)];
 //! let mut heap = Heap::format(&mut memory, &mut books, &mut map, 1, 16)?;
 //!
-//! let word = heap.ask(4)?;
-//! heap.write(word, b"owed")?;
-//! assert!(heap.view(word)?.starts_with(b"owed"));
-//! heap.give_back(word)?;
-//! assert_eq!(heap.give_back(word), Err(Refusal::NotLive));
+//! let (owed, paid) = (heap.ask(4)?, heap.ask(4)?);
+//! heap.write(owed, b"owed")?;
+//! assert!(heap.view(owed)?.starts_with(b"owed"));
+//! heap.give_back(owed)?;
+//! assert_eq!(heap.give_back(owed), Err(Refusal::DeadBlock));
+//! heap.give_back(paid)?; // the last one: the arena is released
+//! assert_eq!(heap.give_back(paid), Err(Refusal::NoBlock));
 //! # Ok::<(), Refusal>(())
 //! ```
 //!
@@ -27,10 +29,16 @@
 //!
 //! # What is good to know
 //!
-//! - An offset names a block and not its holder. While the block is not out, every call on it is refused with
-//!   [`NotLive`](Refusal::NotLive) (a resize to a size out of range with [`BadSize`](Refusal::BadSize), which comes
-//!   first), but for [`stand_in`](Heap::stand_in), which hands back its phrase. Once it is out again, a stale offset is
-//!   the new holder's: a view or a stand-in shows its text, a write or a give-back changes it.
+//! - An offset names a block and not its holder. While the block is not out, every call on it is refused (a resize to a
+//!   size out of range with [`BadSize`](Refusal::BadSize), which comes first), but for [`stand_in`](Heap::stand_in),
+//!   which hands back its phrase. Once it is out again, a stale offset is the new holder's: a view or a stand-in shows
+//!   its text, a write or a give-back changes it.
+//! - On a heap that nothing has damaged, a block that has come back is refused with [`DeadBlock`](Refusal::DeadBlock)
+//!   until it goes out again; or until its pool, with no block out, is set to another block size, after which the
+//!   offset may be a dead block or none, or a block that is out; or until the last block of its arena comes back. That
+//!   releases the arena, and the offset is refused with [`NoBlock`](Refusal::NoBlock), at least until its pool is used
+//!   anew. So a second give-back is refused with `DeadBlock`, or with `NoBlock` where the first one released the arena.
+//!   The block that a pool has set ready for a later ask is a dead block too, though it was never out.
 //! - A [`Heap`] holds its three buffers, so those of two heaps cannot be mixed up in a call; [`Heap::open`] and
 //!   [`calls`] can be lent a mixture. It is refused where A × P differs. Where it is the same no call can tell: it
 //!   answers by the three buffers as they are lent and touches no others, but it may write into a block that is held,
@@ -148,7 +156,7 @@ impl<'a> Heap<'a> {
         let heap = Heap { memory, books, map };
         // No block starts at 0, so 5 there says that the tests before it are passed.
         match heap.size_at(0) {
-            Ok(_) | Err(Refusal::NotLive) => Ok(heap),
+            Ok(_) | Err(Refusal::NoBlock) => Ok(heap),
             Err(refusal) => Err(refusal),
         }
     }
@@ -171,16 +179,18 @@ impl<'a> Heap<'a> {
         done(calls::ask(self.memory, self.books, self.map, size))
     }
 
-    /// Give back: the block at `offset` is live no more. Refused with 5 or 6.
+    /// Give back: the block at `offset` is live no more. Refused with 5, 10 or 6.
     ///
     /// ```
     /// # use heskavern::{books_words, map_words, memory_bytes, Heap, Refusal};
     /// # let (mut memory, mut books, mut map) =
     /// #     ([0; memory_bytes(1, 2)], [0; books_words(1, 2)], [0; map_words(1, 2)]);
     /// # let mut heap = Heap::format(&mut memory, &mut books, &mut map, 1, 2)?;
-    /// let word = heap.ask(4)?;
+    /// let (word, other) = (heap.ask(4)?, heap.ask(4)?);
     /// assert_eq!(heap.give_back(word), Ok(()));
-    /// assert_eq!(heap.give_back(word), Err(Refusal::NotLive));
+    /// assert_eq!(heap.give_back(word), Err(Refusal::DeadBlock));
+    /// assert_eq!(heap.give_back(word + 1), Err(Refusal::NoBlock));
+    /// assert_eq!(heap.give_back(other), Ok(()));
     /// # Ok::<(), Refusal>(())
     /// ```
     pub fn give_back(&mut self, offset: u32) -> Result<(), Refusal> {
@@ -189,7 +199,7 @@ impl<'a> Heap<'a> {
 
     /// Resize: makes room for `size` bytes and answers the offset of the block that the text is then in. Of a block
     /// of s bytes, the offset is kept where `size <= s` and `4 * size > 3 * s`. Otherwise a block is asked for, the
-    /// first bytes are copied to it, and the old block is given back. Refused with 3, 5, 4 or 6;
+    /// first bytes are copied to it, and the old block is given back. Refused with 3, 5, 10, 4 or 6;
     /// [`Refusal::HalfDone`] has the new offset where only the give-back could not be done.
     ///
     /// ```
@@ -202,14 +212,14 @@ impl<'a> Heap<'a> {
     /// assert_eq!(heap.resize(word, 79), Ok(word));
     /// let moved = heap.resize(word, 78)?;
     /// assert!(heap.view(moved)?.starts_with(b"owed"));
-    /// assert_eq!(heap.view(word), Err(Refusal::NotLive));
+    /// assert_eq!(heap.view(word), Err(Refusal::DeadBlock));
     /// # Ok::<(), Refusal>(())
     /// ```
     pub fn resize(&mut self, offset: u32, size: usize) -> Result<u32, Refusal> {
         done(calls::resize(self.memory, self.books, self.map, offset as usize, size))
     }
 
-    /// View: the live block's own part of memory, the whole block. Refused with 5.
+    /// View: the live block's own part of memory, the whole block. Refused with 5 or 10.
     ///
     /// ```
     /// # use heskavern::{books_words, map_words, memory_bytes, Heap, Refusal};
@@ -218,7 +228,7 @@ impl<'a> Heap<'a> {
     /// # let mut heap = Heap::format(&mut memory, &mut books, &mut map, 1, 2)?;
     /// let word = heap.ask(4)?;
     /// assert_eq!(heap.view(word)?.len(), 8);
-    /// assert_eq!(heap.view(word + 4), Err(Refusal::NotLive));
+    /// assert_eq!(heap.view(word + 4), Err(Refusal::NoBlock));
     /// # Ok::<(), Refusal>(())
     /// ```
     pub fn view(&self, offset: u32) -> Result<&[u8], Refusal> {
@@ -248,7 +258,7 @@ impl<'a> Heap<'a> {
         calls::stand_in(self.memory, self.books, self.map, offset as usize, phrase)
     }
 
-    /// View, for the holder to write to. Refused with 5.
+    /// View, for the holder to write to. Refused with 5 or 10.
     ///
     /// ```
     /// # use heskavern::{books_words, map_words, memory_bytes, Heap, Refusal};
@@ -265,7 +275,7 @@ impl<'a> Heap<'a> {
         Ok(&mut self.memory[offset as usize..][..size])
     }
 
-    /// Write: copies the text to the start of the live block; the rest of the block stays. Refused with 5 or 7.
+    /// Write: copies the text to the start of the live block; the rest of the block stays. Refused with 5, 10 or 7.
     ///
     /// ```
     /// # use heskavern::{books_words, map_words, memory_bytes, Heap, Refusal};

@@ -7,8 +7,10 @@ use core::fmt;
 ///
 /// ```
 /// use heskavern::Refusal;
-/// assert_eq!(Refusal::NotLive.number(), 5);
-/// assert_eq!(Refusal::NotLive.to_string(), "offset not live");
+/// assert_eq!(Refusal::NoBlock.number(), 5);
+/// assert_eq!(Refusal::NoBlock.to_string(), "no block there");
+/// assert_eq!(Refusal::DeadBlock.number(), 10);
+/// assert_eq!(Refusal::DeadBlock.to_string(), "a dead block: given back, or never handed out");
 /// ```
 ///
 /// [`HalfDone`]: Refusal::HalfDone
@@ -23,8 +25,8 @@ pub enum Refusal {
     BadSize,
     /// 4: no room.
     NoRoom,
-    /// 5: offset not live.
-    NotLive,
+    /// 5: no block there.
+    NoBlock,
     /// 6: books damaged.
     Damaged,
     /// 6 of a resize that was half done: the text stands in the new block, at this offset, and the old block could
@@ -32,6 +34,8 @@ pub enum Refusal {
     HalfDone(u32),
     /// 7: text longer than its block, or fewer than two roll words for each live block.
     DoesNotFit,
+    /// 10: a dead block: given back, or never handed out.
+    DeadBlock,
     /// A number that this crate does not know.
     Unknown(u32),
 }
@@ -44,9 +48,10 @@ impl Refusal {
             Refusal::NotExact => 2,
             Refusal::BadSize => 3,
             Refusal::NoRoom => 4,
-            Refusal::NotLive => 5,
+            Refusal::NoBlock => 5,
             Refusal::Damaged | Refusal::HalfDone(_) => 6,
             Refusal::DoesNotFit => 7,
+            Refusal::DeadBlock => 10,
             Refusal::Unknown(number) => number,
         }
     }
@@ -59,10 +64,11 @@ impl Refusal {
             (2, _) => Refusal::NotExact,
             (3, _) => Refusal::BadSize,
             (4, _) => Refusal::NoRoom,
-            (5, _) => Refusal::NotLive,
+            (5, _) => Refusal::NoBlock,
             (6, 0) => Refusal::Damaged,
             (6, offset) => Refusal::HalfDone(offset),
             (7, _) => Refusal::DoesNotFit,
+            (10, _) => Refusal::DeadBlock,
             (unknown, _) => Refusal::Unknown(unknown),
         }
     }
@@ -75,7 +81,7 @@ impl fmt::Display for Refusal {
             Refusal::NotExact => f.write_str("a lent length is not exact"),
             Refusal::BadSize => f.write_str("size 0 or above 512"),
             Refusal::NoRoom => f.write_str("no room"),
-            Refusal::NotLive => f.write_str("offset not live"),
+            Refusal::NoBlock => f.write_str("no block there"),
             Refusal::Damaged => f.write_str("books damaged"),
             Refusal::HalfDone(offset) => {
                 write!(f, "books damaged: the text is now at {offset}, and its old block could not be given back")
@@ -83,6 +89,7 @@ impl fmt::Display for Refusal {
             Refusal::DoesNotFit => {
                 f.write_str("text longer than its block, or fewer than two roll words for each live block")
             }
+            Refusal::DeadBlock => f.write_str("a dead block: given back, or never handed out"),
             Refusal::Unknown(number) => write!(f, "refused with the unknown number {number}"),
         }
     }
@@ -99,7 +106,8 @@ mod tests {
     fn each_number_has_its_refusal() {
         for number in 1..=100 {
             assert_eq!(Refusal::of(number, 0).number(), number);
-            assert_eq!(matches!(Refusal::of(number, 0), Refusal::Unknown(_)), number > 7);
+            let known = number <= 7 || number == 10; // 8 and 9 are the replay program's
+            assert_eq!(matches!(Refusal::of(number, 0), Refusal::Unknown(_)), !known);
         }
         assert_eq!(Refusal::of(6, 48), Refusal::HalfDone(48));
         assert_eq!(Refusal::HalfDone(48).number(), 6);

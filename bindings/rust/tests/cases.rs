@@ -1,5 +1,5 @@
-//! 01's cases and W-214's through the bindings: what a caller in Rust gets for each number, and what it can get hold
-//! of.
+//! 01's cases, W-206's and W-214's through the bindings: what a caller in Rust gets for each number, and what it can
+//! get hold of.
 
 use heskavern::{books_words, calls, map_words, memory_bytes, roll_words, Heap, Refusal};
 
@@ -26,6 +26,22 @@ impl Lent {
     fn open(&mut self) -> Result<Heap<'_>, Refusal> {
         Heap::open(&mut self.memory, &mut self.books, &mut self.map)
     }
+}
+
+/// Every call on the offset is refused with this, whatever the text, and the stand-in is its phrase. Only a bad size
+/// comes before it.
+#[track_caller]
+fn assert_refused(heap: &mut Heap, offset: u32, refusal: Refusal) {
+    let phrase = b"this amount can't be read out";
+    assert_eq!(heap.give_back(offset), Err(refusal));
+    assert_eq!(heap.resize(offset, 0), Err(Refusal::BadSize));
+    assert_eq!(heap.resize(offset, 8), Err(refusal));
+    assert_eq!(heap.view(offset), Err(refusal));
+    assert_eq!(heap.view_mut(offset), Err(refusal));
+    for text in [b"".as_slice(), b"owed", &[0; 513]] {
+        assert_eq!(heap.write(offset, text), Err(refusal));
+    }
+    assert!(std::ptr::eq(heap.stand_in(offset, phrase), phrase));
 }
 
 #[test]
@@ -67,7 +83,63 @@ fn resize_keeps_or_moves() -> Result<(), Refusal> {
     assert_eq!(heap.view(4144)?[..104], text);
     assert_eq!(heap.view(4144)?.len(), 112);
     assert_eq!(heap.resize(48, 0), Err(Refusal::BadSize));
-    assert_eq!(heap.resize(48, 1), Err(Refusal::NotLive));
+    assert_eq!(heap.resize(48, 1), Err(Refusal::DeadBlock));
+    Ok(())
+}
+
+#[test]
+fn no_block_is_there_as_in_k10() -> Result<(), Refusal> {
+    let mut lent = lent(1, 16);
+    let mut heap = lent.format(1, 16)?;
+    assert_eq!(heap.ask(1), Ok(48));
+    for offset in [52, 0, 65536] {
+        assert_eq!(heap.give_back(offset), Err(Refusal::NoBlock));
+    }
+    assert_eq!(heap.give_back(48), Ok(()));
+    assert_eq!(heap.give_back(48), Err(Refusal::NoBlock)); // its arena is released
+    Ok(())
+}
+
+#[test]
+fn a_block_that_is_given_back_is_dead_while_another_is_out() -> Result<(), Refusal> {
+    let mut lent = lent(1, 2);
+    let mut heap = lent.format(1, 2)?;
+    assert_refused(&mut heap, 48, Refusal::NoBlock); // nothing was asked for
+    assert_eq!([heap.ask(8)?, heap.ask(8)?], [48, 56]);
+    heap.give_back(48)?;
+    assert_refused(&mut heap, 48, Refusal::DeadBlock);
+    assert_eq!(heap.ask(8), Ok(48)); // out again: the stale offset is the new holder's
+    heap.give_back(48)?;
+    heap.give_back(56)?; // the last one: the arena is released
+    assert_refused(&mut heap, 48, Refusal::NoBlock);
+    assert_refused(&mut heap, 56, Refusal::NoBlock);
+    Ok(())
+}
+
+#[test]
+fn a_block_that_is_set_ready_is_dead_and_the_next_is_none() -> Result<(), Refusal> {
+    let mut lent = lent(1, 2);
+    let mut heap = lent.format(1, 2)?;
+    assert_eq!(heap.ask(1), Ok(48));
+    assert_refused(&mut heap, 56, Refusal::DeadBlock);
+    assert_refused(&mut heap, 64, Refusal::NoBlock);
+    assert_refused(&mut heap, 4144, Refusal::NoBlock); // a pool that was never used
+    Ok(())
+}
+
+#[test]
+fn a_pool_of_another_block_size_has_other_blocks() -> Result<(), Refusal> {
+    let mut lent = lent(1, 2);
+    let mut heap = lent.format(1, 2)?;
+    assert_eq!([heap.ask(8)?, heap.ask(9)?], [48, 4144]);
+    heap.give_back(48)?;
+    assert_refused(&mut heap, 48, Refusal::DeadBlock); // its pool stands as it was
+    assert_refused(&mut heap, 56, Refusal::DeadBlock);
+    assert_eq!(heap.ask(17), Ok(48)); // the same pool, for blocks of 24 bytes
+    assert_eq!(heap.view(48)?.len(), 24);
+    assert_refused(&mut heap, 56, Refusal::NoBlock);
+    assert_refused(&mut heap, 72, Refusal::DeadBlock);
+    assert_refused(&mut heap, 96, Refusal::NoBlock);
     Ok(())
 }
 
@@ -107,7 +179,7 @@ fn another_thread_gives_back_between_calls() -> Result<(), Refusal> {
         let there = threads.spawn(move || heap.give_back(word).map(|()| heap));
         there.join().expect("the thread ends")
     })?;
-    assert_eq!(heap.give_back(word), Err(Refusal::NotLive));
+    assert_eq!(heap.give_back(word), Err(Refusal::NoBlock)); // it was the last one, so its arena is released
     Ok(())
 }
 
@@ -198,10 +270,8 @@ fn no_offset_is_too_large_to_ask_about() -> Result<(), Refusal> {
     let mut lent = lent(1, 2);
     let mut heap = lent.format(1, 2)?;
     heap.ask(8)?;
-    for offset in [0, 47, 52, 56, 8192, u32::MAX] {
-        assert_eq!(heap.give_back(offset), Err(Refusal::NotLive));
-        assert_eq!(heap.view_mut(offset), Err(Refusal::NotLive));
-        assert_eq!(heap.write(offset, b""), Err(Refusal::NotLive));
+    for offset in [0, 47, 52, 8192, u32::MAX] {
+        assert_refused(&mut heap, offset, Refusal::NoBlock);
     }
     assert_eq!(heap.write(48, b""), Ok(()));
     Ok(())

@@ -1,6 +1,7 @@
 -- What is known of a heap, and of an offset, once the tests of 01's numbers let them pass.
 -- Assumes nothing.
 use mathlib.Core.Path.{_≡_, refl}
+use mathlib.Core.Logic.{_≢_}
 use mathlib.Core.Bool.{Bool, true, false, _&&_}
 use mathlib.Core.List.{List}
 use Prim.Native.Nat.{ℕ, _+_, _*_, _/_, _%_, _≤_, _<_}
@@ -11,7 +12,18 @@ use lib.ListN.{length}
 use borrow.Author.Tests.{leb-true, ltb-true, eqb-true}
 use Rattle.rules.specs.Books.{Heap, inRange, exact, memoryLength, booksLength, mapLength, isSet}
 use Rattle.rules.specs.Say.{if_then_else_}
-use Rattle.rules.specs.Blocks.{lastClass, isStart, blockNo, classAt, sizeAt, live, liveNumber}
+use Rattle.rules.specs.Blocks.{
+  lastClass,
+  isStart,
+  blockNo,
+  classAt,
+  sizeAt,
+  atStart,
+  live,
+  isBlock,
+  deadNumber,
+  liveNumber,
+}
 use Rattle.books.specs.Tests.{both}
 use Rattle.books.specs.Starts.{Start, start}
 
@@ -59,7 +71,7 @@ shaped h A P e f =
       map = eqb-true (length (h .map)) (mapLength A P) (t .1);
     }
 
--- ---- 5
+-- ---- 5 and 10
 -- what is known of a live offset, at the alignment al
 pub record LiveBlock (al A P : ℕ) (b m : List ℕ) (o : ℕ) : Type 0 where
   pub inside : o < memoryLength A P
@@ -77,36 +89,52 @@ size-low al c = omega (arith, mul-add al c 1, mul-one al)
 size-high : (al c : ℕ) → c ≤ lastClass al → al * (c + 1) ≤ 511 + al
 size-high al c h = omega (arith, mul-add al c 1, mul-one al, mul-le-mul-left al h, mul-div-le 511 al)
 
+-- what its first three parts say, which a dead block passes too
+pub at-start-is : (al A P : ℕ) (b : List ℕ) (o : ℕ) → atStart al A P b o ≡ true
+    → (o < memoryLength A P) × (classAt A b o ≤ lastClass al) × (isStart (sizeAt al A b o) (o % 4096) ≡ true)
+at-start-is al A P b o e =
+    let p = ltb o (memoryLength A P) in
+    let q = leb (classAt A b o) (lastClass al) in
+    let u = both (p && q) (isStart (sizeAt al A b o) (o % 4096)) e in
+    let v = both p q (u .0) in
+    (ltb-true o (memoryLength A P) (v .0), leb-true (classAt A b o) (lastClass al) (v .1), u .1)
+
 -- what the live test says
 pub live-is : (al A P : ℕ) (b m : List ℕ) (o : ℕ) → 8 ≤ al → al ≤ 512 → live al A P b m o ≡ true
     → LiveBlock al A P b m o
 unfolding live
 live-is al A P b m o l h e =
-    let s = sizeAt al A b o in
-    let p = ltb o (memoryLength A P) in
-    let q = leb (classAt A b o) (lastClass al) in
-    let r = isStart s (o % 4096) in
-    let t = both (p && q && r) (isSet m (o / 4096) (blockNo s (o % 4096))) e in
-    let u = both (p && q) r (t .0) in
-    let v = both p q (u .0) in
-    let inside : o < memoryLength A P = ltb-true o (memoryLength A P) (v .0) in
-    let class : classAt A b o ≤ lastClass al = leb-true (classAt A b o) (lastClass al) (v .1) in
+    let t = both (atStart al A P b o) (isSet m (o / 4096) (blockNo (sizeAt al A b o) (o % 4096))) e in
+    let u = at-start-is al A P b o (t .0) in
+    let inside : o < memoryLength A P = u .0 in
     let low = size-low al (classAt A b o) in
-    let high = size-high al (classAt A b o) class in
-    let begins : Start s (o % 4096) = start s (o % 4096) (omega arith) (u .1) in
+    let high = size-high al (classAt A b o) (u .1) in
+    let begins : Start (sizeAt al A b o) (o % 4096) = start (sizeAt al A b o) (o % 4096) (omega arith) (u .2) in
     record {
       inside = inside;
       pool = omega arith;
-      class = class;
-      starts = u .1;
+      class = u .1;
+      starts = u .2;
       start = begins;
       ends = omega arith;
       set = t .1;
     }
 
--- the number, in its pool, of the live block at offset o; or 512, which is no block's
+-- the number, in its pool, of the live block at offset o; or, where there is none, 512, which no block has, and the
+-- number of the refusal
 unfoldable pub blockAt : ℕ → ℕ → ℕ → List ℕ → List ℕ → ℕ → ℕ
-blockAt al A P b m o = if live al A P b m o then blockNo (sizeAt al A b o) (o % 4096) else 512
+blockAt al A P b m o = if live al A P b m o then blockNo (sizeAt al A b o) (o % 4096) else 512 + deadNumber al A P b o
+
+-- by the bit of block k, which may start there
+module _ (al A P : ℕ) (b m : List ℕ) (o k : ℕ) (e : atStart al A P b o ≡ true)
+    (q : k ≡ blockNo (sizeAt al A b o) (o % 4096)) where
+  pub when-set : isSet m (o / 4096) k ≡ true → k ≡ blockAt al A P b m o
+  unfolding live blockAt
+  when-set f = rw (e, ← q, f)
+
+  pub when-clear : isSet m (o / 4096) k ≡ false → (n : ℕ) → n ≡ deadNumber al A P b o → 512 + n ≡ blockAt al A P b m o
+  unfolding live blockAt
+  when-clear f n d = rw (e, ← q, f, d)
 
 module _ (al A P : ℕ) (b m : List ℕ) (o : ℕ) (low : 8 ≤ al) (high : al ≤ 512) where
   -- what is known where it is a block's
@@ -115,19 +143,28 @@ module _ (al A P : ℕ) (b m : List ℕ) (o : ℕ) (low : 8 ≤ al) (high : al �
     pub number : liveNumber al A P b m o ≡ 0
     pub block : blockAt al A P b m o ≡ blockNo (sizeAt al A b o) (o % 4096)
 
-  pub found : (blockAt al A P b m o ≡ 512 → ⊥) → Found
+  pub found : blockAt al A P b m o < 512 → Found
   unfolding blockAt liveNumber
   found n = go (live al A P b m o) refl
     where
       go : (t : Bool) → live al A P b m o ≡ t → Found
       go true e = record { live-block = live-is al A P b m o low high e; number = rw e; block = rw e }
-      go false e = absurd (n (rw e))
+      go false e = absurd (omega (arith, rw e at n))
 
-  -- and where it is none
-  pub not-found : blockAt al A P b m o ≡ 512 → liveNumber al A P b m o ≡ 5
+  -- and where it is a refusal's: k is that number, and n what is above 512
+  pub record NotFound (k : ℕ) : Type 0 where
+    pub few : k < 4294967296
+    pub number : (n : ℕ) → 512 + n ≡ k → (n ≡ liveNumber al A P b m o) × (n ≢ 0)
+
+  pub not-found : (k : ℕ) → k ≡ blockAt al A P b m o → 512 ≤ k → NotFound k
   unfolding blockAt liveNumber
-  not-found z = go (live al A P b m o) refl
+  not-found k q z = go (live al A P b m o) refl (isBlock al A P b o) refl
     where
-      go : (t : Bool) → live al A P b m o ≡ t → liveNumber al A P b m o ≡ 5
-      go true e = let k = live-is al A P b m o low high e .start .few in absurd (omega (arith, k, rw e at z))
-      go false e = rw e
+      go : (t : Bool) → live al A P b m o ≡ t → (u : Bool) → isBlock al A P b o ≡ u → NotFound k
+      go true e u f = let s = live-is al A P b m o low high e .start .few in absurd (omega (arith, s, rw e at q))
+      go false e true f =
+          let v = rw (e, f) at q in
+          record { few = omega (arith, v); number = λ n p. (rw (e, f) (omega (arith, v)), omega (arith, v)) }
+      go false e false f =
+          let v = rw (e, f) at q in
+          record { few = omega (arith, v); number = λ n p. (rw (e, f) (omega (arith, v)), omega (arith, v)) }

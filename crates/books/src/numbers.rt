@@ -1,16 +1,17 @@
-// The tests that the calls begin with, each a number of 01 or 0: 1 and 2 of the shape, 5 of an offset.
+// The tests that the calls begin with, each a number or 0: 01's 1 and 2 of the shape, and of an offset 5, or 02's 10.
 use crate::blocks;
 use crate::words;
 ghost use mathlib.Core.Path.{_≡_};
-ghost use Prim.Native.Nat.{_*_, _≤_};
+ghost use mathlib.Core.Bool.{true};
+ghost use Prim.Native.Nat.{_+_, _*_, _^_, _≤_, _<_};
 ghost use lib.ListN.{length};
-ghost use Rattle.rules.specs.Books.{inRange, exact, at};
-ghost use Rattle.rules.specs.Blocks.{liveNumber};
+ghost use Rattle.rules.specs.Books.{inRange, exact, at, booksLength};
+ghost use Rattle.rules.specs.Blocks.{atStart, deadNumber, liveNumber};
 ghost use Rattle.rules.specs.Outcome.{heapOf};
 ghost use Rattle.rules.specs.Numbers.{fitNumber, shapeNumber};
 ghost use Rattle.books.specs.Known.{Shaped, LiveBlock, blockAt};
 
-// 01's numbers of a refusal, as the header names them.
+// The numbers of a refusal, as the header names them.
 pub const OUT_OF_RANGE: u32 = 1;
 
 pub const NOT_EXACT: u32 = 2;
@@ -19,11 +20,13 @@ pub const BAD_SIZE: u32 = 3;
 
 pub const NO_ROOM: u32 = 4;
 
-pub const NOT_LIVE: u32 = 5;
+pub const NO_BLOCK: u32 = 5;
 
 pub const DAMAGED: u32 = 6;
 
 pub const DOES_NOT_FIT: u32 = 7;
+
+pub const DEAD_BLOCK: u32 = 10;
 
 // So many arenas of so many pools make a heap.
 fn in_range(arenas: usize, pools: usize) -> bool
@@ -70,10 +73,38 @@ pub fn shape_number(memory: &[u8], books: &[u32], map: &[u64]) -> u32
     fit_number(memory, books, map, books[0] as usize, books[1] as usize)
 }
 
-// What is answered in the place of a block's number where there is no such block: no pool has so many.
-pub const NO_BLOCK: usize = 512;
+// The number of an offset where a block of its pool would start, but is not live: whether there is a block at all.
+fn dead_number(books: &[u32], arenas: usize, pools: usize, offset: usize) -> u32
+    requires { ⌜ (1 ≤ pools) × (arenas ≤ 16) × (arenas * pools ≤ 1024) × (length (now books) ≡ booksLength arenas pools)
+        × (atStart 8 arenas pools (now books) offset ≡ true) ⌝ }
+    ensures { λ r. ⌜ (r ≡ deadNumber 8 arenas pools (now (books .entry)) offset) × (r ≤ 10) ⌝ }
+{
+    let p = offset / 4096;
+    let next = words::word(
+        books,
+        words::RECORDS + 8 * arenas + 8 * p + words::NEXTOFFSET,
+    );
+    if (offset % 4096 < next) & words::is_carved(books, arenas, pools, p) {
+        return DEAD_BLOCK;
+    }
+    NO_BLOCK
+}
 
-// Which block of its pool is live at the offset, or NO_BLOCK. Whoever gives it back need not divide again.
+// What stands in the place of a block's number where an offset is refused: so much and the number of the refusal. No
+// pool has so many blocks.
+pub const REFUSED: usize = 512;
+
+const NOTHING_THERE: usize = REFUSED + NO_BLOCK as usize;
+
+// The number of the refusal that stands there.
+pub fn refusal(k: usize) -> u32
+    requires { ⌜ (512 ≤ k) × (k < 2 ^ 32) ⌝ }
+    ensures { λ r. ⌜ 512 + r ≡ k ⌝ }
+{
+    (k - REFUSED) as u32
+}
+
+// Which block of its pool is live at the offset, or the refusal. Whoever gives it back need not divide again.
 pub fn live_block(
     memory: &[u8],
     books: &[u32],
@@ -86,25 +117,25 @@ pub fn live_block(
     ensures { λ r. ⌜ r ≡ blockAt 8 arenas pools (now (books .entry)) (now (map .entry)) offset ⌝ }
 {
     if memory.len() <= offset {
-        return NO_BLOCK;
+        return NOTHING_THERE;
     }
     let class = blocks::class_at(books, arenas, offset);
     if blocks::LAST_CLASS < class {
-        return NO_BLOCK;
+        return NOTHING_THERE;
     }
     let size = blocks::size_of(class);
     let o = offset % 4096;
     if !blocks::is_start(size, o) {
-        return NO_BLOCK;
+        return NOTHING_THERE;
     }
     let k = blocks::block_no(size, o);
     if bits::is_set(map, offset / 4096, k) {
         return k;
     }
-    NO_BLOCK
+    REFUSED + dead_number(books, arenas, pools, offset) as usize
 }
 
-// 5, unless the offset is that of a live block.
+// 5 or 10, unless the offset is that of a live block.
 pub fn live_number(
     memory: &[u8],
     books: &[u32],
@@ -117,8 +148,9 @@ pub fn live_number(
     ensures { λ r. ⌜ (r ≡ liveNumber 8 arenas pools (now (books .entry)) (now (map .entry)) offset)
         × (r ≡ 0 → LiveBlock 8 arenas pools (now (books .entry)) (now (map .entry)) offset) ⌝ }
 {
-    if live_block(memory, books, map, arenas, pools, offset) == NO_BLOCK {
-        return NOT_LIVE;
+    let k = live_block(memory, books, map, arenas, pools, offset);
+    if REFUSED <= k {
+        return refusal(k);
     }
     0
 }

@@ -1,9 +1,9 @@
 // Where the words of the books stand, and reading them: the heads, and the words of a record by their place in it.
 // Records are eight words long, the arenas' first and then the pools'.
 ghost use mathlib.Core.Path.{_≡_};
-ghost use Prim.Native.Nat.{_^_, _<_};
+ghost use Prim.Native.Nat.{_*_, _/_, _^_, _<_, _≤_};
 ghost use lib.ListN.{length};
-ghost use Rattle.rules.specs.Books.{at, arenaWord, arena};
+ghost use Rattle.rules.specs.Books.{at, arenaWord, arena, carved};
 
 // The heads of the lists, and the first record.
 pub const USABLE_HEAD: usize = 2;
@@ -67,4 +67,21 @@ pub fn arena_word(books: &[u32], w: usize, a: usize) -> usize
     ensures { λ r. ⌜ (r ≡ arena (now (books .entry)) w a) × (r < 2 ^ 32) ⌝ }
 {
     word(books, RECORDS + 8 * a + w)
+}
+
+// The arena of a pool.
+pub fn arena_of(arenas: usize, pools: usize, p: usize) -> usize
+    requires { ⌜ (1 ≤ pools) × (p < arenas * pools) ⌝ }
+    ensures { λ r. ⌜ (r ≡ p / pools) × (r < arenas) ⌝ }
+{
+    p / pools
+}
+
+// Pool p is carved: it lies below its open arena's mark.
+pub fn is_carved(books: &[u32], arenas: usize, pools: usize, p: usize) -> bool
+    requires { ⌜ (1 ≤ pools) × (p < arenas * pools) × (arenas ≤ 16) × (arenaWord 0 arenas ≤ length (now books)) ⌝ }
+    ensures { λ r. ⌜ r ≡ carved pools (now (books .entry)) p ⌝ }
+{
+    let a = arena_of(arenas, pools, p);
+    (arena_word(books, OPEN, a) == 1) & (p % pools < arena_word(books, CARVE_MARK, a))
 }

@@ -1,5 +1,5 @@
-// Runs 01's "Cases on each side" and one of 02's W-214, a line for each: the calls of the case in order, with what each
-// answered.
+// Runs 01's "Cases on each side" and cases of 02's W-206 and W-214, a line for each: the calls of the case in order,
+// with what each answered.
 use books::words::FREEBLOCK;
 use books::words::MAXNEXTOFFSET;
 use books::words::NEXTOFFSET;
@@ -276,12 +276,29 @@ fn carries(memory: &mut Memory, books: &mut Books, map: &mut Map) {
     text(b"\n");
 }
 
-fn dead(memory: &mut Memory, books: &mut Books, map: &mut Map) {
-    format(b"Dead offset", memory, books, map, 16);
+fn no_block(memory: &mut Memory, books: &mut Books, map: &mut Map) {
+    format(b"No block", memory, books, map, 16);
     resize(memory, books, map, 48, 0);
     resize(memory, books, map, 48, 1);
     size(memory, books, map, 48);
     view(memory, books, map, 48, 1);
+    text(b"\n");
+}
+
+// A second give-back is of a dead block while the other block holds the arena open, and of none once it is released.
+fn dead_block(memory: &mut Memory, books: &mut Books, map: &mut Map) {
+    format(b"Dead block", memory, books, map, 16);
+    ask(memory, books, map, 8);
+    ask(memory, books, map, 8);
+    give_back(memory, books, map, 48);
+    give_back(memory, books, map, 48);
+    resize(memory, books, map, 48, 1);
+    write(memory, books, map, 48, b"paid");
+    size(memory, books, map, 48);
+    view(memory, books, map, 48, 1);
+    give_back(memory, books, map, 72);
+    give_back(memory, books, map, 56);
+    give_back(memory, books, map, 56);
     text(b"\n");
 }
 
@@ -360,7 +377,8 @@ fn of_16_pools() {
     k9(&mut memory, &mut books, &mut map);
     k10(&mut memory, &mut books, &mut map);
     carries(&mut memory, &mut books, &mut map);
-    dead(&mut memory, &mut books, &mut map);
+    no_block(&mut memory, &mut books, &mut map);
+    dead_block(&mut memory, &mut books, &mut map);
     rolls(&mut memory, &mut books, &mut map);
     stands_in(&mut memory, &mut books, &mut map);
 }

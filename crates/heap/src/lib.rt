@@ -70,7 +70,7 @@ pub fn format(
     }
 }
 
-// The number of the tests of a call on an offset: 1, 2 or 5, and 0 where the offset is live.
+// The number of the tests of a call on an offset: 1, 2, 5 or 10, and 0 where the offset is live.
 fn offset_test(memory: &[u8], books: &[u32], map: &[u64], offset: usize) -> u32
     ensures { λ r. ⌜ (r ≡ offsetTests 8 (heapOf (now (memory .entry)) (now (books .entry)) (now (map .entry))) offset)
         × (r ≡ 0 → Passed (now (memory .entry)) (now (books .entry)) (now (map .entry)) offset) ⌝ }

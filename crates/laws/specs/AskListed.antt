@@ -6,7 +6,7 @@ use mathlib.Core.Bool.{true, false, _||_, or-true}
 use mathlib.Core.List.{List, [], _∷_}
 use Prim.Native.Nat.{ℕ, suc, _+_, _*_, _-_, _≤_, _<_}
 use native.Mathlib.Nat.{mul-le-mul-right, mul-comm, div-add-mod', mod-lt}
-use native.Mathlib.Decide.{decLt}
+use native.Mathlib.Decide.{ℕ-discrete, decLt}
 use native.Mathlib.Omega.{arith}
 use lib.Dec.{eqb·suc-zero}
 use lib.ListN.{length}
@@ -29,7 +29,7 @@ use Rattle.laws.specs.Chains.{Blocks, room, taken, extended, block-ends}
 use Rattle.laws.specs.Sound.{home, Sound}
 use Rattle.laws.specs.Held.{Says, Held, held, sound, listed-is, home-listed, home-full, InClassOf, classed}
 use Rattle.laws.specs.Step.{BytesAfter, link-after, no-bytes}
-use Rattle.laws.specs.Paths.{quiet-same, quiet-link, hand-out, Asked, asked, count-on, insideRows, insideView, inner}
+use Rattle.laws.specs.Paths.{quiet-same, quiet-link, hand-out, grows-same, Asked, asked, count-on, insideRows, insideView, inner}
 
 -- a list whose head is a link to x goes on from x
 pub front-of : {l x most : ℕ} → l ≡ suc x → x < most → (front : ℕ → AskPlan) (otherwise : AskPlan)
@@ -180,7 +180,7 @@ module _ {al A P p : ℕ} {h : Heap} {r : Plain} {ps : List ℕ} (L : Aligned al
         asked (Follow p (startOf s k) (startOf s j)) r′
         (listed-first _ (rw (link-is, ne-eqb (startOf s j) 0 (omega arith))) (rw (link-is, ne-eqb (startOf s j) 0 (omega arith), spare-is j j-low j-dead)))
         (rw (lst, chn, more)) (rw (chn, more))
-        (sound {h = h′} L K′ F′) (quiet-same {r = r′}) (λ _. hand-out p k lp k-low refl k-dead refl refl)
+        (sound {h = h′} L K′ F′) (quiet-same {r = r′}) (λ _. hand-out p k lp k-low refl k-dead refl refl) (grows-same refl refl)
       where
         r′ : Plain
         r′ = r ▷ setChain p (j ∷ js) ▷ setLive p k true
@@ -234,6 +234,7 @@ module _ {al A P p : ℕ} {h : Heap} {r : Plain} {ps : List ℕ} (L : Aligned al
           (rw no-more))
           (rw (lst, chn, none, lt-ltb (r .virgin p) (capacity s) more)) (rw chn)
           (sound {h = h′} L K′ F′) (quiet-link L F′ p v 0 (I .class-low) more still-dead) (λ _. hand-out p k lp k-low refl k-dead refl refl)
+          (record { carved-still = λ y l e. e; ready-still = λ y e f. one-more y (ℕ-discrete y p) })
         where
           v : ℕ
           v = r .virgin p
@@ -243,6 +244,10 @@ module _ {al A P p : ℕ} {h : Heap} {r : Plain} {ps : List ℕ} (L : Aligned al
 
           h′ : Heap
           h′ = afterAsk al A P c (Ready p (startOf s k) (startOf s (r .virgin p))) h
+
+          one-more : (y : ℕ) → Dec (y ≡ p) → r .virgin y ≤ r′ .virgin y
+          one-more y (yes q) = rw (eq-eqb y p q, q) (omega arith)
+          one-more y (no q) = rw (ne-eqb y p q) (omega arith)
 
           ends : startOf s (r .virgin p) + s ≤ 4096
           ends = block-ends s (r .virgin p) (suc (r .virgin p)) (omega arith) more
@@ -287,7 +292,7 @@ module _ {al A P p : ℕ} {h : Heap} {r : Plain} {ps : List ℕ} (L : Aligned al
             pool-may-leave K c p lc lp (member .is),
           )) (rw no-more))
           (rw (lst, chn, none, le-ltb (r .virgin p) (capacity s) full)) (rw chn)
-          (sound {h = h′} L K′ F′) (quiet-same {r = r′}) (λ _. hand-out p k lp k-low refl k-dead refl refl)
+          (sound {h = h′} L K′ F′) (quiet-same {r = r′}) (λ _. hand-out p k lp k-low refl k-dead refl refl) (grows-same refl refl)
         where
           r′ : Plain
           r′ = r ▷ setChain p [] ▷ setLive p k true ▷ setListed c (erase p (r .listed c))

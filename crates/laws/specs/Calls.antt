@@ -2,7 +2,7 @@
 -- never damage, and view shows what is held; and what they leave to be held.
 -- Assumes nothing.
 use mathlib.Core.Path.{_≡_, refl, _∙_}
-use mathlib.Core.Logic.{_⊎_, inl, inr}
+use mathlib.Core.Logic.{_≢_, _⊎_, inl, inr}
 use mathlib.Core.Bool.{Bool, true, false, _&&_}
 use mathlib.Core.List.{List, [], _∷_}
 use Prim.Native.Nat.{ℕ, _+_, _/_, _≤_}
@@ -17,8 +17,18 @@ use Rattle.rules.specs.declared.BackPlan.{BackPlan}
 use Rattle.rules.specs.declared.BackPlan.the-variants.{Joins, Stays, Empties, Returns, Releases}
 use Rattle.rules.specs.Say.{if_then_else_}
 use Rattle.rules.specs.Books.{Heap}
-use Rattle.rules.specs.Blocks.{classOf, sizeOf, startOf, capacity, sizeAt, live, liveNumber}
-use Rattle.rules.specs.Outcome.{outcome, refused, answerOf, passing}
+use Rattle.rules.specs.Blocks.{
+  classOf,
+  sizeOf,
+  startOf,
+  capacity,
+  sizeAt,
+  live,
+  isBlock,
+  deadNumber,
+  liveNumber,
+}
+use Rattle.rules.specs.Outcome.{Outcome, outcome, refused, answerOf, passing}
 use Rattle.rules.specs.Ask.{askStep, askAnswer, afterAsk}
 use Rattle.rules.specs.GiveBack.{backStep, backAnswer, afterBack}
 use Rattle.rules.specs.View.{part}
@@ -79,25 +89,39 @@ shape-zero {al} {A} {P} {h} S =
     let K = shaped h A P (S .rule1 .range) (S .rule1 .lengths) in
     rw (le-ltb (length (h .books)) 2 (omega (arith, K .books)), S .rule1 .arenas-are, S .rule1 .pools-are, S .rule1 .range, S .rule1 .lengths)
 
+-- ---- the live test: 0 lets the call go on, and an offset that is not live gets 5 or 10
+module _ (al A P : ℕ) (b : List ℕ) (o : ℕ) where
+  pub dead-some : deadNumber al A P b o ≢ 0
+  dead-some = either (λ (k : ℕ). k ≢ 0) (isBlock al A P b o) 10 5 (λ _. omega arith) (λ _. omega arith)
+
+  pub live-test : {X : Type 0} (m : List ℕ) (refusal : ℕ → X) (rest : X)
+      → passing (inOrder 0 0 (liveNumber al A P b m o) 0) refusal rest
+      ≡ (if live al A P b m o then rest else refusal (deadNumber al A P b o))
+  unfolding liveNumber
+  live-test {X} m refusal rest = go (live al A P b m o) (isBlock al A P b o)
+    where
+      go : (t u : Bool) → passing (inOrder 0 0 (if t then 0 else if u then 10 else 5) 0) refusal rest
+          ≡ (if t then rest else refusal (if u then 10 else 5))
+      go true u = refl
+      go false true = refl
+      go false false = refl
+
 -- ---- view hands back what is held
 module _ {al A P : ℕ} {h : Heap} {r : Plain} (S : Sound al A P h r) (o : ℕ) where
   -- the tests of a call on an offset come to the live test
-  by-live : {X : Type 0} (refusal : ℕ → X) (rest : X)
+  pub by-live : {X : Type 0} (refusal : ℕ → X) (rest : X)
       → passing (offsetTests al h o) refusal rest
-      ≡ (if live al A P (h .books) (h .map) o then rest else refusal 5)
-  unfolding liveNumber
-  by-live refusal rest = rw (shape-zero S, S .rule1 .arenas-are, S .rule1 .pools-are) (go (live al A P (h .books) (h .map) o))
-    where
-      go : (b : Bool) → passing (inOrder 0 0 (if b then 0 else 5) 0) refusal rest ≡ (if b then rest else refusal 5)
-      go true = refl
-      go false = refl
+      ≡ (if live al A P (h .books) (h .map) o then rest else refusal (deadNumber al A P (h .books) o))
+  by-live refusal rest =
+      rw (shape-zero S, S .rule1 .arenas-are, S .rule1 .pools-are) (live-test al A P (h .books) o (h .map) refusal rest)
 
   pub view-is : view al h o ≡ holding al A P h o
   unfolding view holding
   view-is = by-live (λ k. []) (part o (blockSize al h o) (h .memory)) ∙ rw (S .rule1 .arenas-are)
 
   pub view-size-is : viewSize al h o
-      ≡ (if live al A P (h .books) (h .map) o then sizedOf 0 (sizeAt al A (h .books) o) else sizedOf 5 0)
+      ≡ (if live al A P (h .books) (h .map) o then sizedOf 0 (sizeAt al A (h .books) o)
+      else sizedOf (deadNumber al A P (h .books) o) 0)
   unfolding viewSize
   view-size-is = by-live (λ k. sizedOf k 0) (sizedOf 0 (blockSize al h o)) ∙ rw (S .rule1 .arenas-are)
 
@@ -186,12 +210,30 @@ size-number n = go (leb 1 n) (leb n 512) refl refl
     go true false e f = inr refl
     go false u e f = inr refl
 
+-- what holds of an ask that is refused for its size, of one that finds no room and of one that is done
+pub ask-cases : {al A P : ℕ} {h : Heap} {r : Plain} (L : Aligned al) (S : Sound al A P h r) (n : ℕ)
+    (F : Outcome → Type 0) → F (refused 3 h) → F (refused 4 h)
+    → (1 ≤ n → n ≤ 512 → askAnswer (plainAsk al P r (classOf al n)) .number ≡ 0 → F (ask al h n)) → F (ask al h n)
+unfolding askAnswer afterAsk
+ask-cases {al} {A} {P} {h} {r} L S n F small none asked = go (size-number n)
+  where
+    served : 1 ≤ n → n ≤ 512 → DoneOrNot al P r (classOf al n) → F (ask al h n)
+    served lo hi (inl z) = asked lo hi z
+    served lo hi (inr z) = rw (ask-is L S n lo hi, z .plan-is) none
+
+    go : ((1 ≤ n) × (n ≤ 512)) ⊎ (sizeNumber n ≡ 3) → F (ask al h n)
+    go (inr e) = rw (ask-size L S n e) small
+    go (inl t) = served (t .0) (t .1) (done-or-not al P r (classOf al n))
+
 -- ---- give back
--- every path of the plain heap is done, turns the block off and leaves the classes
-plain-back : (P : ℕ) (r : Plain) (p j o : ℕ)
+-- every path of the plain heap is done, turns the block off, leaves the classes and the virgin blocks, and the marks
+-- but for that of an arena that it releases
+pub plain-back : (P : ℕ) (r : Plain) (p j o : ℕ)
     → (backAnswer o (plainBack P r p j) ≡ answerOf 0 o)
     × (backPlain P r p j .live ≡ to p (to j false (r .live p)) (r .live))
     × (backPlain P r p j .class ≡ r .class)
+    × (backPlain P r p j .virgin ≡ r .virgin)
+    × ((backPlain P r p j .mark ≡ r .mark) ⊎ (backPlain P r p j .mark ≡ to (p / P) 0 (r .mark)))
 unfolding backAnswer
 plain-back P r p j o = go (none (r .chain p)) (eqb (count r p) 1) (eqb (free P r (p / P) + 1) P) (eqb (free P r (p / P)) 0)
   where
@@ -200,19 +242,22 @@ plain-back P r p j o = go (none (r .chain p)) (eqb (count r p) 1) (eqb (free P r
         (backAnswer o q ≡ answerOf 0 o)
         × (plainAfterBack P r p j q .live ≡ to p (to j false (r .live p)) (r .live))
         × (plainAfterBack P r p j q .class ≡ r .class)
+        × (plainAfterBack P r p j q .virgin ≡ r .virgin)
+        × ((plainAfterBack P r p j q .mark ≡ r .mark) ⊎ (plainAfterBack P r p j q .mark ≡ to (p / P) 0 (r .mark)))
 
     go : (t u v w : Bool)
         → Q (if t then Joins else (if u then (if v then Releases else (if w then Returns else Empties)) else Stays))
-    go true u v w = (refl, refl, refl)
-    go false false v w = (refl, refl, refl)
-    go false true true w = (refl, refl, refl)
-    go false true false true = (refl, refl, refl)
-    go false true false false = (refl, refl, refl)
+    go true u v w = (refl, refl, refl, refl, inl refl)
+    go false false v w = (refl, refl, refl, refl, inl refl)
+    go false true true w = (refl, refl, refl, refl, inr refl)
+    go false true false true = (refl, refl, refl, refl, inl refl)
+    go false true false false = (refl, refl, refl, refl, inl refl)
 
 module _ {al A P : ℕ} {h : Heap} {r : Plain} (L : Aligned al) (S : Sound al A P h r) (o : ℕ) where
-  pub back-dead : live al A P (h .books) (h .map) o ≡ false → giveBack al h o ≡ refused 5 h
-  unfolding giveBack liveNumber
-  back-dead e = rw (shape-zero S, S .rule1 .arenas-are, S .rule1 .pools-are, e)
+  pub back-dead : live al A P (h .books) (h .map) o ≡ false
+      → giveBack al h o ≡ refused (deadNumber al A P (h .books) o) h
+  unfolding giveBack
+  back-dead e = by-live S o (λ k. refused k h) _ ∙ rw e
 
   module _ (e : live al A P (h .books) (h .map) o ≡ true) where
     pub block-of : LiveAt al A P r o

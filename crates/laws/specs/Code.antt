@@ -11,7 +11,8 @@ use Rattle.rules.specs.declared.Answer.{Answer}
 use Rattle.rules.specs.declared.Sized.{Sized}
 use Rattle.rules.specs.declared.Rolled.{Rolled}
 use Rattle.rules.specs.Books.{Heap}
-use Rattle.rules.specs.Outcome.{Outcome, outcome}
+use Rattle.rules.specs.Say.{if_then_else_}
+use Rattle.rules.specs.Outcome.{Outcome, outcome, answerOf, refused}
 use Rattle.rules.specs.Numbers.{
   RollOutcome,
   rolledOf,
@@ -53,6 +54,7 @@ use Rattle.laws.specs.History.{
   pokes,
   Ledger,
   State,
+  released,
   numberOf,
   after,
   run,
@@ -62,6 +64,7 @@ use Rattle.laws.specs.Theorems.{
   begun,
   end,
   no-six,
+  back-twice,
   view-shows,
   stand-in-shows,
   entries,
@@ -179,6 +182,20 @@ module _ (h : Heap) (A P : ℕ) (ok : format h A P .answer .number ≡ 0) (es : 
   -- no call answers 6
   pub ran-no-six : Sixless ks
   ran-no-six = subst Sixless (sym (ran-is ran .1)) (sixless (begun h A P) es (no-six eight h A P ok es))
+
+  -- the customer's second give-back, right after one that is done: it is refused, with 5 if the first one released the
+  -- arena and otherwise with 10, and changes nothing
+  pub ran-twice : {once left : Heap} (o : ℕ) (first second : Answer)
+      → GiveBackPromise g once o first → first .number ≡ 0 → GiveBackPromise once left o second
+      → (second ≡ answerOf (if released g once o then 5 else 10) 0) × (left ≡ once)
+  ran-twice {once} o first second kept done again =
+      let q = ap (λ (x : Heap). giveBack 8 x o) (sym (ran-is ran .0)) ∙ sym kept in
+      let t = back-twice eight h A P ok es o (ap (λ (y : Outcome). y .answer .number) q ∙ done) in
+      let u = subst (λ (x : Heap). Refuses x once) (sym (ran-is ran .0)) (subst (Refuses (end eight h A P ok es .heap)) (ap (λ (y : Outcome). y .heap) q) t) in
+      (ap (λ (y : Outcome). y .answer) (again ∙ u), ap (λ (y : Outcome). y .heap) (again ∙ u))
+    where
+      Refuses : Heap → Heap → Type 0
+      Refuses x y = giveBack 8 y o ≡ refused (if released x y o then 5 else 10) y
 
   -- a roll call with room for it lists the ledger of the calls: offset and size of each block that is held, and how
   -- many there are

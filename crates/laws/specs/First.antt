@@ -21,7 +21,7 @@ use Rattle.rules.specs.declared.BackPlan.{BackPlan}
 use Rattle.rules.specs.declared.BackPlan.the-variants.{Damaged as Broken, Joins, Stays, Empties, Returns, Releases}
 use Rattle.rules.specs.Say.{if_then_else_}
 use Rattle.rules.specs.Books.{Heap, at, inRange, exact, arenas, pools, offsetOf}
-use Rattle.rules.specs.Blocks.{classOf, sizeOf, lastClass, putLink, classAt, sizeAt, live, liveNumber}
+use Rattle.rules.specs.Blocks.{classOf, sizeOf, lastClass, putLink, classAt, sizeAt, live, deadNumber, liveNumber}
 use Rattle.rules.specs.Outcome.{Outcome, heapOf, outcome, answerOf, done, refused, passing}
 use Rattle.rules.specs.Ask.{planAsk, takeFrom, arenaOf, spend, afterAsk, askAnswer, askStep}
 use Rattle.rules.specs.GiveBack.{afterBack, backStep}
@@ -48,7 +48,7 @@ use Rattle.laws.specs.Bytes.{sets-off}
 use Rattle.laws.specs.Chains.{first-outside, put-link-other}
 use Rattle.laws.specs.Sizes.{Aligned, size-low, size-high, has-class, class-fits}
 use Rattle.laws.specs.Taken.{spend-is}
-use Rattle.laws.specs.Calls.{size-number}
+use Rattle.laws.specs.Calls.{dead-some, size-number}
 use Rattle.laws.specs.Refused.{tested}
 
 -- memory m′ has the first bytes of m's pools
@@ -130,9 +130,9 @@ live-zero : (al A P : ℕ) (b m : List ℕ) (o : ℕ) → liveNumber al A P b m 
 unfolding liveNumber
 live-zero al A P b m o = go (live al A P b m o)
   where
-    go : (t : Bool) → _≡_ {A = ℕ} (if t then 0 else 5) 0 → t ≡ true
+    go : (t : Bool) → (if t then 0 else deadNumber al A P b o) ≡ 0 → t ≡ true
     go true z = refl
-    go false z = absurd (omega arith)
+    go false z = absurd (dead-some al A P b o z)
 
 room-zero : (wanted room : ℕ) → roomNumber wanted room ≡ 0 → wanted ≤ room
 unfolding roomNumber
@@ -168,13 +168,10 @@ module _ {al : ℕ} (L : Aligned al) (A P : ℕ) (h : Heap) (o : ℕ) where
       back-path (classAt A (h .books) o) _ (t .start .low) (omega (arith, t .start .ends, size-low L (classAt A (h .books) o) (t .class)))
 
   give-old-first : First (h .memory) (giveOld al A P h o .heap .memory)
-  unfolding giveOld liveNumber
-  give-old-first = go (live al A P (h .books) (h .map) o) refl
-    where
-      go : (t : Bool) → live al A P (h .books) (h .map) o ≡ t
-          → First (h .memory) (passing (if t then 0 else 5) (λ k. refused k h) (backStep al A P h o) .heap .memory)
-      go true e = back-live e
-      go false e = λ i l. refl
+  unfolding giveOld
+  give-old-first =
+      tested (λ (x : Outcome). First (h .memory) (x .heap .memory)) h (liveNumber al A P (h .books) (h .map) o) (backStep al A P h o)
+      (λ j i l. refl) (λ z. back-live (live-zero al A P (h .books) (h .map) o z))
 
 -- ---- an ask and a resize for n bytes
 half-heap : (al A P new : ℕ) (x : Outcome) → halfDone al A P new x .heap ≡ x .heap

@@ -1,9 +1,9 @@
 -- Who holds what on a sound heap: a live offset is held, and nothing is held where an ask or a moving resize hands a
 -- block out; nor does the ask write there.
 -- Assumes nothing.
-use mathlib.Core.Path.{_≡_, refl, sym, ap, _∙_}
-use mathlib.Core.Logic.{_≢_, _⊎_, inl, inr}
-use mathlib.Core.Bool.{Bool, true, false}
+use mathlib.Core.Path.{_≡_, refl, ap}
+use mathlib.Core.Logic.{_≢_}
+use mathlib.Core.Bool.{true}
 use mathlib.Core.List.{[]}
 use Prim.Native.Nat.{ℕ, _≤_}
 use native.Mathlib.Omega.{arith}
@@ -13,14 +13,13 @@ use Rattle.rules.specs.Blocks.{classOf, sizeOf, live}
 use Rattle.rules.specs.Outcome.{Outcome}
 use Rattle.rules.specs.View.{part}
 use Rattle.rules.specs.Ask.{askAnswer}
-use Rattle.rules.specs.Resize.{keeps}
-use Rattle.rules.specs.Numbers.{sizeNumber, ask, resize}
+use Rattle.rules.specs.Numbers.{ask, resize}
 use Rattle.laws.specs.Plain.{Plain, planAsk as plainAsk}
 use Rattle.laws.specs.Sizes.{Aligned, has-class}
 use Rattle.laws.specs.Sound.{Sound}
 use Rattle.laws.specs.Holding.{holding, live-rows, holding-more, holding-none, bytes-new}
-use Rattle.laws.specs.Calls.{DoneOrNot, done-or-not, ask-size, ask-done, ask-is, size-number, block-of}
-use Rattle.laws.specs.Resized.{resize-size, resize-dead, resize-keeps, resize-none, resize-moves}
+use Rattle.laws.specs.Calls.{dead-some, ask-done, ask-is, ask-cases}
+use Rattle.laws.specs.Resized.{resize-moves, resize-cases}
 
 module _ {al A P : ℕ} {h : Heap} {r : Plain} (L : Aligned al) (S : Sound al A P h r) where
   pub live-held : (o : ℕ) → live al A P (h .books) (h .map) o ≡ true → holding al A P h o ≢ []
@@ -34,12 +33,9 @@ module _ {al A P : ℕ} {h : Heap} {r : Plain} (L : Aligned al) (S : Sound al A 
   -- an ask that is done is for a size of a block, and the plain heap's is done
   done-asked : (n : ℕ) → ask al h n .answer .number ≡ 0
       → (1 ≤ n) × (n ≤ 512) × (askAnswer (plainAsk al P r (classOf al n)) .number ≡ 0)
-  done-asked n z = go (size-number n)
-    where
-      go : ((1 ≤ n) × (n ≤ 512)) ⊎ (sizeNumber n ≡ 3)
-          → (1 ≤ n) × (n ≤ 512) × (askAnswer (plainAsk al P r (classOf al n)) .number ≡ 0)
-      go (inl t) = (t .0, t .1, sym (ap (λ (y : Outcome). y .answer .number) (ask-is L S n (t .0) (t .1))) ∙ z)
-      go (inr e) = absurd (omega (arith, sym (ap (λ (y : Outcome). y .answer .number) (ask-size L S n e)) ∙ z))
+  done-asked n =
+      ask-cases L S n (λ (y : Outcome). y .answer .number ≡ 0 → (1 ≤ n) × (n ≤ 512) × (askAnswer (plainAsk al P r (classOf al n)) .number ≡ 0))
+      (λ z. absurd (omega arith)) (λ z. absurd (omega arith)) (λ lo hi z _. (lo, hi, z))
 
   pub ask-free : (n : ℕ) → ask al h n .answer .number ≡ 0 → holding al A P h (ask al h n .answer .offset) ≡ []
   ask-free n z = let t = done-asked n z in rw (ask-is L S n (t .0) (t .1)) (handed-free n (t .0) (t .1) (t .2))
@@ -55,26 +51,7 @@ module _ {al A P : ℕ} {h : Heap} {r : Plain} (L : Aligned al) (S : Sound al A 
 
   pub resize-free : (o n : ℕ) → resize al h o n .answer .number ≡ 0 → resize al h o n .answer .offset ≢ o
       → holding al A P h (resize al h o n .answer .offset) ≡ []
-  resize-free o n = by-size (size-number n)
-    where
-      Q : Outcome → Type 0
-      Q y = y .answer .number ≡ 0 → y .answer .offset ≢ o → holding al A P h (y .answer .offset) ≡ []
-
-      by-room : (lo : 1 ≤ n) (hi : n ≤ 512) (e : live al A P (h .books) (h .map) o ≡ true)
-          → keeps (sizeOf al (r .class (block-of L S o e .pool))) n ≡ false
-          → DoneOrNot al P r (classOf al n) → Q (resize al h o n)
-      by-room lo hi e q (inl z) = rw (resize-moves L S o n lo hi e z q) (λ _ _. handed-free n lo hi z)
-      by-room lo hi e q (inr z) = rw (resize-none L S o n lo hi e q (z .plan-is)) (λ k. absurd (omega arith))
-
-      by-keep : (lo : 1 ≤ n) (hi : n ≤ 512) (e : live al A P (h .books) (h .map) o ≡ true) (b : Bool)
-          → keeps (sizeOf al (r .class (block-of L S o e .pool))) n ≡ b → Q (resize al h o n)
-      by-keep lo hi e true q = rw (resize-keeps L S o n lo hi e q) (λ _ d. absurd (d refl))
-      by-keep lo hi e false q = by-room lo hi e q (done-or-not al P r (classOf al n))
-
-      by-live : (lo : 1 ≤ n) (hi : n ≤ 512) (b : Bool) → live al A P (h .books) (h .map) o ≡ b → Q (resize al h o n)
-      by-live lo hi false e = rw (resize-dead L S o n lo hi e) (λ k. absurd (omega arith))
-      by-live lo hi true e = by-keep lo hi e (keeps (sizeOf al (r .class (block-of L S o e .pool))) n) refl
-
-      by-size : ((1 ≤ n) × (n ≤ 512)) ⊎ (sizeNumber n ≡ 3) → Q (resize al h o n)
-      by-size (inl t) = by-live (t .0) (t .1) (live al A P (h .books) (h .map) o) refl
-      by-size (inr e) = rw (resize-size L S o n e) (λ k. absurd (omega arith))
+  resize-free o n =
+      resize-cases L S o n (λ (y : Outcome). y .answer .number ≡ 0 → y .answer .offset ≢ o → holding al A P h (y .answer .offset) ≡ [])
+      (λ z. absurd (omega arith)) (λ z. absurd (omega arith)) (λ z. absurd (dead-some al A P (h .books) o z)) (λ _ d. absurd (d refl))
+      (λ lo hi e q z. rw (resize-moves L S o n lo hi e z q) (λ _ _. handed-free n lo hi z))

@@ -3,7 +3,7 @@
 -- Assumes nothing.
 use mathlib.Core.Path.{_≡_, refl, sym, ap, _∙_}
 use mathlib.Core.Logic.{_≢_, _⊎_, inl, inr}
-use mathlib.Core.Bool.{Bool, true, false, true≢false}
+use mathlib.Core.Bool.{Bool, true, false, _&&_, true≢false}
 use mathlib.Core.List.{List, [], _∷_}
 use Prim.Native.Nat.{ℕ, zero, suc, _*_, _/_, _%_, _≤_, _<_}
 use native.Mathlib.Nat.{div-lt-iff-lt-mul}
@@ -26,11 +26,13 @@ use Rattle.rules.specs.Books.{
   unusedHead,
   classHead,
   openWord,
+  carveMark,
   freedHead,
   arenaWord,
   arena,
   poolWord,
   pool,
+  carved as is-carved,
 }
 use Rattle.rules.specs.Blocks.{sizeOf, lastClass, capacity}
 use Rattle.books.specs.Known.{Shaped, shaped, in-range}
@@ -42,7 +44,7 @@ use Rattle.laws.specs.Plain.{Plain, count, inUse, carved, free}
 use Rattle.laws.specs.Counting.{many-has}
 use Rattle.laws.specs.Sizes.{Aligned, capacity-high, class-low}
 use Rattle.laws.specs.Chains.{Blocks, live-below}
-use Rattle.laws.specs.Sound.{home, base, arenaRows, Shape, Carved, BitSet, Lists, InClass, PoolRule, Sound}
+use Rattle.laws.specs.Sound.{home, base, arenaRows, Shape, BitSet, Lists, InClass, PoolRule, Sound}
 
 -- ---- where a pool and an arena belong
 module _ (al P : ℕ) (r : Plain) (n : ℕ) where
@@ -134,6 +136,16 @@ opened mark = if eqb mark 0 then 0 else 1
 
 abbrev pub freeWord : ℕ → Plain → ℕ → ℕ
 freeWord P r a = if eqb (r .mark a) 0 then 0 else free P r a
+
+-- so the same pools are carved in the books b and in the plain heap
+carved-by : (P : ℕ) (b : List ℕ) (r : Plain) (n : ℕ) → arena b openWord (n / P) ≡ opened (r .mark (n / P))
+    → arena b carveMark (n / P) ≡ r .mark (n / P) → is-carved P b n ≡ carved P r n
+unfolding is-carved
+carved-by P b r n e f = rw (e, f) (go (r .mark (n / P)))
+  where
+    go : (mark : ℕ) → (eqb (opened mark) 1 && ltb (n % P) mark) ≡ ltb (n % P) mark
+    go zero = sym (le-ltb (n % P) 0 (omega arith))
+    go (suc mark) = rw (eqb·suc-zero mark)
 
 -- rule 8 of pool n; and its second half, that the pool is in a class
 abbrev pub PoolRuleOf : ℕ → View → List ℕ → Plain → ℕ → Type 0
@@ -236,7 +248,7 @@ held {al} {A} {P} {h} {r} S =
           count-is = S .rule7 n l;
           class-is = S .classes n l;
           used = λ j e. used′ n j l e (decLe 512 j);
-          rule = λ c. rw (S .rule7 n l, S .classes n l) at (S .rule8 n l (carved-is n l c));
+          rule = λ c. rw (S .rule7 n l, S .classes n l) at (S .rule8 n l (carved-is n l ∙ c));
           home-is = refl;
         };
         bits = S .bits;
@@ -266,20 +278,15 @@ held {al} {A} {P} {h} {r} S =
               base-is = refl;
             }
 
-    carved-is : (n : ℕ) → n < A * P → carved P r n ≡ true → Carved P (h .books) n
-    carved-is n l c =
-        let u : n / P < A = arena-low A P n (K .pools-low) l in
-        let t : n % P < r .mark (n / P) = ltb-true (n % P) (r .mark (n / P)) c in
-        let d : r .mark (n / P) ≢ 0 = (λ z. absurd (omega arith)) in
-        record { opened = arena-is (n / P) u .open-is ∙ rw (ne-eqb (r .mark (n / P)) 0 d); below = rw (S .marks (n / P) u) t }
+    carved-is : (n : ℕ) → n < A * P → is-carved P (h .books) n ≡ carved P r n
+    carved-is n l = let t = arena-is (n / P) (arena-low A P n (K .pools-low) l) in carved-by P (h .books) r n (t .open-is) (t .mark-is)
 
     used′ : (n j : ℕ) → n < A * P → r .live n j ≡ true → Dec (512 ≤ j)
         → (carved P r n ≡ true) × (r .class n ≤ lastClass al)
     used′ n j l e (yes d) = absurd (true≢false (sym e ∙ S .beyond n j l d))
     used′ n j l e (no d) =
         let t = S .rule5 n j l (omega arith) (S .bits n j l (omega arith) ∙ e) in
-        let u : n / P < A = arena-low A P n (K .pools-low) l in
-        (lt-ltb (n % P) (r .mark (n / P)) (rw (S .marks (n / P) u) at (t .in-carved .below)), rw (S .classes n l) at (t .in-class))
+        (sym (carved-is n l) ∙ t .in-carved, rw (S .classes n l) at (t .in-class))
 
 -- ---- rule 8
 -- a pool of a class below 64 keeps its second half
@@ -339,11 +346,15 @@ module _ {al A P : ℕ} {h : Heap} {U : View} {r : Plain} (L : Aligned al)
   mark-word : (a : ℕ) → a < A → arena (h .books) 1 a ≡ r .mark a
   mark-word a l = K .arenas 1 a (omega arith) l ∙ F .arenas a l .mark-is
 
-  open-word : (a : ℕ) → a < A → arena (h .books) 0 a ≡ opened (r .mark a)
+  pub open-word : (a : ℕ) → a < A → arena (h .books) 0 a ≡ opened (r .mark a)
   open-word a l = K .arenas 0 a (omega arith) l ∙ F .arenas a l .open-is
 
   free-word : (a : ℕ) → a < A → arena (h .books) 2 a ≡ freeWord P r a
   free-word a l = K .arenas 2 a (omega arith) l ∙ F .arenas a l .free-is
+
+  -- the same pools are carved
+  pub carved-word : (n : ℕ) → n < A * P → is-carved P (h .books) n ≡ carved P r n
+  carved-word n l = let u = arena-low A P n pools-low l in carved-by P (h .books) r n (open-word (n / P) u) (mark-word (n / P) u)
 
   class-word : (n : ℕ) → n < A * P → pool A (h .books) 4 n ≡ r .class n
   class-word n l = K .pools 4 n (omega arith) l ∙ F .pools n l .class-is
@@ -370,11 +381,8 @@ module _ {al A P : ℕ} {h : Heap} {U : View} {r : Plain} (L : Aligned al)
       let on : r .live n j ≡ true = sym (F .bits n j l u) ∙ e in
       let c = F .pools n l .used j on in
       let I = in-class L F n j l on in
-      let v : n / P < A = arena-low A P n pools-low l in
-      let t : n % P < r .mark (n / P) = ltb-true (n % P) (r .mark (n / P)) (c .0) in
-      let d : r .mark (n / P) ≢ 0 = (λ z. absurd (omega arith)) in
       record {
-        in-carved = record { opened = open-word (n / P) v ∙ rw (ne-eqb (r .mark (n / P)) 0 d); below = rw (mark-word (n / P) v) t };
+        in-carved = carved-word n l ∙ c .0;
         in-class = rw (class-word n l) (c .1);
         at-block = rw (class-word n l) (omega (arith, live-below (I .blocks) j on, I .blocks .fits));
       }
@@ -433,7 +441,7 @@ module _ {al A P : ℕ} {h : Heap} {U : View} {r : Plain} (L : Aligned al)
         rule6 = lists;
         rule7 = count-word;
         rule8 = λ n l c. rw (count-word n l, class-word n l, K .pools 1 n (omega arith) l, K .pools 5 n (omega arith) l, K .pools 6 n (omega arith) l)
-            (F .pools n l .rule (lt-ltb (n % P) (r .mark (n / P)) (rw (mark-word (n / P) (arena-low A P n pools-low l)) at (c .below))));
+            (F .pools n l .rule (sym (carved-word n l) ∙ c));
       }
     where
       -- a live block has a number below 506

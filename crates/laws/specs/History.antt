@@ -3,14 +3,14 @@
 -- Assumes nothing.
 use mathlib.Core.Logic.{_≢_}
 use mathlib.Core.Path.{_≡_}
-use mathlib.Core.Bool.{true, not}
+use mathlib.Core.Bool.{Bool, true, not, _&&_, _||_}
 use mathlib.Core.List.{List, [], _∷_, _++_}
 use Prim.Native.Nat.{ℕ, zero, suc, _+_, _*_, _/_, _<_, min}
 use lib.Dec.{ltb, eqb}
 use lib.ListN.{length, set, take, drop}
 use Rattle.rules.specs.Say.{if_then_else_}
-use Rattle.rules.specs.Books.{Heap, class, pool, offsetOf}
-use Rattle.rules.specs.Blocks.{classOf, sizeOf, startOf, capacity, live}
+use Rattle.rules.specs.Books.{Heap, arenas, pools, openWord, arena, class, pool, offsetOf}
+use Rattle.rules.specs.Blocks.{classOf, sizeOf, startOf, capacity, classAt, live}
 use Rattle.rules.specs.Outcome.{heapOf}
 use Rattle.rules.specs.View.{part}
 use Rattle.rules.specs.Numbers.{format, ask, giveBack, resize, viewSize, write, rollCall}
@@ -42,6 +42,17 @@ pub record State : Type 0 where
 -- 6 and changes the heap, would leave the old one; but no history meets one: `no-six`)
 abbrev pub noted : ℕ → Heap → Ledger → Ledger → State
 noted number h old new = record { heap = h; ledger = if eqb number 0 then new else old }
+
+-- ---- of an offset o: the class of its pool; whether its arena is open; whether that is released from the heap h to
+-- the heap h′, being open before and not after
+abbrev pub poolClass : Heap → ℕ → ℕ
+poolClass h o = classAt (arenas h) (h .books) o
+
+abbrev pub inOpenArena : Heap → ℕ → Bool
+inOpenArena h o = eqb (arena (h .books) openWord (o / 4096 / pools h)) 1
+
+abbrev pub released : Heap → Heap → ℕ → Bool
+released h h′ o = inOpenArena h o && not (inOpenArena h′ o)
 
 module _ (al : ℕ) where
   -- the number that an event's call answers; view and the stand-in answer a part and no number, and a holder's byte is
@@ -97,6 +108,14 @@ module _ (al : ℕ) where
         ledger = to o (set (x .ledger o) d v) (x .ledger);
       }
       else x
+
+  -- what an event can do to the dead block at o: it is handed out again, its pool is set to another class, or its arena
+  -- is released. (A format that is done releases every open arena)
+  unfoldable pub ended : State → Event → ℕ → Bool
+  ended x e o =
+      not (eqb (length (after x e .ledger o)) 0)
+      || not (eqb (poolClass (after x e .heap) o) (poolClass (x .heap) o))
+      || released (x .heap) (after x e .heap) o
 
   -- every event of a history, one after the other
   unfoldable pub run : State → List Event → State

@@ -39,6 +39,7 @@ pub mod First
 pub mod StandIn
 pub mod History
 pub mod Tied
+pub mod Dead
 pub mod Theorems
 pub mod Reached
 pub mod Code

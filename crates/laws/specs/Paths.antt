@@ -9,7 +9,7 @@ use mathlib.Core.List.{List}
 use Prim.Native.Nat.{ℕ, suc, _+_, _*_, _/_, _%_, _≤_, _<_}
 use native.Mathlib.Decide.{ℕ-discrete}
 use native.Mathlib.Omega.{arith}
-use lib.Dec.{eqb}
+use lib.Dec.{ltb, eqb}
 use lib.ListN.{length}
 use borrow.Author.Tests.{eq-eqb, ne-eqb, lt-ltb}
 use Rattle.rules.specs.declared.AskPlan.{AskPlan}
@@ -25,6 +25,7 @@ use Rattle.laws.specs.Plain.{
   Plain,
   count,
   inUse,
+  carved,
   free,
   setLive,
   planAsk as plainAsk,
@@ -112,6 +113,20 @@ hand-out p k l u cls dead e f =
       kind = inl cls;
     }
 
+-- ---- the blocks of the carved pools, live or dead: a carved pool stays one, and no block of it is virgin again,
+-- unless the pool is set to another class
+pub record Grows (A P : ℕ) (r r′ : Plain) : Type 0 where
+  pub carved-still : (y : ℕ) → y < A * P → carved P r y ≡ true → carved P r′ y ≡ true
+  pub ready-still : (y : ℕ) → carved P r y ≡ true → r′ .class y ≡ r .class y → r .virgin y ≤ r′ .virgin y
+
+-- marks and virgin blocks stand
+pub grows-same : {A P : ℕ} {r r′ : Plain} → r′ .mark ≡ r .mark → r′ .virgin ≡ r .virgin → Grows A P r r′
+grows-same {P = P} e f =
+    record {
+      carved-still = λ y l c. ap (λ (g : ℕ → ℕ). ltb (y % P) (g (y / P))) e ∙ c;
+      ready-still = λ y c d. omega (arith, ap (λ (g : ℕ → ℕ). g y) f);
+    }
+
 -- ---- ask, for class c
 pub record Asked (al A P : ℕ) (h : Heap) (r : Plain) (c : ℕ) : Type 0 where
   pub plan-is : planAsk al A P h c ≡ plainAsk al P r c
@@ -120,12 +135,14 @@ pub record Asked (al A P : ℕ) (h : Heap) (r : Plain) (c : ℕ) : Type 0 where
       (plainAfterAsk al P r c (plainAsk al P r c))
   pub hand : askAnswer (plainAsk al P r c) .number ≡ 0
       → Hand al A P r (plainAfterAsk al P r c (plainAsk al P r c)) c (askAnswer (plainAsk al P r c) .offset)
+  pub grows : Grows A P r (plainAfterAsk al P r c (plainAsk al P r c))
 
 pub asked : {al A P : ℕ} {h : Heap} {r : Plain} {c : ℕ} (q : AskPlan) (r′ : Plain) → planAsk al A P h c ≡ q
     → plainAsk al P r c ≡ q → plainAfterAsk al P r c q ≡ r′
     → Sound al A P (afterAsk al A P c q h) r′ → Quiet al A P (h .memory) (afterAsk al A P c q h .memory) r′
-    → (askAnswer q .number ≡ 0 → Hand al A P r r′ c (askAnswer q .offset)) → Asked al A P h r c
-asked q r′ e f g S Q H = record { plan-is = e ∙ sym f; sound = rw (f, g) S; quiet = rw (f, g) Q; hand = rw (f, g) H }
+    → (askAnswer q .number ≡ 0 → Hand al A P r r′ c (askAnswer q .offset)) → Grows A P r r′ → Asked al A P h r c
+asked q r′ e f g S Q H G =
+    record { plan-is = e ∙ sym f; sound = rw (f, g) S; quiet = rw (f, g) Q; hand = rw (f, g) H; grows = rw (f, g) G }
 
 -- ---- give back, of block j of pool p
 pub record Backed (al A P : ℕ) (h : Heap) (r : Plain) (p j : ℕ) : Type 0 where

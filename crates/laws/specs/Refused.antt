@@ -17,7 +17,7 @@ use Rattle.rules.specs.declared.BackPlan.{BackPlan}
 use Rattle.rules.specs.declared.BackPlan.the-variants.{Damaged as Broken, Joins, Stays, Empties, Returns, Releases}
 use Rattle.rules.specs.Say.{if_then_else_}
 use Rattle.rules.specs.Books.{Heap, inRange, exact, arenas, pools}
-use Rattle.rules.specs.Blocks.{sizeAt, live, liveNumber}
+use Rattle.rules.specs.Blocks.{sizeAt, live, isBlock, liveNumber}
 use Rattle.rules.specs.Outcome.{Outcome, outcome, answerOf, done, refused, passing}
 use Rattle.rules.specs.Ask.{askAnswer, afterAsk, asked, askStep}
 use Rattle.rules.specs.GiveBack.{backAnswer, afterBack, givenBack, backStep}
@@ -90,9 +90,9 @@ back-step : (al A P : ℕ) (h : Heap) (o : ℕ) → Unchanged h (backStep al A P
 unfolding backStep
 back-step al A P h o = back-path al A P _ h o _
 
--- a give-back that is not done met 5 at its live test, or 6 on its path
-abbrev pub FiveOrSix : ℕ → Type 0
-FiveOrSix k = (k ≡ 5) ⊎ (k ≡ 6)
+-- a give-back that is not done met 5 or 10 at its live test, or 6 on its path
+abbrev pub FiveTenOrSix : ℕ → Type 0
+FiveTenOrSix k = (k ≡ 5) ⊎ (k ≡ 10) ⊎ (k ≡ 6)
 
 path-six : (o : ℕ) (q : BackPlan) → backAnswer o q .number ≢ 0 → backAnswer o q .number ≡ 6
 unfolding backAnswer
@@ -104,14 +104,18 @@ path-six o Returns d = absurd (d refl)
 path-six o Releases d = absurd (d refl)
 
 old-meets : (al A P : ℕ) (h : Heap) (o : ℕ)
-    → giveOld al A P h o .answer .number ≢ 0 → FiveOrSix (giveOld al A P h o .answer .number)
+    → giveOld al A P h o .answer .number ≢ 0 → FiveTenOrSix (giveOld al A P h o .answer .number)
 unfolding giveOld backStep liveNumber
-old-meets al A P h o = go (live al A P (h .books) (h .map) o)
+old-meets al A P h o = go (live al A P (h .books) (h .map) o) (isBlock al A P (h .books) o)
   where
-    go : (b : Bool) → passing (if b then 0 else 5) (λ k. refused k h) (backStep al A P h o) .answer .number ≢ 0
-        → FiveOrSix (passing (if b then 0 else 5) (λ k. refused k h) (backStep al A P h o) .answer .number)
-    go false d = inl refl
-    go true d = inr (path-six o _ d)
+    Q : ℕ → Type 0
+    Q k = k ≢ 0 → FiveTenOrSix k
+
+    go : (b u : Bool)
+        → Q (passing (if b then 0 else if u then 10 else 5) (λ k. refused k h) (backStep al A P h o) .answer .number)
+    go false false d = inl refl
+    go false true d = inr (inl refl)
+    go true u d = inr (inr (path-six o _ d))
 
 pub format-refused : (h : Heap) (A P : ℕ) → Unchanged h (format h A P)
 unfolding format
@@ -145,7 +149,7 @@ module _ (al : ℕ) (h : Heap) where
       go (suc k) v n = refl
 
   -- ---- the half-done resize x of o to n: 6 with the new offset, and the ask and the copy stand, because the give-back
-  -- over them meets 5 or 6
+  -- over them meets 5, 10 or 6
   abbrev A : ℕ
   A = arenas h
 
@@ -157,7 +161,7 @@ module _ (al : ℕ) (h : Heap) where
     pub answers : x .answer ≡ answerOf 6 (askStep al A P h n .answer .offset)
     pub stands : x .heap
         ≡ copy o (askStep al A P h n .answer .offset) (min n (sizeAt al A (h .books) o)) (askStep al A P h n .heap)
-    pub meets : FiveOrSix (giveOld al A P (x .heap) o .answer .number)
+    pub meets : FiveTenOrSix (giveOld al A P (x .heap) o .answer .number)
 
   module _ (o n : ℕ) where
     -- what the ask leaves, and the copy; and the give-back that comes after them
@@ -225,7 +229,7 @@ shape-six h = not-six (ltb (length (h .books)) 2) 2 _ (omega arith) (fit-six h (
 
 live-six : (al A P : ℕ) (b m : List ℕ) (o : ℕ) → liveNumber al A P b m o ≢ 6
 unfolding liveNumber
-live-six al A P b m o = not-six (live al A P b m o) 0 5 (omega arith) (omega arith)
+live-six al A P b m o = not-six (live al A P b m o) 0 _ (omega arith) (not-six (isBlock al A P b o) 10 5 (omega arith) (omega arith))
 
 room-six : (wanted room : ℕ) → roomNumber wanted room ≢ 6
 unfolding roomNumber

@@ -3,7 +3,7 @@
 -- is still the block that it was.
 -- Assumes nothing.
 use mathlib.Core.Path.{_≡_, refl, sym, ap, ap₂, _∙_, subst}
-use mathlib.Core.Logic.{_≢_, inl, inr}
+use mathlib.Core.Logic.{_≢_, _⊎_, inl, inr}
 use mathlib.Core.Bool.{Bool, true, false}
 use mathlib.Core.List.{List, [], _++_}
 use Prim.Native.Nat.{ℕ, _+_, _≤_, min}
@@ -15,7 +15,7 @@ use lib.Seq.{sets, length-sets, length-take-le, take-take}
 use borrow.Author.Tests.{eq-eqb, ne-eqb, le-leb}
 use Rattle.rules.specs.declared.AskPlan.the-variants.{NoRoom}
 use Rattle.rules.specs.Books.{Heap}
-use Rattle.rules.specs.Blocks.{classOf, sizeOf, live, liveNumber, sizeAt}
+use Rattle.rules.specs.Blocks.{classOf, sizeOf, live, deadNumber, liveNumber, sizeAt}
 use Rattle.rules.specs.Outcome.{Outcome, heapOf, refused, done, answerOf}
 use Rattle.rules.specs.Ask.{askAnswer, afterAsk, askStep}
 use Rattle.rules.specs.Resize.{keeps, giveOld, moved, resizeStep}
@@ -47,7 +47,7 @@ use Rattle.laws.specs.Holding.{
   holding-others,
   Leaves,
 }
-use Rattle.laws.specs.Calls.{shape-zero, DoneOrNot, done-or-not, ask-done, block-of, back-is, back-leaves}
+use Rattle.laws.specs.Calls.{shape-zero, live-test, DoneOrNot, done-or-not, ask-done, size-number, block-of, back-is, back-leaves}
 use Rattle.laws.specs.Written.{written-leaves}
 use Rattle.laws.specs.History.{carried}
 
@@ -57,9 +57,12 @@ module _ {al A P : ℕ} {h : Heap} {r : Plain} (L : Aligned al) (S : Sound al A 
   resize-size e = rw (shape-zero S, e)
 
   module _ (lo : 1 ≤ n) (hi : n ≤ 512) where
-    pub resize-dead : live al A P (h .books) (h .map) o ≡ false → resize al h o n ≡ refused 5 h
-    unfolding resize sizeNumber liveNumber
-    resize-dead e = rw (shape-zero S, le-leb 1 n lo, le-leb n 512 hi, S .rule1 .arenas-are, S .rule1 .pools-are, e)
+    pub resize-dead : live al A P (h .books) (h .map) o ≡ false
+        → resize al h o n ≡ refused (deadNumber al A P (h .books) o) h
+    unfolding resize sizeNumber
+    resize-dead e =
+        rw (shape-zero S, le-leb 1 n lo, le-leb n 512 hi, S .rule1 .arenas-are, S .rule1 .pools-are)
+        (live-test al A P (h .books) o (h .map) (λ k. refused k h) _ ∙ rw e)
 
     module _ (e : live al A P (h .books) (h .map) o ≡ true) where
       abbrev pub t : LiveAt al A P r o
@@ -133,11 +136,11 @@ module _ {al A P : ℕ} {h : Heap} {r : Plain} (L : Aligned al) (S : Sound al A 
             written-leaves L (D .sound) new new-at (copied .memory) (length-sets (asked .memory) new text)
             (λ i f. sets-off (asked .memory) new text i (outside-less text-fits f))
 
-        copied-sound : Sound al A P copied (askPlain al P r n)
+        pub copied-sound : Sound al A P copied (askPlain al P r n)
         copied-sound = copy .sound
 
         -- ---- the old block is given back
-        still-live : live al A P (copied .books) (copied .map) o ≡ true
+        pub still-live : live al A P (copied .books) (copied .map) o ≡ true
         still-live = rows-live L copied-sound o u
 
         given : giveBack al copied o .answer .number ≡ 0
@@ -261,3 +264,32 @@ module _ {al A P : ℕ} {h : Heap} {r : Plain} (L : Aligned al) (S : Sound al A 
         by-keep : (b : Bool) → keeps (liveSize (t e)) n ≡ b → Q (resize al h o n)
         by-keep true q = rw (resize-keeps e q, q) (refl, S)
         by-keep false q = by-room q (done-or-not al P r (classOf al n))
+
+-- what holds of a resize that is refused for its size, for room, or because its offset is not live; of one that keeps
+-- the block, and of one that moves it
+pub resize-cases : {al A P : ℕ} {h : Heap} {r : Plain} (L : Aligned al) (S : Sound al A P h r) (o n : ℕ)
+    (F : Outcome → Type 0) → F (refused 3 h) → F (refused 4 h)
+    → F (refused (deadNumber al A P (h .books) o) h) → F (done o h)
+    → ((lo : 1 ≤ n) (hi : n ≤ 512) (e : live al A P (h .books) (h .map) o ≡ true)
+    → keeps (liveSize (block-of L S o e)) n ≡ false → askAnswer (plainAsk al P r (classOf al n)) .number ≡ 0
+    → F (resize al h o n))
+    → F (resize al h o n)
+resize-cases {al} {A} {P} {h} {r} L S o n F small none dead kept moves = by-size (size-number n)
+  where
+    by-room : (lo : 1 ≤ n) (hi : n ≤ 512) (e : live al A P (h .books) (h .map) o ≡ true)
+        → keeps (liveSize (block-of L S o e)) n ≡ false → DoneOrNot al P r (classOf al n) → F (resize al h o n)
+    by-room lo hi e q (inl z) = moves lo hi e q z
+    by-room lo hi e q (inr z) = rw (resize-none L S o n lo hi e q (z .plan-is)) none
+
+    by-keep : (lo : 1 ≤ n) (hi : n ≤ 512) (e : live al A P (h .books) (h .map) o ≡ true) (b : Bool)
+        → keeps (liveSize (block-of L S o e)) n ≡ b → F (resize al h o n)
+    by-keep lo hi e true q = rw (resize-keeps L S o n lo hi e q) kept
+    by-keep lo hi e false q = by-room lo hi e q (done-or-not al P r (classOf al n))
+
+    by-live : (lo : 1 ≤ n) (hi : n ≤ 512) (b : Bool) → live al A P (h .books) (h .map) o ≡ b → F (resize al h o n)
+    by-live lo hi false e = rw (resize-dead L S o n lo hi e) dead
+    by-live lo hi true e = by-keep lo hi e (keeps (liveSize (block-of L S o e)) n) refl
+
+    by-size : ((1 ≤ n) × (n ≤ 512)) ⊎ (sizeNumber n ≡ 3) → F (resize al h o n)
+    by-size (inr e) = rw (resize-size L S o n e) small
+    by-size (inl t) = by-live (t .0) (t .1) (live al A P (h .books) (h .map) o) refl

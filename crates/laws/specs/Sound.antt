@@ -5,7 +5,7 @@ use mathlib.Core.Path.{_≡_}
 use mathlib.Core.Logic.{_⊎_}
 use mathlib.Core.Bool.{Bool, true, false}
 use mathlib.Core.List.{List}
-use Prim.Native.Nat.{ℕ, _*_, _/_, _%_, _≤_, _<_}
+use Prim.Native.Nat.{ℕ, _*_, _/_, _≤_, _<_}
 use lib.Dec.{ltb, eqb}
 use lib.ListN.{length}
 use Rattle.rules.specs.Say.{if_then_else_}
@@ -38,6 +38,7 @@ use Rattle.rules.specs.Books.{
   noClass,
   poolWord,
   pool,
+  carved as is-carved,
 }
 use Rattle.rules.specs.Blocks.{sizeOf, lastClass, lastStart, capacity}
 use Rattle.laws.specs.Plain.{Plain, count as live-blocks, inUse, carved, free}
@@ -91,14 +92,9 @@ pub record Open (P : ℕ) (b : List ℕ) (r : Plain) (a : ℕ) : Type 0 where
   pub mark-high : arena b carveMark a ≤ P
   pub free-pools : arena b freePools a ≡ free P r a
 
--- "A carved pool lies below an open (1) arena's mark"
-pub record Carved (P : ℕ) (b : List ℕ) (n : ℕ) : Type 0 where
-  pub opened : arena b openWord (n / P) ≡ 1
-  pub below : n % P < arena b carveMark (n / P)
-
 -- "(5) no set bit in a pool not carved or at no block of its class": what a set bit, block k's of pool n, says
 pub record BitSet (al A P : ℕ) (b : List ℕ) (n k : ℕ) : Type 0 where
-  pub in-carved : Carved P b n
+  pub in-carved : is-carved P b n ≡ true
   pub in-class : pool A b class n ≤ lastClass al
   pub at-block : k < capacity (sizeOf al (pool A b class n))
 
@@ -154,7 +150,7 @@ pub record Sound (al A P : ℕ) (h : Heap) (r : Plain) : Type 0 where
   pub rule5 : (n k : ℕ) → n < A * P → k < 512 → isSet (h .map) n k ≡ true → BitSet al A P (h .books) n k
   pub rule6 : Lists al A P (h .books) r
   pub rule7 : (n : ℕ) → n < A * P → pool A (h .books) count n ≡ live-blocks r n
-  pub rule8 : (n : ℕ) → n < A * P → Carved P (h .books) n
+  pub rule8 : (n : ℕ) → n < A * P → is-carved P (h .books) n ≡ true
       → PoolRule al n (h .memory) (pool A (h .books) count n) (pool A (h .books) freeblock n)
       (pool A (h .books) class n) (pool A (h .books) nextoffset n) (pool A (h .books) maxnextoffset n)
       (r .live n) (r .chain n) (r .virgin n)

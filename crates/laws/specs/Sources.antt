@@ -96,7 +96,7 @@ use Rattle.laws.specs.Sizes.{Aligned, size-low, size-high, capacity-high
 use Rattle.laws.specs.Chains.{Blocks}
 use Rattle.laws.specs.Sound.{Sound}
 use Rattle.laws.specs.Held.{Held, held, InClassOf, classed, use-class, no-freed, freed-is, usable-is, unused-is, home-freed, home-away, base-usable}
-use Rattle.laws.specs.Paths.{quiet-same, Hand, hand-out, Asked, asked}
+use Rattle.laws.specs.Paths.{quiet-same, Hand, hand-out, Grows, grows-same, Asked, asked}
 use Rattle.laws.specs.Emptied.{put-zero}
 use Rattle.laws.specs.AskListed.{front-of, ask-listed}
 use Rattle.laws.specs.Taken.{no-live, spentBooks, spend-is, spentUsable, spend-rows, withArenas, From, newRows, set-anew, taken-again}
@@ -152,17 +152,37 @@ module _ {al A P c : ℕ} {h : Heap} {r : Plain} (L : Aligned al)
           kind = inr (no-live L F p (O .inside) (O .idle));
         }
 
+    -- no other pool changes, and this one was not carved, or was of another class
+    new-grows : (ys : List ℕ) → (carved P r p ≡ true → r .class p ≢ c)
+        → Grows A P r (newRows c p (withArenas ys un mark freed r))
+    new-grows ys other =
+        record {
+          carved-still = λ y l e. cut y l e (ℕ-discrete y p);
+          ready-still = λ y e f. ready y e f (ℕ-discrete y p);
+        }
+      where
+        cut : (y : ℕ) → y < A * P → carved P r y ≡ true → Dec (y ≡ p)
+            → carved P (withArenas ys un mark freed r) y ≡ true
+        cut y l e (yes q) = rw q (O .carved-p)
+        cut y l e (no q) = O .carved-others y l q ∙ e
+
+        ready : (y : ℕ) → carved P r y ≡ true → to p c (r .class) y ≡ r .class y → Dec (y ≡ p)
+            → r .virgin y ≤ to p 2 (r .virgin) y
+        ready y e f (yes q) = absurd (other (rw q at e) (sym (rw (eq-eqb y p q, q) at f)))
+        ready y e f (no q) = rw (ne-eqb y p q) (omega arith)
+
     -- q is the source by name, and the last two are what the plain heap and the rules make of it
     ask-anew : (q : Source) → planAsk al A P h c ≡ Anew q p → plainAsk al P r c ≡ Anew q p
         → plainAfterAsk al P r c (Anew q p)
         ≡ newRows c p (withArenas (spentUsable (eqb (free P r a) 1) a us) un mark freed r)
         → spend al A P c (arenaOf al A P c q) (takeFrom al A P c q p h) ≡ heapOf (h .memory) (spentBooks a b₁) (h .map)
+        → (carved P r p ≡ true → r .class p ≢ c)
         → Asked al A P h r c
     unfolding afterAsk askAnswer
-    ask-anew q plan plain rows books =
+    ask-anew q plan plain rows books other =
         let t = set-anew L F O lc lst in
         asked (Anew q p) (newRows c p (withArenas (spentUsable (eqb (free P r a) 1) a us) un mark freed r)) plan plain rows (rw books (t .0)) (rw books (t .1))
-        (λ _. new-hand (spentUsable (eqb (free P r a) 1) a us))
+        (λ _. new-hand (spentUsable (eqb (free P r a) 1) a us)) (new-grows (spentUsable (eqb (free P r a) 1) a us) other)
 
   -- ---- the usable front a
   module _ (a : ℕ) (others : List ℕ) (us : r .usable ≡ a ∷ others) where
@@ -261,7 +281,7 @@ module _ {al A P c : ℕ} {h : Heap} {r : Plain} (L : Aligned al)
           let t = spare-two p lp (was .0) in
           ask-anew from-freed (Freed a) (freed-first (Anew (Freed a) p) (rw (class-is, ne-eqb (r .class p) c d, t .0, t .1)))
           (rw (lst, us, fr, ne-eqb (r .class p) c d))
-          (rw fr (ap (newRows c p) (spend-rows (eqb (free P r a) 1) a (r ▷ setFreed a ps)))) (spend-is al A P c a (takeFrom al A P c (Freed a) p h))
+          (rw fr (ap (newRows c p) (spend-rows (eqb (free P r a) 1) a (r ▷ setFreed a ps)))) (spend-is al A P c a (takeFrom al A P c (Freed a) p h)) (λ _. d)
 
       -- of the wanted class
       ask-again : r .class p ≡ c → Asked al A P h r c
@@ -280,7 +300,7 @@ module _ {al A P c : ℕ} {h : Heap} {r : Plain} (L : Aligned al)
               (rw (fr, e)
               (ap (λ (x : Plain). x ▷ setListed c (p ∷ []) ▷ setChain p (j ∷ js) ▷ setLive p k true) (spend-rows (eqb (free P r a) 1) a (r ▷ setFreed a ps))))
               (rw z (taken-again L F from-freed lc lst k j js cls B (rw cls at (J .maxnextoffset-is)) (λ w. refl))) (rw z (quiet-same {r = r′}))
-              (λ _. hand-out p k lp (omega (arith, B .below .0, B .fits)) cls (no-live L F p lp (was .0) k) refl refl)
+              (λ _. hand-out p k lp (omega (arith, B .below .0, B .fits)) cls (no-live L F p lp (was .0) k) refl refl) (grows-same refl refl)
             where
               r′ : Plain
               r′ =
@@ -423,7 +443,7 @@ module _ {al A P c : ℕ} {h : Heap} {r : Plain} (L : Aligned al)
           ask-anew from-mark (Carved a) (usable-first (Anew (Carved a) markPool)
           (rw (freed-empty, mark-word, lt-ltb (r .mark a) P mark-room, t .0, t .1) (counted-is (Anew (Carved a) markPool))))
           (rw (lst, us, fr)) (ap (newRows c markPool) (spend-rows (eqb (free P r a) 1) a (r ▷ setMark a (r .mark a + 1))))
-          (spend-is al A P c a (takeFrom al A P c (Carved a) markPool h))
+          (spend-is al A P c a (takeFrom al A P c (Carved a) markPool h)) (λ e. absurd (true≢false (sym e ∙ uncarved)))
 
     -- one of the three
     ask-usable : Asked al A P h r c
@@ -446,7 +466,7 @@ module _ {al A P c : ℕ} {h : Heap} {r : Plain} (L : Aligned al)
     unfolding planAsk afterAsk askAnswer
     ask-none e S =
         let z : at b unusedHead ≡ 0 = rw (F .lists .unused ∙ e) at (K .lists .row 3 (omega arith) .row .walk) in
-        asked NoRoom r (rw (class-empty, no-usable, z)) (rw (lst, none, e)) refl S (quiet-same {r = r}) (λ z. absurd (omega arith))
+        asked NoRoom r (rw (class-empty, no-usable, z)) (rw (lst, none, e)) refl S (quiet-same {r = r}) (λ z. absurd (omega arith)) (grows-same refl refl)
 
     module _ (a : ℕ) (others : List ℕ) (un : r .unused ≡ a ∷ others) where
       first : At A (U .base) 3 a
@@ -580,7 +600,7 @@ module _ {al A P c : ℕ} {h : Heap} {r : Plain} (L : Aligned al)
           ask-anew from-unused (Opened a)
           (rw (class-empty, no-usable) (front-of hd la′ (fromUnused al A P h c) _ ∙ rw (arena-may-leave K 3 a (omega arith) la′ (first .is), u .0, u .1)))
           (rw (lst, none, un)) (rw (un, ne-eqb (free P r a) 1 (omega (arith, all-free, pools-low))))
-          (spend-is al A P c a (takeFrom al A P c (Opened a) firstPool h))
+          (spend-is al A P c a (takeFrom al A P c (Opened a) firstPool h)) (λ e. absurd (true≢false (sym e ∙ away firstPool first-of)))
 
 -- ---- every ask for a class
 pub ask-any : {al A P : ℕ} {h : Heap} {r : Plain} → Aligned al → Sound al A P h r → (c : ℕ) → c ≤ lastClass al

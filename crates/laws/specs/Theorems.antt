@@ -12,7 +12,7 @@ use borrow.Author.Tests.{le-ltb, lt-ltb}
 use Rattle.rules.specs.declared.Sized.{Sized}
 use Rattle.rules.specs.Say.{if_then_else_}
 use Rattle.rules.specs.Books.{Heap, at, arenas, pools, memoryLength}
-use Rattle.rules.specs.Blocks.{classOf, sizeOf, sizeAt, live}
+use Rattle.rules.specs.Blocks.{classOf, sizeOf, sizeAt, live, deadNumber}
 use Rattle.rules.specs.View.{part, roll}
 use Rattle.rules.specs.Outcome.{Outcome, answerOf, refused}
 use Rattle.rules.specs.Numbers.{
@@ -42,17 +42,31 @@ use Rattle.laws.specs.Holding.{
   in-memory,
   holding-live,
   holding-long,
+  holding-more,
   holding-some,
   dead-holding,
 }
 use Rattle.laws.specs.Written.{apart}
-use Rattle.laws.specs.Calls.{shape-zero, view-is, view-size-is, back-dead, back-is}
+use Rattle.laws.specs.Calls.{shape-zero, dead-some, view-is, view-size-is, back-dead, back-is}
 use Rattle.laws.specs.Free.{live-held, ask-free, ask-bytes, resize-free}
 use Rattle.laws.specs.Roll.{listing-same, listing-count, listing-place, sizeHeld, roll-is}
 use Rattle.laws.specs.NoRoom.{four-full, full-four}
 use Rattle.laws.specs.StandIn.{stand-in-means}
-use Rattle.laws.specs.History.{Event, State, NoSix, run, listing, heldBelow, Full}
-use Rattle.laws.specs.Tied.{Tied, tied, first-format}
+use Rattle.laws.specs.History.{
+  Event,
+  gives,
+  State,
+  released,
+  after,
+  ended,
+  NoSix,
+  run,
+  listing,
+  heldBelow,
+  Full,
+}
+use Rattle.laws.specs.Tied.{Tied, tied, step, first-format}
+use Rattle.laws.specs.Dead.{block-open, event-stays, done-live, ten-block, block-ten, twice, not-ended}
 
 -- ---- a history begins with a format that is done, over any buffers: the heap that it leaves, and the empty ledger
 abbrev pub begun : Heap → ℕ → ℕ → State
@@ -125,27 +139,51 @@ module _ {al : ℕ} (L : Aligned al) (h : Heap) (A P : ℕ) (ok : format h A P .
       ≡ part (ask al (end .heap) n .answer .offset) (sizeOf al (classOf al n)) (end .heap .memory)
   asked-bytes = ask-bytes L (T .sound)
 
-  -- a give-back is done exactly where a block is held; elsewhere it is refused with 5, and nothing changes
+  -- a give-back is done exactly where a block is held; elsewhere it is refused, with 10 where there is a block and with
+  -- 5 where there is none, and nothing changes
   pub back-means : (o : ℕ)
       → (end .ledger o ≢ [] → giveBack al (end .heap) o .answer ≡ answerOf 0 o)
-      × (end .ledger o ≡ [] → giveBack al (end .heap) o ≡ refused 5 (end .heap))
+      × (end .ledger o ≡ [] → giveBack al (end .heap) o
+      ≡ refused (deadNumber al (arenas (end .heap)) (pools (end .heap)) (end .heap .books) o) (end .heap))
   back-means o = (
     λ some. ap (λ (x : Outcome). x .answer) (back-is L (T .sound) o (some-live o some)),
-    λ none. back-dead L (T .sound) o (none-dead o none),
+    λ none. rw (T .sound .rule1 .arenas-are, T .sound .rule1 .pools-are) (back-dead L (T .sound) o (none-dead o none)),
   )
+
+  -- ---- a dead block is told from no block
+  -- a give-back that is done, and repeated at once, is refused and changes nothing: with 5 if the first one released
+  -- the arena, and otherwise with 10
+  pub back-twice : (o : ℕ) → giveBack al (end .heap) o .answer .number ≡ 0
+      → let once = giveBack al (end .heap) o .heap in
+      giveBack al once o ≡ refused (if released (end .heap) once o then 5 else 10) once
+  back-twice o z = twice L (T .sound) o (done-live L (T .sound) o z)
+
+  -- an offset that gets 10 gets 10 after any event, unless the block is handed out again, its pool is set to another
+  -- class or its arena is released, as every arena is by a format that is done
+  pub dead-stays : (o : ℕ) (e : Event) → giveBack al (end .heap) o .answer .number ≡ 10 → ended al end e o ≡ false
+      → giveBack al (after al end e .heap) o .answer .number ≡ 10
+  dead-stays o e ten none =
+      let T′ = step L (h .memory) T e .1 in
+      let N = not-ended al end e o none in
+      let b = ten-block L (T .sound) o ten in
+      let off = is-false (live al (T′ .A) (T′ .P) (after al end e .heap .books) (after al end e .heap .map) o)
+      (λ u. absurd (omega (arith, N .held, ap length (T′ .tie o), holding-more L (T′ .sound) o (live-rows L (T′ .sound) o u)))) in
+      let now = event-stays L (h .memory) T o b e (N .class) (N .arena (block-open L (T .sound) o b)) in
+      block-ten L (T′ .sound) o off (rw (T′ .sound .rule1 .arenas-are, T′ .sound .rule1 .pools-are) at now)
 
   -- ---- what is read out: view hands back the bytes that the ledger has, and the empty part exactly where nothing is
   -- held
   pub view-shows : (o : ℕ) → view al (end .heap) o ≡ end .ledger o
   view-shows o = view-is (T .sound) o ∙ sym (T .tie o)
 
-  -- and its companion the size of what is held, or 5
+  -- and its companion the size of what is held, or 10 or 5
   pub size-shows : (o : ℕ)
       → (end .ledger o ≢ [] → viewSize al (end .heap) o ≡ sizedOf 0 (length (end .ledger o)))
-      × (end .ledger o ≡ [] → viewSize al (end .heap) o ≡ sizedOf 5 0)
+      × (end .ledger o ≡ [] → viewSize al (end .heap) o
+      ≡ sizedOf (deadNumber al (arenas (end .heap)) (pools (end .heap)) (end .heap .books) o) 0)
   size-shows o = (
     λ some. view-size-is (T .sound) o ∙ rw (some-live o some) (ap (sizedOf 0) (size-is o (some-live o some))),
-    λ none. view-size-is (T .sound) o ∙ rw (none-dead o none) refl,
+    λ none. rw (T .sound .rule1 .arenas-are, T .sound .rule1 .pools-are) (view-size-is (T .sound) o ∙ rw (none-dead o none) refl),
   )
 
   -- the stand-in hands back the holder's bytes, in memory itself, where a block is held, and where none is, the phrase
@@ -158,7 +196,7 @@ module _ {al : ℕ} (L : Aligned al) (h : Heap) (A P : ℕ) (ok : format h A P .
   stand-in-shows o phrase memory lent =
       let t = stand-in-means al (end .heap) o phrase memory lent in (
         λ some. let u = t .1 (ap (λ (s : Sized). s .number) (size-shows o .0 some)) in (u .0 ∙ view-shows o, u .1),
-        λ none. t .0 (λ z. absurd (omega (arith, z, ap (λ (s : Sized). s .number) (size-shows o .1 none)))),
+        λ none. t .0 (λ z. dead-some al _ _ (end .heap .books) o (sym (ap (λ (s : Sized). s .number) (size-shows o .1 none)) ∙ z)),
       )
 
   -- no two entries overlap

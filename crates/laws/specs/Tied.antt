@@ -5,7 +5,7 @@ use mathlib.Core.Path.{_≡_, refl, sym, ap, _∙_, subst}
 use mathlib.Core.Logic.{_≢_, _⊎_, inl, inr}
 use mathlib.Core.Bool.{Bool, true, false, not, false≢true}
 use mathlib.Core.List.{List, [], _∷_, _++_}
-use Prim.Native.Nat.{ℕ, _+_, _%_, _≤_, _<_, min}
+use Prim.Native.Nat.{ℕ, zero, suc, _+_, _%_, _≤_, _<_, min}
 use native.Mathlib.Omega.{arith}
 use lib.Dec.{ltb, eqb}
 use lib.ListN.{length, set, take, drop, length-set, replicate}
@@ -13,7 +13,7 @@ use lib.Seq.{sets, length-sets, getD-set-other}
 use borrow.Author.Tests.{eq-eqb, ne-eqb, ltb-true, ltb-false}
 use Rattle.rules.specs.Say.{if_then_else_}
 use Rattle.rules.specs.Books.{Heap, at, inRange, exact, memoryLength, mapLength}
-use Rattle.rules.specs.Blocks.{classOf, sizeOf, live, liveNumber, sizeAt}
+use Rattle.rules.specs.Blocks.{classOf, sizeOf, live, isBlock, deadNumber, liveNumber, sizeAt}
 use Rattle.rules.specs.Outcome.{Outcome, heapOf, refused, passing, done}
 use Rattle.rules.specs.Format.{freshBooks}
 use Rattle.rules.specs.View.{part}
@@ -21,6 +21,7 @@ use Rattle.rules.specs.Ask.{askAnswer, afterAsk}
 use Rattle.rules.specs.Resize.{keeps}
 use Rattle.rules.specs.Numbers.{fitNumber, format, ask, giveBack, resize, write, roomNumber, sizeNumber}
 use Rattle.books.specs.Known.{shaped}
+use Rattle.books.specs.Tests.{either}
 use Rattle.laws.specs.Update.{is-false, to, to-cong}
 use Rattle.laws.specs.Plain.{Plain, fresh, planAsk as plainAsk}
 use Rattle.laws.specs.Sizes.{Aligned}
@@ -29,8 +30,8 @@ use Rattle.laws.specs.Fresh.{fresh-sound}
 use Rattle.laws.specs.Bytes.{Outside, outside-less, text-part, byte-part, sets-off}
 use Rattle.laws.specs.Holding.{LiveAt, liveSize, holding, live-rows, class-is, in-memory, holding-live, holding-long, holding-some, dead-holding, Leaves}
 use Rattle.laws.specs.Written.{written-leaves}
-use Rattle.laws.specs.Calls.{shape-zero, DoneOrNot, done-or-not, ask-size, ask-is, ask-leaves, size-number, back-dead, block-of, back-is, back-leaves}
-use Rattle.laws.specs.Resized.{resize-size, resize-dead, resize-keeps, resize-none, resize-moves, differ, moved-leaves}
+use Rattle.laws.specs.Calls.{shape-zero, dead-some, ask-is, ask-leaves, ask-cases, back-dead, block-of, back-is, back-leaves}
+use Rattle.laws.specs.Resized.{resize-moves, differ, moved-leaves, resize-cases}
 use Rattle.laws.specs.Refused.{view-six, roll-six}
 use Rattle.laws.specs.History.{
   Event,
@@ -113,6 +114,13 @@ module _ {al : ℕ} (L : Aligned al) (m₀ : List ℕ) where
       → Good al m₀ k (noted k (x .heap) (x .ledger) new)
   same {x} T k e d new = (d, rw e (record { A = T .A; P = T .P; rows = T .rows; sound = T .sound; tie = T .tie; first = T .first }))
 
+  -- a refusal of an offset that is not live
+  same-dead : {x : State} → Tied al m₀ x → (A P : ℕ) (b : List ℕ) (o : ℕ) (new : Ledger)
+      → Good al m₀ (deadNumber al A P b o) (noted (deadNumber al A P b o) (x .heap) (x .ledger) new)
+  same-dead {x} T A P b o new =
+      either (λ (k : ℕ). Good al m₀ k (noted k (x .heap) (x .ledger) new)) (isBlock al A P b o) 10 5
+      (λ _. same T 10 refl (omega arith) new) (λ _. same T 5 refl (omega arith) new)
+
   -- a step that leaves what the ledger then says
   leaves : {x : State} {h : Heap} {r : Plain} {g : ℕ → List ℕ} (T : Tied al m₀ x)
       → Leaves al (T .A) (T .P) (x .heap) h r g → (l : Ledger) → ((o : ℕ) → l o ≡ g o)
@@ -122,7 +130,8 @@ module _ {al : ℕ} (L : Aligned al) (m₀ : List ℕ) where
 
   step-ask : {x : State} → Tied al m₀ x → (n : ℕ) → Good al m₀ (numberOf al x (asks n)) (after al x (asks n))
   unfolding numberOf after askAnswer afterAsk
-  step-ask {x} T n = go (size-number n)
+  step-ask {x} T n =
+      ask-cases L (T .sound) n Q (same T 3 refl (omega arith) (x .ledger)) (same T 4 refl (omega arith) (x .ledger)) served
     where
       h : Heap
       h = x .heap
@@ -133,18 +142,13 @@ module _ {al : ℕ} (L : Aligned al) (m₀ : List ℕ) where
       Q : Outcome → Type 0
       Q y = Good al m₀ (y .answer .number) (noted (y .answer .number) (y .heap) (x .ledger) (to (y .answer .offset) (bytes y) (x .ledger)))
 
-      served : (lo : 1 ≤ n) → (hi : n ≤ 512) → DoneOrNot al (T .P) (T .rows) (classOf al n) → Q (ask al h n)
-      served lo hi (inr z) = rw (ask-is L (T .sound) n lo hi, z .plan-is) (same T 4 refl (omega arith) (x .ledger))
-      served lo hi (inl z) =
+      served : 1 ≤ n → n ≤ 512 → askAnswer (plainAsk al (T .P) (T .rows) (classOf al n)) .number ≡ 0 → Q (ask al h n)
+      served lo hi z =
           rw (ap (λ (y : Outcome). y .answer .number) (ask-is L (T .sound) n lo hi) ∙ z) (
             (omega arith),
             leaves T (ask-leaves L (T .sound) n lo hi z) (to (ask al h n .answer .offset) (bytes (ask al h n)) (x .ledger))
                 (λ y. to-cong (ask al h n .answer .offset) (x .ledger) (holding al (T .A) (T .P) h) refl y (T .tie y)),
           )
-
-      go : ((1 ≤ n) × (n ≤ 512)) ⊎ (sizeNumber n ≡ 3) → Q (ask al h n)
-      go (inr e) = rw (ask-size L (T .sound) n e) (same T 3 refl (omega arith) (x .ledger))
-      go (inl t) = served (t .0) (t .1) (done-or-not al (T .P) (T .rows) (classOf al n))
 
   step-give : {x : State} → Tied al m₀ x → (o : ℕ) → Good al m₀ (numberOf al x (gives o)) (after al x (gives o))
   unfolding numberOf after
@@ -154,7 +158,7 @@ module _ {al : ℕ} (L : Aligned al) (m₀ : List ℕ) where
       Q y = Good al m₀ (y .answer .number) (noted (y .answer .number) (y .heap) (x .ledger) (to o [] (x .ledger)))
 
       go : (t : Bool) → live al (T .A) (T .P) (x .heap .books) (x .heap .map) o ≡ t → Q (giveBack al (x .heap) o)
-      go false e = rw (back-dead L (T .sound) o e) (same T 5 refl (omega arith) (x .ledger))
+      go false e = rw (back-dead L (T .sound) o e) (same-dead T (T .A) (T .P) (x .heap .books) o _)
       go true e =
           rw (ap (λ (y : Outcome). y .answer .number) (back-is L (T .sound) o e)) (
             (omega arith),
@@ -175,7 +179,8 @@ module _ {al : ℕ} (L : Aligned al) (m₀ : List ℕ) where
 
   write-is : {x : State} (T : Tied al m₀ x) (o : ℕ) (text : List ℕ)
       → write al (x .heap) o text
-      ≡ passing (passing (if live al (T .A) (T .P) (x .heap .books) (x .heap .map) o then 0 else 5)
+      ≡ passing (passing (if live al (T .A) (T .P) (x .heap .books) (x .heap .map) o then 0
+      else deadNumber al (T .A) (T .P) (x .heap .books) o)
       (λ k. k) (if ltb (sizeAt al (T .A) (x .heap .books) o) (length text) then 7 else 0))
       (λ k. refused k (x .heap)) (done o (heapOf (sets (x .heap .memory) o text) (x .heap .books) (x .heap .map)))
   unfolding write liveNumber roomNumber
@@ -207,11 +212,19 @@ module _ {al : ℕ} (L : Aligned al) (m₀ : List ℕ) where
                 ∙ sym (text-part (x .heap .memory) text o (liveSize t) l (in-memory L (T .sound) o t))),
           )
 
+      dead : (d : ℕ) → d ≢ 0 → Q (refused d (x .heap)) → (room : ℕ)
+          → Q (passing (passing d (λ k. k) room) (λ k. refused k (x .heap))
+          (done o (heapOf m′ (x .heap .books) (x .heap .map))))
+      dead zero d g room = absurd (d refl)
+      dead (suc d) _ g room = g
+
       go : (b : Bool) → live al (T .A) (T .P) (x .heap .books) (x .heap .map) o ≡ b
-          → Q (passing (passing (if b then 0 else 5) (λ k. k)
+          → Q (passing (passing (if b then 0 else deadNumber al (T .A) (T .P) (x .heap .books) o) (λ k. k)
           (if ltb (sizeAt al (T .A) (x .heap .books) o) (length text) then 7 else 0))
           (λ k. refused k (x .heap)) (done o (heapOf m′ (x .heap .books) (x .heap .map))))
-      go false e = same T 5 refl (omega arith) (x .ledger)
+      go false e =
+          dead (deadNumber al (T .A) (T .P) (x .heap .books) o) (dead-some al (T .A) (T .P) (x .heap .books) o)
+          (same-dead T (T .A) (T .P) (x .heap .books) o _) (if ltb (sizeAt al (T .A) (x .heap .books) o) (length text) then 7 else 0)
       go true e = fits (live-rows L (T .sound) o e) (ltb (sizeAt al (T .A) (x .heap .books) o) (length text)) refl
 
   step-poke : {x : State} → Tied al m₀ x → (o d v : ℕ) → Good al m₀ 0 (after al x (pokes o d v))
@@ -249,7 +262,9 @@ module _ {al : ℕ} (L : Aligned al) (m₀ : List ℕ) where
   step-resize : {x : State} → Tied al m₀ x → (o n : ℕ)
       → Good al m₀ (numberOf al x (resizes o n)) (after al x (resizes o n))
   unfolding numberOf after
-  step-resize {x} T o n = by-size (size-number n)
+  step-resize {x} T o n =
+      resize-cases L S o n Q (same T 3 refl (omega arith) (x .ledger)) (same T 4 refl (omega arith) (x .ledger))
+      (same-dead T (T .A) (T .P) (h .books) o _) (rw (eq-eqb o o refl) ((omega arith), T)) moves
     where
       h : Heap
       h = x .heap
@@ -271,10 +286,10 @@ module _ {al : ℕ} (L : Aligned al) (m₀ : List ℕ) where
           (ap (λ (b : List ℕ). take (min n (length b)) b ++ drop (min n (length b)) (part o₁ (sizeOf al (classOf al n)) m)) (T .tie o)) y
           (to-cong o (x .ledger) (holding al (T .A) (T .P) h) refl y (T .tie y))
 
-      by-room : (lo : 1 ≤ n) (hi : n ≤ 512) (e : live al (T .A) (T .P) (h .books) (h .map) o ≡ true)
+      moves : (lo : 1 ≤ n) (hi : n ≤ 512) (e : live al (T .A) (T .P) (h .books) (h .map) o ≡ true)
           → keeps (liveSize (block-of L S o e)) n ≡ false
-          → DoneOrNot al (T .P) (T .rows) (classOf al n) → Q (resize al h o n)
-      by-room lo hi e q (inl z) =
+          → askAnswer (plainAsk al (T .P) (T .rows) (classOf al n)) .number ≡ 0 → Q (resize al h o n)
+      moves lo hi e q z =
           rw (
             resize-moves L S o n lo hi e z q,
             ask-is L S n lo hi,
@@ -283,21 +298,6 @@ module _ {al : ℕ} (L : Aligned al) (m₀ : List ℕ) where
             (omega arith),
             leaves T (moved-leaves L S o n lo hi e z) _ (same-carried (askAnswer (plainAsk al (T .P) (T .rows) (classOf al n)) .offset) _),
           )
-      by-room lo hi e q (inr z) = rw (resize-none L S o n lo hi e q (z .plan-is)) (same T 4 refl (omega arith) (x .ledger))
-
-      by-keep : (lo : 1 ≤ n) (hi : n ≤ 512) (e : live al (T .A) (T .P) (h .books) (h .map) o ≡ true) (b : Bool)
-          → keeps (liveSize (block-of L S o e)) n ≡ b → Q (resize al h o n)
-      by-keep lo hi e true q = rw (resize-keeps L S o n lo hi e q, eq-eqb o o refl) ((omega arith), T)
-      by-keep lo hi e false q = by-room lo hi e q (done-or-not al (T .P) (T .rows) (classOf al n))
-
-      by-live : (lo : 1 ≤ n) (hi : n ≤ 512) (b : Bool) → live al (T .A) (T .P) (h .books) (h .map) o ≡ b
-          → Q (resize al h o n)
-      by-live lo hi false e = rw (resize-dead L S o n lo hi e) (same T 5 refl (omega arith) (x .ledger))
-      by-live lo hi true e = by-keep lo hi e (keeps (liveSize (block-of L S o e)) n) refl
-
-      by-size : ((1 ≤ n) × (n ≤ 512)) ⊎ (sizeNumber n ≡ 3) → Q (resize al h o n)
-      by-size (inr e) = rw (resize-size L S o n e) (same T 3 refl (omega arith) (x .ledger))
-      by-size (inl t) = by-live (t .0) (t .1) (live al (T .A) (T .P) (h .books) (h .map) o) refl
 
   -- a format that is done leaves a fresh heap, and an empty ledger
   step-format : {x : State} → Tied al m₀ x → (A P : ℕ)
@@ -316,7 +316,7 @@ module _ {al : ℕ} (L : Aligned al) (m₀ : List ℕ) where
       go true true e f = ((omega arith), fresh-tied L (x .heap .memory) m₀ A P e (shaped (x .heap) A P e f .memory) (T .first))
 
   -- ---- any event
-  step : {x : State} → Tied al m₀ x → (e : Event) → Good al m₀ (numberOf al x e) (after al x e)
+  pub step : {x : State} → Tied al m₀ x → (e : Event) → Good al m₀ (numberOf al x e) (after al x e)
   unfolding numberOf after
   step T (formats A P) = step-format T A P
   step T (asks n) = step-ask T n

@@ -18,7 +18,7 @@ use Rattle.rules.specs.declared.BackPlan.{BackPlan}
 use Rattle.rules.specs.declared.BackPlan.the-variants.{Damaged as Broken, Joins, Stays, Empties, Returns, Releases}
 use Rattle.rules.specs.Say.{if_then_else_, only}
 use Rattle.rules.specs.Books.{Heap, inRange, exact, at, put, arenas, pools, usableHead, freePools, arenaWord, arena, fall, none?, linked}
-use Rattle.rules.specs.Blocks.{largest, sizeAt, live, liveNumber}
+use Rattle.rules.specs.Blocks.{largest, sizeAt, live, isBlock, deadNumber, liveNumber}
 use Rattle.rules.specs.Lists.{nextAt, previousAt, leave, join, arenaLinks, arenaLeaves}
 use Rattle.rules.specs.Outcome.{Outcome, outcome, answerOf, done, refused, passing}
 use Rattle.rules.specs.Ask.{takeFrom, arenaOf, spend, alone, afterAsk, askAnswer, askStep}
@@ -144,37 +144,38 @@ module _ (al A P c p f : ℕ) {b : List ℕ} where
   back-kept Releases h k = release-kept (p / P) (empty al A P c p f (takeBack al A P c p f h)) (emptied-kept h k)
 
 -- ---- the numbers
-small : (t : Bool) (x y : ℕ) → x ≤ 7 → y ≤ 7 → (if t then x else y) ≤ 7
-small t x y u v = either (λ (n : ℕ). n ≤ 7) t x y (λ _. u) (λ _. v)
+small : (t : Bool) (x y : ℕ) → x ≤ 10 → y ≤ 10 → (if t then x else y) ≤ 10
+small t x y u v = either (λ (n : ℕ). n ≤ 10) t x y (λ _. u) (λ _. v)
 
-fit-small : (h : Heap) (A P : ℕ) → fitNumber h A P ≤ 7
+fit-small : (h : Heap) (A P : ℕ) → fitNumber h A P ≤ 10
 unfolding fitNumber
 fit-small h A P =
     small (not (inRange A P)) 1 (if not (exact A P h) then 2 else 0) (omega arith)
     (small (not (exact A P h)) 2 0 (omega arith) (omega arith))
 
-shape-small : (h : Heap) → shapeNumber h ≤ 7
+shape-small : (h : Heap) → shapeNumber h ≤ 10
 unfolding shapeNumber
 shape-small h = small (ltb (length (h .books)) 2) 2 (fitNumber h (arenas h) (pools h)) (omega arith) (fit-small h (arenas h) (pools h))
 
-size-small : (n : ℕ) → sizeNumber n ≤ 7
+size-small : (n : ℕ) → sizeNumber n ≤ 10
 unfolding sizeNumber
 size-small n = small (leb 1 n && leb n largest) 0 3 (omega arith) (omega arith)
 
-live-small : (al A P : ℕ) (b m : List ℕ) (o : ℕ) → liveNumber al A P b m o ≤ 7
+live-small : (al A P : ℕ) (b m : List ℕ) (o : ℕ) → liveNumber al A P b m o ≤ 10
 unfolding liveNumber
-live-small al A P b m o = small (live al A P b m o) 0 5 (omega arith) (omega arith)
+live-small al A P b m o =
+    small (live al A P b m o) 0 (deadNumber al A P b o) (omega arith) (small (isBlock al A P b o) 10 5 (omega arith) (omega arith))
 
-before-small : (j k : ℕ) → j ≤ 7 → k ≤ 7 → (j before k) ≤ 7
+before-small : (j k : ℕ) → j ≤ 10 → k ≤ 10 → (j before k) ≤ 10
 before-small zero k u v = v
 before-small (suc j) k u v = u
 
-order-small : (shape size offset room : ℕ) → shape ≤ 7 → size ≤ 7 → offset ≤ 7 → room ≤ 7
-    → inOrder shape size offset room ≤ 7
+order-small : (shape size offset room : ℕ) → shape ≤ 10 → size ≤ 10 → offset ≤ 10 → room ≤ 10
+    → inOrder shape size offset room ≤ 10
 order-small shape size offset room t u v w =
     before-small shape _ t (before-small size _ u (before-small offset room v w))
 
-ask-small : (q : AskPlan) → askAnswer q .number ≤ 7
+ask-small : (q : AskPlan) → askAnswer q .number ≤ 10
 unfolding askAnswer
 ask-small NoRoom = omega arith
 ask-small Damaged = omega arith
@@ -184,7 +185,7 @@ ask-small (Last p f) = omega arith
 ask-small (Again a p f l) = omega arith
 ask-small (Anew s p) = omega arith
 
-back-small : (o : ℕ) (q : BackPlan) → backAnswer o q .number ≤ 7
+back-small : (o : ℕ) (q : BackPlan) → backAnswer o q .number ≤ 10
 unfolding backAnswer
 back-small o Broken = omega arith
 back-small o Joins = omega arith
@@ -194,13 +195,13 @@ back-small o Returns = omega arith
 back-small o Releases = omega arith
 
 -- ---- the calls
--- an outcome over a heap whose books were b: its number is one of 01's table, and A and P are as they were
+-- an outcome over a heap whose books were b: its number is at most 10, and A and P are as they were
 pub record Fair (b : List ℕ) (x : Outcome) : Type 0 where
-  pub small : x .answer .number ≤ 7
+  pub small : x .answer .number ≤ 10
   pub kept : Kept b (x .heap .books)
 
 -- a call that a test refuses changes nothing
-tested : {b : List ℕ} (n : ℕ) (h : Heap) (x : Outcome) → n ≤ 7 → Kept b (h .books) → Fair b x
+tested : {b : List ℕ} (n : ℕ) (h : Heap) (x : Outcome) → n ≤ 10 → Kept b (h .books) → Fair b x
     → Fair b (passing n (λ k. refused k h) x)
 tested zero h x u k t = t
 tested (suc n) h x u k t = record { small = u; kept = k }
@@ -257,7 +258,7 @@ module _ (al : ℕ) (h : Heap) where
   unfolding giveBack
   back-fair o =
       let dead = offsetNumber al h o in
-      let few : dead ≤ 7 = live-small al (arenas h) (pools h) (h .books) (h .map) o in
+      let few : dead ≤ 10 = live-small al (arenas h) (pools h) (h .books) (h .map) o in
       tested (inOrder (shapeNumber h) 0 dead 0) h (backStep al (arenas h) (pools h) h o)
       (order-small (shapeNumber h) 0 dead 0 (shape-small h) (omega arith) few (omega arith)) none-written
       (back-step al (arenas h) (pools h) h o none-written)
@@ -266,7 +267,7 @@ module _ (al : ℕ) (h : Heap) where
   unfolding resize
   resize-fair o n =
       let dead = offsetNumber al h o in
-      let few : dead ≤ 7 = live-small al (arenas h) (pools h) (h .books) (h .map) o in
+      let few : dead ≤ 10 = live-small al (arenas h) (pools h) (h .books) (h .map) o in
       tested (inOrder (shapeNumber h) (sizeNumber n) dead 0) h (resizeStep al (arenas h) (pools h) h o n)
       (order-small (shapeNumber h) (sizeNumber n) dead 0 (shape-small h) (size-small n) few (omega arith)) none-written
       (resize-step al (arenas h) (pools h) h o n none-written)

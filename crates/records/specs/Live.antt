@@ -21,7 +21,7 @@ use Rattle.rules.specs.declared.BackPlan.{BackPlan}
 use Rattle.rules.specs.declared.BackPlan.the-variants.{Damaged as Broken, Joins, Stays, Empties, Returns, Releases}
 use Rattle.rules.specs.Say.{if_then_else_}
 use Rattle.rules.specs.Books.{Heap, at, bit, putBit, booksLength, mapLength, mapWord, isSet, putMapBit, arenas, pools, class, pool, offsetOf}
-use Rattle.rules.specs.Blocks.{classOf, sizeOf, largest, blockNo, classAt, sizeAt, live, liveNumber}
+use Rattle.rules.specs.Blocks.{classOf, sizeOf, largest, blockNo, classAt, sizeAt, live, isBlock, liveNumber}
 use Rattle.rules.specs.Outcome.{Outcome, outcome, answerOf, done, refused, passing}
 use Rattle.rules.specs.View.{roll}
 use Rattle.rules.specs.Ask.{afterAsk, askAnswer, asked, askStep}
@@ -249,14 +249,15 @@ module _ (A P : ℕ) (range : Range A P) where
 
     give-old : Given A P h (giveOld 8 A P h o)
     unfolding giveOld liveNumber backStep
-    give-old = go (live 8 A P (h .books) (h .map) o) refl
+    give-old = go (live 8 A P (h .books) (h .map) o) refl (isBlock 8 A P (h .books) o)
       where
-        go : (t : Bool) → live 8 A P (h .books) (h .map) o ≡ t
-            → Given A P h (passing (if t then 0 else 5) (λ k. refused k h) (backStep 8 A P h o))
-        go true e =
+        go : (t : Bool) → live 8 A P (h .books) (h .map) o ≡ t → (u : Bool)
+            → Given A P h (passing (if t then 0 else if u then 10 else 5) (λ k. refused k h) (backStep 8 A P h o))
+        go true e u =
             plan-given (live-is 8 A P (h .books) (h .map) o (omega arith) (omega arith) e) _
             (fits-back A P (h .books) (classAt A (h .books) o) (o / 4096))
-        go false e = record { refused = λ _. refl; done = λ e. absurd (omega arith) }
+        go false e true = record { refused = λ _. refl; done = λ e. absurd (omega arith) }
+        go false e false = record { refused = λ _. refl; done = λ e. absurd (omega arith) }
 
   -- ---- a resize
   half-done : (h : Heap) (new : ℕ) (g : Heap) (r : Outcome)

@@ -85,8 +85,8 @@ right-shape m b k w =
       eq-eqb (length k) (mapLength (at b 0) (at b 1)) (w .map),
     )
 
--- a call whose number is one of 01's table answered a
-pub small-number : {b : List ℕ} {x : Outcome} → Fair b x → (a : Answer) (g : Heap) → outcome a g ≡ x → a .number ≤ 7
+-- a call that is fair answered a
+pub small-number : {b : List ℕ} {x : Outcome} → Fair b x → (a : Answer) (g : Heap) → outcome a g ≡ x → a .number ≤ 10
 small-number t a g e = rw (ap (λ (y : Outcome). y .answer .number) e) (t .small)
 
 -- m′, b′ and k′ are the heap g, whose A and P are those of b, and are as long as m, b and k

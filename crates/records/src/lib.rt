@@ -202,7 +202,7 @@ fn refusal(bytes: &[u8], number: u8, live: u32) -> Reply
 
 // The reply to a call that answered so.
 fn reply_to(bytes: &[u8], answer: Answer, size: u32, live: u32) -> Reply
-    requires { ⌜ (16 ≤ length (now bytes)) × (answer .number ≤ 7) ⌝ }
+    requires { ⌜ (16 ≤ length (now bytes)) × (answer .number ≤ 10) ⌝ }
     ensures { λ r. ⌜ r ≡ replyTo (now (bytes .entry)) answer size live ⌝ }
 {
     let number = answer.number;

@@ -1,11 +1,12 @@
--- 01, "Classes and blocks", at the alignment al (8 in 01): classes, block starts, a freed block's link, the live test.
+-- 01, "Classes and blocks", at the alignment al (8 in 01): classes, block starts, a freed block's link, the live test;
+-- and 02's dead block (W-206).
 -- Assumes nothing.
 use mathlib.Core.Bool.{Bool, _&&_}
 use mathlib.Core.List.{List}
 use Prim.Native.Nat.{ℕ, _+_, _*_, _-_, _/_, _%_}
 use lib.Dec.{leb, ltb, eqb}
 use Rattle.rules.specs.Say.{if_then_else_, _▷_}
-use Rattle.rules.specs.Books.{at, put, memoryLength, isSet, class, pool}
+use Rattle.rules.specs.Books.{at, put, memoryLength, isSet, class, nextoffset, pool, carved}
 
 -- "Size n from 1 to 512 has class (n − 1) div 8 and block size 8 × (class + 1)."
 abbrev pub largest : ℕ
@@ -55,15 +56,28 @@ classAt A b o = pool A b class (o / 4096)
 abbrev pub sizeAt : ℕ → ℕ → List ℕ → ℕ → ℕ
 sizeAt al A b o = sizeOf al (classAt A b o)
 
--- "An offset is live if it lies in memory, its pool's class is at most 63, it is a block start of that class
--- and its map bit is set."
-unfoldable pub live : ℕ → ℕ → ℕ → List ℕ → List ℕ → ℕ → Bool
-live al A P b m o =
+-- "An offset is live if it lies in memory, its pool's class is at most 63, it is a block start of that class .."
+abbrev pub atStart : ℕ → ℕ → ℕ → List ℕ → ℕ → Bool
+atStart al A P b o =
     ltb o (memoryLength A P)
     && leb (classAt A b o) (lastClass al)
     && isStart (sizeAt al A b o) (o % 4096)
-    && isSet m (o / 4096) (blockNo (sizeAt al A b o) (o % 4096))
 
--- the number for an offset that is not live, said here alone
+-- ".. and its map bit is set."
+unfoldable pub live : ℕ → ℕ → ℕ → List ℕ → List ℕ → ℕ → Bool
+live al A P b m o = atStart al A P b o && isSet m (o / 4096) (blockNo (sizeAt al A b o) (o % 4096))
+
+-- 02, W-206: "the offset is a block start, below nextoffset, of a carved pool of class at most 63"
+unfoldable pub isBlock : ℕ → ℕ → ℕ → List ℕ → ℕ → Bool
+isBlock al A P b o =
+    atStart al A P b o
+    && ltb (o % 4096) (pool A b nextoffset (o / 4096))
+    && carved P b (o / 4096)
+
+-- ---- the number of an offset, said here alone
+-- of one that is not live: "10 where" that holds, "5 otherwise"
+abbrev pub deadNumber : ℕ → ℕ → ℕ → List ℕ → ℕ → ℕ
+deadNumber al A P b o = if isBlock al A P b o then 10 else 5
+
 unfoldable pub liveNumber : ℕ → ℕ → ℕ → List ℕ → List ℕ → ℕ → ℕ
-liveNumber al A P b m o = if live al A P b m o then 0 else 5
+liveNumber al A P b m o = if live al A P b m o then 0 else deadNumber al A P b o

@@ -3,7 +3,7 @@
 use mathlib.Core.Bool.{Bool, _&&_}
 use mathlib.Core.List.{List}
 use Prim.Native.Nat.{ℕ, _+_, _*_, _-_, _/_, _%_, _^_}
-use lib.Dec.{leb, eqb}
+use lib.Dec.{leb, ltb, eqb}
 use lib.ListN.{length, getD, set}
 
 -- A heap is what its three lent buffers hold.
@@ -169,3 +169,9 @@ linked l = l - 1
 -- "Pool n is in arena n div P and starts at memory offset 4,096n": byte f of pool n
 abbrev pub offsetOf : ℕ → ℕ → ℕ
 offsetOf n f = 4096 * n + f
+
+-- 02, W-201: "A carved pool lies below an open (1) arena's mark": pool n is number n mod P of its arena
+unfoldable pub carved : ℕ → List ℕ → ℕ → Bool
+carved P b n =
+    eqb (arena b openWord (n / P)) 1
+    && ltb (n % P) (arena b carveMark (n / P))

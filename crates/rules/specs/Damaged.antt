@@ -609,7 +609,7 @@ resizeNoRoom =
 abbrev resizeCopies : List Line
 resizeCopies =
     asks 1 0 48 ∷ asks 9 0 4144 ∷ writes 48 (1 ∷ 2 ∷ 3 ∷ 4 ∷ 5 ∷ 6 ∷ 7 ∷ 8 ∷ []) 0 48 ∷ link= 56 99 ∷ link= 4168 77
-    ∷ resizes 48 9 0 4160 ∷ has (link 4160) 67305985 ∷ has (link 4164) 134678021 ∷ has (link 4168) 77 ∷ views 48 5 0 []
+    ∷ resizes 48 9 0 4160 ∷ has (link 4160) 67305985 ∷ has (link 4164) 134678021 ∷ has (link 4168) 77 ∷ views 48 10 0 []
     ∷ writes 4160 (1 ∷ 2 ∷ 3 ∷ 4 ∷ 5 ∷ 6 ∷ 7 ∷ 8 ∷ 9 ∷ 10 ∷ 11 ∷ 12 ∷ 13 ∷ 14 ∷ 15 ∷ 16 ∷ []) 0 4160
     ∷ views 4160 0 16 (1 ∷ 2 ∷ 3 ∷ 4 ∷ 5 ∷ 6 ∷ 7 ∷ 8 ∷ 9 ∷ 10 ∷ 11 ∷ 12 ∷ 13 ∷ 14 ∷ 15 ∷ 16 ∷ [])
     ∷ link= 52 0 ∷ resizes 4160 3 0 48 ∷ has (link 48) 197121 ∷ has (link 52) 0 ∷ []
@@ -626,14 +626,25 @@ halfDoneSix =
     asks 1 0 48 ∷ writes 48 (1 ∷ 2 ∷ 3 ∷ 4 ∷ 5 ∷ 6 ∷ 7 ∷ 8 ∷ []) 0 48 ∷ word= (inPool 0 count) 0 ∷ resizes 48 9 6 4144
     ∷ has (link 4144) 67305985 ∷ bit? 0 0 1 ∷ bit? 1 0 1 ∷ []
 
--- .. the give-back meets 5. Pool 0 holds blocks 0 to 2 of class 0, the first two are given back, and the books say
--- that it is a freed pool.
--- R9: the copied bytes are those that stand after the ask, which wrote a link over the old block's first four
+-- ---- pool 0 holds blocks 0 to 2 of class 0, the first two are given back, the third, at 64, has a text, and the books
+-- say that the pool is a freed one
+abbrev heldAsFreed : List Line → List Line
+heldAsFreed ls =
+    asks 1 0 48 ∷ asks 1 0 56 ∷ asks 1 0 64 ∷ gives 48 0 48 ∷ gives 56 0 56
+    ∷ writes 64 (1 ∷ 2 ∷ 3 ∷ 4 ∷ 5 ∷ 6 ∷ 7 ∷ 8 ∷ []) 0 64 ∷ word= (inArena 0 freedHead) 1 ∷ ls
+
+-- .. the give-back meets 5: the ask sets the pool to class 2, which has no block at 64
 abbrev halfDoneFive : List Line
 halfDoneFive =
-    asks 1 0 48 ∷ asks 1 0 56 ∷ asks 1 0 64 ∷ gives 48 0 48 ∷ gives 56 0 56
-    ∷ writes 64 (1 ∷ 2 ∷ 3 ∷ 4 ∷ 5 ∷ 6 ∷ 7 ∷ 8 ∷ []) 0 64 ∷ word= (inArena 0 freedHead) 1 ∷ resizes 64 9 6 48
-    ∷ has (link 48) 0 ∷ has (link 52) 134678021 ∷ bit? 0 2 1 ∷ word? (inPool 0 count) 1 ∷ []
+    heldAsFreed (resizes 64 17 6 48
+    ∷ has (link 48) 67305985 ∷ has (link 52) 134678021 ∷ bit? 0 2 1 ∷ word? (inPool 0 count) 1 ∷ [])
+
+-- W-206: "The half-done resize covers 10 as well": the ask sets the pool to class 1, whose block at 64 is dead.
+-- R9: the copied bytes are those that stand after the ask, which wrote a link over the old block's first four
+abbrev halfDoneTen : List Line
+halfDoneTen =
+    heldAsFreed (resizes 64 16 6 48
+    ∷ has (link 48) 0 ∷ has (link 52) 134678021 ∷ bit? 0 2 1 ∷ word? (inPool 0 count) 1 ∷ gives 64 10 0 ∷ [])
 
 -- R10: the give-back goes by the class that the books then show: 80 was block 4 of class 0, and is block 2 of class 1
 abbrev resizeByNewClass : List Line
@@ -694,14 +705,18 @@ longBooks = asks 1 0 48 ∷ spoil (onBooks (λ b. b ++ (0 ∷ []))) ∷ wrongLen
 abbrev longMap : List Line
 longMap = asks 1 0 48 ∷ spoil (onMap (λ m. 0 ∷ m)) ∷ wrongLength
 
--- 3 before 5, and before the step; 5 before 7, and before the step
+-- 3 before 5, and before the step; 5 before 7, and before the step.
+-- W-206: "Every call that gave 5 takes the split, in the same place": 10, of the block at 56, as 5, of none at 64
 abbrev orderRest : List Line
 orderRest =
     word= (classHead 0) 10 ∷ asks 0 3 0 ∷ asks 513 3 0 ∷ asks 1 6 0 ∷ word= (classHead 0) 0
-    ∷ asks 1 0 48 ∷ resizes 56 0 3 0 ∷ resizes 56 513 3 0 ∷ resizes 56 1 5 0
-    ∷ writes 56 (1 ∷ 2 ∷ 3 ∷ 4 ∷ 5 ∷ 6 ∷ 7 ∷ 8 ∷ 9 ∷ []) 5 0
+    ∷ asks 1 0 48 ∷ resizes 64 0 3 0 ∷ resizes 64 513 3 0 ∷ resizes 64 1 5 0
+    ∷ resizes 56 0 3 0 ∷ resizes 56 513 3 0 ∷ resizes 56 1 10 0
+    ∷ writes 64 (1 ∷ 2 ∷ 3 ∷ 4 ∷ 5 ∷ 6 ∷ 7 ∷ 8 ∷ 9 ∷ []) 5 0
+    ∷ writes 56 (1 ∷ 2 ∷ 3 ∷ 4 ∷ 5 ∷ 6 ∷ 7 ∷ 8 ∷ 9 ∷ []) 10 0
     ∷ writes 48 (1 ∷ 2 ∷ 3 ∷ 4 ∷ 5 ∷ 6 ∷ 7 ∷ 8 ∷ 9 ∷ []) 7 0
-    ∷ word= (inPool 0 count) 0 ∷ gives 56 5 0 ∷ gives 48 6 0 ∷ []
+    ∷ views 64 5 0 [] ∷ views 56 10 0 [] ∷ viewAt? 56 0
+    ∷ word= (inPool 0 count) 0 ∷ gives 64 5 0 ∷ gives 56 10 0 ∷ gives 48 6 0 ∷ []
 
 -- ==== view, write, roll call
 -- the live test: "it lies in memory, its pool's class is at most 63, it is a block start of that class and its map
@@ -710,11 +725,54 @@ orderRest =
 -- a pool of 512 has blocks 0 to 6
 abbrev notLive : List Line
 notLive =
-    asks 512 0 48 ∷ gives 49 5 0 ∷ gives 47 5 0 ∷ gives 560 5 0 ∷ gives 36912 5 0
+    asks 512 0 48 ∷ gives 49 5 0 ∷ gives 47 5 0 ∷ gives 560 10 0 ∷ gives 1072 5 0 ∷ gives 36912 5 0
     ∷ bit= 0 6 1 ∷ bit= 0 7 1 ∷ gives 3632 5 0
     ∷ word= (inPool 0 class) 64 ∷ gives 48 5 0 ∷ views 48 5 0 [] ∷ viewAt? 48 0 ∷ rolls [] 0 0 []
     ∷ word= (inPool 0 class) 63 ∷ word= (inPool 0 freeblock) 7 ∷ gives 48 6 0
     ∷ rolls (9 ∷ 9 ∷ 9 ∷ 9 ∷ 9 ∷ []) 0 2 (48 ∷ 512 ∷ 3120 ∷ 512 ∷ 9 ∷ []) ∷ []
+
+-- ==== W-206: a dead block, or no block
+-- "10 where the offset is a block start, below nextoffset, of a carved pool of class at most 63, but not live": set
+-- ready and never handed out; given back, while another block holds the arena open. "5 otherwise": at nextoffset; at no
+-- start; once the arena is released
+abbrev deadBlock : List Line
+deadBlock =
+    asks 1 0 48 ∷ gives 56 10 0 ∷ gives 64 5 0 ∷ gives 52 5 0
+    ∷ asks 1 0 56 ∷ gives 48 0 48 ∷ gives 48 10 0 ∷ resizes 48 1 10 0 ∷ writes 48 [] 10 0 ∷ views 48 10 0 []
+    ∷ asks 9 0 4144 ∷ gives 56 0 56 ∷ gives 56 10 0 ∷ gives 48 10 0
+    ∷ gives 4144 0 4144 ∷ gives 4144 5 0 ∷ gives 56 5 0 ∷ gives 48 5 0 ∷ []
+
+-- "an open (1) arena's": 2 is not open, nor is 0. A live block is live whatever stands there
+abbrev deadOpen : List Line
+deadOpen =
+    asks 1 0 48 ∷ word= (inArena 0 openWord) 0 ∷ gives 56 5 0 ∷ writes 48 [] 0 48
+    ∷ word= (inArena 0 openWord) 2 ∷ gives 56 5 0 ∷ word= (inArena 0 openWord) 1 ∷ gives 56 10 0 ∷ []
+
+-- "below .. mark", whatever the mark is: pool 4 is number 1 of arena 1, and 16,472 its block that is set ready.
+-- The other arenas' words say nothing of it
+abbrev deadMark : List Line
+deadMark =
+    filled (word= (inArena 1 carveMark) 0 ∷ gives 16472 5 0 ∷ word= (inArena 1 carveMark) 1 ∷ gives 16472 5 0
+    ∷ word= (inArena 1 carveMark) 2 ∷ gives 16472 10 0 ∷ word= (inArena 1 carveMark) 4294967295 ∷ gives 16472 10 0
+    ∷ word= (inArena 0 openWord) 0 ∷ word= (inArena 0 carveMark) 0 ∷ gives 16472 10 0
+    ∷ word= (inArena 1 openWord) 0 ∷ gives 16472 5 0 ∷ [])
+
+-- "below nextoffset": the in-pool place, 88, of that block
+abbrev deadNextoffset : List Line
+deadNextoffset =
+    filled (word= (inPool 4 nextoffset) 87 ∷ gives 16472 5 0 ∷ word= (inPool 4 nextoffset) 88 ∷ gives 16472 5 0
+    ∷ word= (inPool 4 nextoffset) 89 ∷ gives 16472 10 0 ∷ word= (inPool 0 nextoffset) 0 ∷ gives 16472 10 0 ∷ [])
+
+-- "of class at most 63", and "a block start" of it: 3,632 is none for 512, though nextoffset is past it
+abbrev deadClass : List Line
+deadClass =
+    asks 1 0 48 ∷ bit= 0 0 0 ∷ gives 48 10 0 ∷ word= (inPool 0 class) 64 ∷ gives 48 5 0
+    ∷ word= (inPool 0 class) 63 ∷ gives 48 10 0
+    ∷ word= (inPool 0 nextoffset) 4294967295 ∷ gives 3120 10 0 ∷ gives 3632 5 0 ∷ gives 560 10 0 ∷ gives 561 5 0 ∷ []
+
+-- "but not live": the same block, its bit being set
+abbrev deadBit : List Line
+deadBit = asks 1 0 48 ∷ gives 56 10 0 ∷ bit= 0 1 1 ∷ writes 56 [] 0 56 ∷ bit= 0 1 0 ∷ gives 56 10 0 ∷ []
 
 -- the last block of memory is live too: pool 8 is made the front pool of class 0, with that block to spare
 abbrev lastBlock : List Line
@@ -795,10 +853,12 @@ damaged =
     ∷ backJoinsEmpty ∷ emptyNext ∷ emptyPrevious ∷ emptyFreedHead ∷ emptyFreePools
     ∷ backReturns ∷ releaseNext ∷ releasePrevious ∷ releaseWords ∷ releaseLeaves
     ∷ otherArena ∷ otherArenaAgain ∷ otherArenaLinks ∷ otherClass
-    ∷ resizeAskSix ∷ resizeNoRoom ∷ resizeCopies ∷ resizeKeeps ∷ halfDoneSix ∷ halfDoneFive ∷ resizeByNewClass
+    ∷ resizeAskSix ∷ resizeNoRoom ∷ resizeCopies ∷ resizeKeeps
+    ∷ halfDoneSix ∷ halfDoneFive ∷ halfDoneTen ∷ resizeByNewClass
     ∷ orderTwoWords ∷ twoWords ∷ orderOne ∷ rangeEnds ∷ orderTwo
     ∷ orderTwoBooks ∷ orderTwoMap ∷ longMemory ∷ longBooks ∷ longMap ∷ orderRest
-    ∷ notLive ∷ lastBlock ∷ writing ∷ standing ∷ standingShape ∷ rolling ∷ rollingLast ∷ rollingStray ∷ rollingOnes ∷ []
+    ∷ notLive ∷ deadBlock ∷ deadOpen ∷ deadMark ∷ deadNextoffset ∷ deadClass ∷ deadBit ∷ lastBlock
+    ∷ writing ∷ standing ∷ standingShape ∷ rolling ∷ rollingLast ∷ rollingStray ∷ rollingOnes ∷ []
 
 -- the table holds of a fresh heap over these three buffers
 abbrev pub Holds : List ℕ → List ℕ → List ℕ → Type 0

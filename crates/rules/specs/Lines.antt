@@ -7,8 +7,8 @@ use lib.Dec.{eqb}
 use Rattle.rules.specs.declared.Answer.{Answer}
 use Rattle.rules.specs.declared.Sized.{Sized}
 use Rattle.rules.specs.declared.Rolled.{Rolled}
-use Rattle.rules.specs.Books.{Heap, at, inRange, exact, bit, putBit, mapWord}
-use Rattle.rules.specs.Blocks.{isStart, linkAt, putLink, live, liveNumber}
+use Rattle.rules.specs.Books.{Heap, at, inRange, exact, bit, putBit, mapWord, carved}
+use Rattle.rules.specs.Blocks.{isStart, linkAt, putLink, live, isBlock, liveNumber}
 use Rattle.rules.specs.Lists.{leaveBy, joinBy}
 use Rattle.rules.specs.Outcome.{heapOf}
 use Rattle.rules.specs.Format.{freshBooks}
@@ -96,7 +96,7 @@ same (x ∷ xs) (y ∷ ys) = eqb x y && same xs ys
 
 -- every line holds, each over the heap that those before it leave
 unfoldable pub runs : List Line → Heap → Bool
-unfolding inRange exact bit putBit isStart linkAt putLink live liveNumber leaveBy joinBy freshBooks
+unfolding inRange exact bit putBit carved isStart linkAt putLink live isBlock liveNumber leaveBy joinBy freshBooks
     noLink fromFreeblock fromListed setAnew sameClass takeAgain fromMark fromFreed fromUsable fromUnused
     planAsk takeFrom afterAsk askAnswer askStep emptying planBack afterBack backAnswer backStep
     giveOld moved resizeStep rollBlocks rollPool rollPools fitNumber shapeNumber sizeNumber roomNumber

@@ -38,7 +38,8 @@ sizeNumber n = if leb 1 n && leb n largest then 0 else 3
 unfoldable pub roomNumber : ℕ → ℕ → ℕ
 roomNumber wanted room = if ltb room wanted then 7 else 0
 
--- ---- "Order: books under two words is 2; then 1, 2, 3, 5, 7, and then the step": the first number that is not 0
+-- ---- "Order: books under two words is 2; then 1, 2, 3, 5, 7, and then the step": the first number that is not 0;
+-- 02, W-206: 10 is "in the same place" as 5
 infixr 12 _before_
 abbrev pub _before_ : ℕ → ℕ → ℕ
 j before k = passing j (λ number. number) k
@@ -68,8 +69,8 @@ abbrev pub sizedOf : ℕ → ℕ → Sized
 sizedOf k s = record { number = k; size = s }
 
 module _ (al : ℕ) where
-  -- by the heap's own books and map: 5, of an offset; all tests of a call on an offset; the size of the block there;
-  -- the roll
+  -- by the heap's own books and map: 5 or 10, of an offset; all tests of a call on an offset; the size of the block
+  -- there; the roll
   abbrev pub offsetNumber : Heap → ℕ → ℕ
   offsetNumber h o = liveNumber al (arenas h) (pools h) (h .books) (h .map) o
 

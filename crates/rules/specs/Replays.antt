@@ -32,7 +32,7 @@ every (r ∷ rs) h = same (replay h (r .input)) (r .output) && every rs h
 
 abbrev pub replays : List Replayed
 replays =
-    -- "One case whole"
+    -- "One case whole"; W-206: "The fourth reply in 01's whole case becomes 020a"
     turns
     (bytes (0x01000000 ∷ 0x01000000 ∷ 0x00000000 ∷ 0x00000000
     ∷ 0x01000000 ∷ 0x09000000 ∷ 0x00000000 ∷ 0x00000000
@@ -41,7 +41,7 @@ replays =
     (bytes (0x01000000 ∷ 0x30000000 ∷ 0x08000000 ∷ 0x01000000
     ∷ 0x01000000 ∷ 0x30100000 ∷ 0x10000000 ∷ 0x02000000
     ∷ 0x02000000 ∷ 0x30000000 ∷ 0x08000000 ∷ 0x01000000
-    ∷ 0x02050000 ∷ 0x30000000 ∷ 0x00000000 ∷ 0x01000000 ∷ []))
+    ∷ 0x020a0000 ∷ 0x30000000 ∷ 0x00000000 ∷ 0x01000000 ∷ []))
     -- "A short last record gets op 0, number 8, offset 0, size 0", and the live blocks at that point
     ∷ turns
     (bytes (0x01000000 ∷ 0x01000000 ∷ 0x00000000 ∷ 0x00000000

@@ -26,7 +26,7 @@ module _ (al A P : ℕ) where
   giveOld h o = passing (liveNumber al A P (h .books) (h .map) o) (λ k. refused k h) (backStep al A P h o)
 
   -- where the give-back leaves r: "if the ask is done and the give-back would then meet 5 or 6, the answer is 6 with
-  -- the new offset, and the ask and copy stand"; otherwise the new offset
+  -- the new offset, and the ask and copy stand" (02, W-206: it "covers 10 as well"); otherwise the new offset
   abbrev pub halfDone : ℕ → Outcome → Outcome
   halfDone new r = passing (r .answer .number) (λ k. outcome (answerOf 6 new) (r .heap)) (done new (r .heap))
 

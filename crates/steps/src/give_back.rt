@@ -13,9 +13,9 @@ use books::lists::may_join;
 use books::lists::may_leave;
 use books::lists::pool_links;
 use books::numbers::DAMAGED;
-use books::numbers::NO_BLOCK;
-use books::numbers::NOT_LIVE;
+use books::numbers::REFUSED;
 use books::numbers::live_block;
+use books::numbers::refusal;
 use books::pool::Pool;
 use books::pool::load_pool;
 use books::pool::store_pool;
@@ -29,6 +29,7 @@ use books::words::PREVIOUS;
 use books::words::RECORDS;
 use books::words::UNUSED_HEAD;
 use books::words::USABLE_HEAD;
+use books::words::arena_of;
 use books::words::arena_word;
 use books::words::index;
 use loops::put_words;
@@ -69,14 +70,6 @@ fn take_back(
     store_pool(books, arenas, p, pool.give(f as u32));
     put_link(memory, 4096 * p + f, pool.freeblock);
     clear_bit(map, p, k);
-}
-
-// The arena of a pool.
-fn arena_of(arenas: usize, pools: usize, p: usize) -> usize
-    requires { ⌜ Range arenas pools × (p < arenas * pools) ⌝ }
-    ensures { λ r. ⌜ (r ≡ p / pools) × (r < arenas) ⌝ }
-{
-    p / pools
 }
 
 // Pool p goes to the front of arena a's freed pools.
@@ -257,8 +250,8 @@ pub fn give_old(
         × (r ≡ 0 → offset < memoryLength arenas pools) ⌝ }
 {
     let k = live_block(memory, books, map, arenas, pools, offset);
-    if k == NO_BLOCK {
-        return NOT_LIVE;
+    if REFUSED <= k {
+        return refusal(k);
     }
     back_step(memory, books, map, arenas, pools, offset, k)
 }

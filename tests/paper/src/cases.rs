@@ -1,5 +1,5 @@
-//! 01's cases and W-214's, for any program behind the calls. Each number is 01's, or follows from the sentence that its
-//! case names.
+//! 01's cases, W-206's and W-214's, for any program behind the calls. Each number is 01's, or follows from the sentence
+//! that its case names.
 
 use crate::desk::*;
 use crate::readings;
@@ -10,9 +10,9 @@ use crate::{Answer, Calls, Place};
 /// A case by its name. It panics where the program answers otherwise.
 pub type Case = (&'static str, fn(&mut dyn Calls));
 
-/// Every case: 01's own, W-214's and those of the readings.
+/// Every case: 01's own, W-206's, W-214's and those of the readings.
 pub fn all() -> Vec<Case> {
-    [PAPER, STAND_IN, readings::CASES].concat()
+    [PAPER, SPLIT, STAND_IN, readings::CASES].concat()
 }
 
 const PAPER: &[Case] = &[
@@ -37,6 +37,18 @@ const PAPER: &[Case] = &[
     ("roll call", roll_call),
     ("two usable arenas", two_usable_arenas),
     ("released arena", released_arena),
+];
+
+const SPLIT: &[Case] = &[
+    ("W-206: 01's whole case", whole_case),
+    ("W-206: given back twice", given_back_twice),
+    ("W-206: one arena of two released", one_arena_released),
+    ("W-206: in each call", split_in_each_call),
+    ("W-206: in the same place", split_in_the_same_place),
+    ("W-206: ready and virgin blocks", ready_and_virgin),
+    ("W-206: a pool that was full", was_full),
+    ("W-206: another class", another_class),
+    ("W-206: a block that moved", moved_away),
 ];
 
 const STAND_IN: &[Case] = &[
@@ -176,11 +188,12 @@ fn refused_resize(calls: &mut dyn Calls) {
     desk.done(GiveBack { offset: 48 }, 48);
 }
 
-/// Books under two words is 2; then 1, 2, 3, 5, 7.
+/// Books under two words is 2; then 1, 2, 3, 5 or 10, 7.
 fn order_of_the_numbers(calls: &mut dyn Calls) {
     let mut desk = Desk::fresh(calls, 1, 2);
     desk.done(Ask { size: 8 }, 48);
     desk.refused(Write { offset: 49, length: 600, first: 0 }, 5);
+    desk.refused(Write { offset: 56, length: 600, first: 0 }, 10);
     desk.refused(Write { offset: 48, length: 9, first: 0 }, 7);
     for (memory, books, map) in [(8191, 96, 16), (8192, 95, 16), (8192, 96, 15), (8193, 96, 16), (0, 2, 0)] {
         desk.lend(memory, books, map);
@@ -225,8 +238,10 @@ fn write_and_view(calls: &mut dyn Calls) {
     assert_eq!(desk.bytes(48, 6), [90, 91, 92, 13, 14, 15]);
     assert_eq!(desk.view(48), (48, 16));
     desk.done(ViewSize { offset: 48 }, 16);
-    assert_eq!(desk.view(64), (0, 0));
-    desk.refused(ViewSize { offset: 64 }, 5);
+    for (offset, number) in [(64, 10), (80, 5)] {
+        assert_eq!(desk.view(offset), (0, 0));
+        desk.refused(ViewSize { offset }, number);
+    }
 }
 
 /// Offset and block size by rising offset; the words after them stay, and so does a roll that is too short.
@@ -263,6 +278,164 @@ fn released_arena(calls: &mut dyn Calls) {
     assert_eq!([*desk.books(USABLE), *desk.books(UNUSED)], [0, 1]);
     assert_eq!(desk.arena_record(0), [0; 8]);
     desk.done(Ask { size: 24 }, 48);
+}
+
+/// The fourth reply becomes 10: the pool is freed, but the second block holds its arena open.
+fn whole_case(calls: &mut dyn Calls) {
+    let mut desk = Desk::fresh(calls, 1, 16);
+    desk.done(Ask { size: 1 }, 48);
+    desk.done(Ask { size: 9 }, 4144);
+    desk.done(GiveBack { offset: 48 }, 48);
+    desk.refused(GiveBack { offset: 48 }, 10);
+}
+
+/// It is 10 while another block holds the arena open, in its own pool or in another one, and 5 once the arena is
+/// released. A released arena that is opened again has carved only what it carved since.
+fn given_back_twice(calls: &mut dyn Calls) {
+    let mut desk = Desk::fresh(calls, 1, 2);
+    for (size, offset) in [(8, 48), (8, 56), (16, 4144)] {
+        desk.done(Ask { size }, offset);
+    }
+    for offset in [48, 56] {
+        desk.done(GiveBack { offset }, offset as u32);
+        desk.refused(GiveBack { offset }, 10);
+    }
+    desk.refused(GiveBack { offset: 48 }, 10);
+    desk.done(GiveBack { offset: 4144 }, 4144);
+    for offset in [48, 56, 4144] {
+        desk.refused(GiveBack { offset }, 5);
+    }
+
+    // the second pool's record stands as it stood, but the pool is not carved
+    desk.done(Ask { size: 8 }, 48);
+    desk.refused(GiveBack { offset: 56 }, 10);
+    assert_eq!([CLASS, NEXTOFFSET].map(|word| *desk.pool(1, word)), [1, 80]);
+    desk.refused(GiveBack { offset: 4144 }, 5);
+    desk.done(Ask { size: 24 }, 4144);
+    desk.done(GiveBack { offset: 4144 }, 4144);
+    desk.refused(GiveBack { offset: 4144 }, 10);
+}
+
+/// The other arena stays open, and its dead blocks dead.
+fn one_arena_released(calls: &mut dyn Calls) {
+    let mut desk = Desk::fresh(calls, 2, 2);
+    for (size, offset) in [(8, 48), (16, 4144), (24, 8240), (32, 12_336)] {
+        desk.done(Ask { size }, offset);
+    }
+    for offset in [48, 8240, 4144] {
+        desk.done(GiveBack { offset }, offset as u32);
+    }
+    for (offset, number) in [(48, 5), (4144, 5), (8240, 10), (12_368, 10)] {
+        desk.refused(GiveBack { offset }, number);
+    }
+}
+
+/// Every call that gave 5 takes the split; what view hands back is empty, and stand-in's is the phrase.
+fn split_in_each_call(calls: &mut dyn Calls) {
+    let mut desk = Desk::fresh(calls, 1, 2);
+    desk.done(Ask { size: 16 }, 48);
+    desk.done(Ask { size: 16 }, 64);
+    desk.done(GiveBack { offset: 48 }, 48);
+    for (offset, number) in [(48, 10), (80, 10), (96, 5), (56, 5), (0, 5), (4144, 5), (8192, 5), (usize::MAX, 5)] {
+        desk.refused(GiveBack { offset }, number);
+        for size in [8, 15, 16, 512] {
+            desk.refused(Resize { offset, size }, number);
+        }
+        desk.refused(ViewSize { offset }, number);
+        for length in [0, 16] {
+            desk.refused(Write { offset, length, first: 7 }, number);
+        }
+        assert_eq!(desk.view(offset), (0, 0));
+        desk.stand_in(offset, Text(6, b'z'), Place::Phrase(0, 6));
+    }
+    desk.done(ViewSize { offset: 64 }, 16);
+}
+
+/// After 1, 2 and 3, before 7, and before the step with its 4 and 6.
+fn split_in_the_same_place(calls: &mut dyn Calls) {
+    let mut desk = Desk::fresh(calls, 1, 2);
+    for (size, offset) in [(8, 48), (8, 56), (16, 4144)] {
+        desk.done(Ask { size }, offset);
+    }
+    desk.done(GiveBack { offset: 48 }, 48);
+    for size in [0, 513] {
+        desk.refused(Resize { offset: 48, size }, 3);
+    }
+    for length in [9, 513, 600] {
+        desk.refused(Write { offset: 48, length, first: 7 }, 10);
+    }
+    desk.refused(Resize { offset: 56, size: 24 }, 4);
+    desk.refused(Resize { offset: 48, size: 24 }, 10);
+
+    for word in [USABLE, head(8), head(16)] {
+        *desk.books(word) = u32::MAX;
+    }
+    for word in [COUNT, FREEBLOCK] {
+        *desk.pool(0, word) = 49_999;
+    }
+    desk.refused(Resize { offset: 56, size: 16 }, 6);
+    desk.refused(GiveBack { offset: 56 }, 6);
+    desk.refused(Resize { offset: 48, size: 16 }, 10);
+    desk.refused(GiveBack { offset: 48 }, 10);
+
+    *desk.books(1) = 1;
+    desk.refused(GiveBack { offset: 48 }, 1);
+    *desk.books(1) = 2;
+    desk.lend(8191, 96, 16);
+    desk.refused(GiveBack { offset: 48 }, 2);
+}
+
+/// A block is 5 while it is virgin, at nextoffset and above it, and 10 from when an ask sets it ready.
+fn ready_and_virgin(calls: &mut dyn Calls) {
+    let mut desk = Desk::fresh(calls, 1, 16);
+    for k in 0..4 {
+        desk.done(Ask { size: 8 }, 48 + 8 * k as u32);
+        assert_eq!([FREEBLOCK, NEXTOFFSET].map(|word| *desk.pool(0, word)), [56 + 8 * k as u32, 64 + 8 * k as u32]);
+        for (offset, number) in [(56 + 8 * k, 10), (64 + 8 * k, 5), (72 + 8 * k, 5), (4088, 5)] {
+            desk.refused(GiveBack { offset }, number);
+        }
+    }
+}
+
+/// Its nextoffset is where blocks end, so that each of its blocks is below it.
+fn was_full(calls: &mut dyn Calls) {
+    let mut desk = Desk::fresh(calls, 1, 2);
+    (0..7).for_each(|k| desk.done(Ask { size: 512 }, 48 + 512 * k));
+    assert_eq!(*desk.pool(0, NEXTOFFSET), 3632);
+    for offset in [3120, 48, 1584] {
+        desk.done(GiveBack { offset }, offset as u32);
+        desk.refused(GiveBack { offset }, 10);
+    }
+    desk.refused(GiveBack { offset: 3632 }, 5);
+}
+
+/// A freed pool keeps its class and its dead blocks; set to another class it has the starts of that one.
+fn another_class(calls: &mut dyn Calls) {
+    let mut desk = Desk::fresh(calls, 1, 16);
+    for (size, offset) in [(8, 48), (8, 56), (16, 4144)] {
+        desk.done(Ask { size }, offset);
+    }
+    desk.done(GiveBack { offset: 48 }, 48);
+    desk.done(GiveBack { offset: 56 }, 56);
+    for (offset, number) in [(48, 10), (56, 10), (64, 10), (72, 5)] {
+        desk.refused(ViewSize { offset }, number);
+    }
+    desk.done(Ask { size: 24 }, 48);
+    for (offset, number) in [(56, 5), (64, 5), (72, 10), (96, 5)] {
+        desk.refused(ViewSize { offset }, number);
+    }
+}
+
+/// Where a block was before a resize moved it, it is dead.
+fn moved_away(calls: &mut dyn Calls) {
+    let mut desk = Desk::fresh(calls, 1, 16);
+    desk.done(Ask { size: 8 }, 48);
+    desk.done(Resize { offset: 48, size: 6 }, 56);
+    desk.refused(GiveBack { offset: 48 }, 10);
+    desk.done(Resize { offset: 56, size: 16 }, 4144);
+    for offset in [48, 56] {
+        desk.refused(Resize { offset, size: 8 }, 10);
+    }
 }
 
 /// The block's own bytes, the whole block as in view, however long text and phrase are.

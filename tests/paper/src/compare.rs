@@ -5,28 +5,40 @@ use std::fmt;
 use std::time::{Duration, Instant};
 
 use crate::damage::Source;
+use crate::sides::{Seen, SIDES};
 use crate::steps::{in_words, word_name, Buffers, Call, Outcome, Step};
 use crate::{Calls, Path, Rule, Trail};
 
-/// How often each call gave each number, and each path and rule was met.
+/// The numbers that a call can give; 8 and 9 are the replay's.
+const NUMBERS: [usize; 9] = [0, 1, 2, 3, 4, 5, 6, 7, 10];
+
+/// How often each call gave each number, and each path, rule and side of the split was met.
 pub struct Tally {
     pub calls: u64,
     pub heaps: u64,
-    numbers: [[u64; 8]; Call::KINDS.len()],
+    numbers: [[u64; 11]; Call::KINDS.len()],
     paths: Vec<u64>,
     rules: Vec<u64>,
+    sides: Vec<u64>,
 }
 
 impl Tally {
     pub fn new() -> Tally {
         let (paths, rules) = (vec![0; Path::ALL.len()], vec![0; Rule::ALL.len()]);
-        Tally { calls: 0, heaps: 0, numbers: Default::default(), paths, rules }
+        let (numbers, sides) = (Default::default(), vec![0; SIDES.len()]);
+        Tally { calls: 0, heaps: 0, numbers, paths, rules, sides }
     }
 
-    fn note(&mut self, call: &Call, outcome: &Outcome, trail: Option<&Trail>) {
+    /// A call's outcome, and the heap that it left.
+    fn note(&mut self, call: &Call, outcome: &Outcome, heap: &Buffers, trail: Option<&Trail>) {
         self.calls += 1;
-        if let Some(count) = self.numbers[call.kind()].get_mut(outcome.answer.number as usize) {
+        let number = outcome.answer.number;
+        if let Some(count) = self.numbers[call.kind()].get_mut(number as usize) {
             *count += 1;
+        }
+        // a refused call has changed nothing
+        if let (5 | 10, Some(offset)) = (number, call.offset()) {
+            self.note_sides(number, heap, offset);
         }
         if let Some(trail) = trail {
             trail.paths.iter().for_each(|path| self.paths[*path as usize] += 1);
@@ -34,14 +46,23 @@ impl Tally {
         }
     }
 
-    /// The numbers that a call can give, and the paths and rules, that were met fewer times than this, in words.
+    fn note_sides(&mut self, number: u32, heap: &Buffers, offset: usize) {
+        if let Some(seen) = Seen::new(heap, offset) {
+            for (count, (_, gives, met)) in self.sides.iter_mut().zip(SIDES) {
+                *count += u64::from(*gives == number && met(&seen));
+            }
+        }
+    }
+
+    /// The numbers that a call can give, and the paths, rules and sides, that were met fewer times than this, in words.
     pub fn rarer_than(&self, least: u64) -> Vec<String> {
         let numbers = Call::KINDS.iter().zip(&self.numbers).flat_map(|((name, can), met)| {
             can.iter().map(move |number| (format!("{name}: number {number}"), met[*number]))
         });
         let paths = Path::ALL.iter().zip(&self.paths).map(|(path, n)| (path.words().to_string(), *n));
         let rules = Rule::ALL.iter().zip(&self.rules).map(|(rule, n)| (rule.words().to_string(), *n));
-        let rare = numbers.chain(paths).chain(rules).filter(|(_, n)| *n < least);
+        let sides = SIDES.iter().zip(&self.sides).map(|((words, ..), n)| (words.to_string(), *n));
+        let rare = numbers.chain(paths).chain(rules).chain(sides).filter(|(_, n)| *n < least);
         rare.map(|(words, n)| format!("{words}: {n} times")).collect()
     }
 }
@@ -55,10 +76,10 @@ impl Default for Tally {
 impl fmt::Display for Tally {
     fn fmt(&self, f: &mut fmt::Formatter) -> fmt::Result {
         writeln!(f, "calls by number, over {} heaps:", self.heaps)?;
-        writeln!(f, "{:34}{}", "", (0..8).map(|n| format!("{n:>9}")).collect::<String>())?;
-        for ((name, can), numbers) in Call::KINDS.iter().zip(&self.numbers) {
+        writeln!(f, "{:34}{}", "", NUMBERS.map(|number| format!("{number:>9}")).concat())?;
+        for ((name, can), met) in Call::KINDS.iter().zip(&self.numbers) {
             if !can.is_empty() {
-                writeln!(f, "{name:34}{}", numbers.map(|n| format!("{n:>9}")).concat())?;
+                writeln!(f, "{name:34}{}", NUMBERS.map(|number| format!("{:>9}", met[number])).concat())?;
             }
         }
         writeln!(f, "paths:")?;
@@ -68,6 +89,10 @@ impl fmt::Display for Tally {
         writeln!(f, "rules of 6:")?;
         for (rule, n) in Rule::ALL.iter().zip(&self.rules) {
             writeln!(f, "{n:>10}  {}", rule.words())?;
+        }
+        writeln!(f, "sides of the split of 5:")?;
+        for ((words, ..), n) in SIDES.iter().zip(&self.sides) {
+            writeln!(f, "{n:>10}  {words}")?;
         }
         Ok(())
     }
@@ -131,7 +156,7 @@ pub fn compare(
             steps.push(step);
             let (outcome, _, same) = pair.take(&step);
             if let Step::Call(call) = step {
-                tally.note(&call, &outcome, pair.left.calls.trail());
+                tally.note(&call, &outcome, &pair.left.buffers, pair.left.calls.trail());
                 source.learn(&call, outcome.answer);
             }
             if !same {

@@ -72,6 +72,8 @@ pub struct Source {
     sizes: Vec<usize>,
     /// The offsets that were handed out and not given back, as far as the answers tell.
     held: Vec<usize>,
+    /// The last few that were given back or moved away from.
+    gone: VecDeque<usize>,
     /// How many of a hundred asks and give-backs are asks.
     rise: usize,
     calls_left: usize,
@@ -103,9 +105,10 @@ impl Source {
             Kind::MadeUp => rng.between(8, 64),
         };
         let sizes = sizes(&mut rng, kind);
-        let (held, waiting, mends) = (Vec::new(), VecDeque::new(), Vec::new());
+        let (held, gone, waiting, mends) = (Vec::new(), VecDeque::new(), VecDeque::new(), Vec::new());
         let (rise, stuck) = (80, 0);
-        let mut source = Source { rng, kind, arenas, pools, sizes, held, rise, calls_left, stuck, waiting, mends };
+        let mut source =
+            Source { rng, kind, arenas, pools, sizes, held, gone, rise, calls_left, stuck, waiting, mends };
         source.begin();
         source
     }
@@ -131,15 +134,22 @@ impl Source {
         match (call, answer.number) {
             (Call::Ask { .. }, 0) => self.held.push(answer.value as usize),
             (Call::Ask { .. }, 4) => self.rise = self.rng.pick(&[10, 30, 50]),
-            (Call::GiveBack { offset }, 0 | 5) => self.held.retain(|held| held != offset),
+            (Call::GiveBack { offset }, 0) => self.let_go(*offset),
+            (Call::GiveBack { offset }, 5 | 10) => self.held.retain(|held| held != offset),
             (Call::Resize { offset, .. }, 0) => {
-                self.held.retain(|held| held != offset);
+                self.let_go(*offset);
                 self.held.push(answer.value as usize);
             }
             (Call::Resize { .. }, 6) if answer.value != 0 => self.held.push(answer.value as usize),
             (Call::Format { .. }, 0) => self.held.clear(),
             _ => {}
         }
+    }
+
+    fn let_go(&mut self, offset: usize) {
+        self.held.retain(|held| *held != offset);
+        self.gone.push_front(offset);
+        self.gone.truncate(8);
     }
 
     fn begin(&mut self) {
@@ -177,6 +187,8 @@ impl Source {
             self.waiting.extend([Step::Lend(wrong), Step::Call(call), Step::Lend(exact)]);
         } else if self.kind != Kind::Sound && self.rng.one_in(60) {
             self.take_again(heap);
+        } else if self.kind != Kind::Sound && self.rng.one_in(60) {
+            self.go_to_the_split(heap);
         } else {
             let call = self.call(heap, exact[0]);
             self.waiting.push_back(Step::Call(call));
@@ -214,18 +226,25 @@ impl Source {
     fn call(&mut self, heap: &Buffers, memory: usize) -> Call {
         let offset = self.offset(heap);
         match self.rng.below(100) {
+            0..=25 => self.call_on(heap, offset, memory),
+            26..=27 => Call::RollCall { words: self.roll_words(heap) },
+            28 if self.rng.one_in(3) => self.format(),
+            _ if self.rng.below(100) < self.rise || self.held.is_empty() => Call::Ask { size: self.size() },
+            _ => Call::GiveBack { offset },
+        }
+    }
+
+    /// A call on this offset, but for a give-back.
+    fn call_on(&mut self, heap: &Buffers, offset: usize, memory: usize) -> Call {
+        match self.rng.below(26) {
             0..=1 => Call::View { offset },
             2..=3 => Call::ViewSize { offset },
             4..=6 => {
                 let length = self.length(heap, offset);
                 Call::Write { offset, length, first: self.rng.draw() as u8 }
             }
-            7..=8 => Call::RollCall { words: self.roll_words(heap) },
-            9 if self.rng.one_in(3) => self.format(),
-            10..=24 => Call::Resize { offset, size: self.new_size(heap, offset) },
-            25..=28 => Call::StandIn { offset, phrase: self.phrase(heap, offset, memory) },
-            _ if self.rng.below(100) < self.rise || self.held.is_empty() => Call::Ask { size: self.size() },
-            _ => Call::GiveBack { offset },
+            7..=10 => Call::StandIn { offset, phrase: self.phrase(heap, offset, memory) },
+            _ => Call::Resize { offset, size: self.new_size(heap, offset) },
         }
     }
 
@@ -315,7 +334,7 @@ impl Source {
         Phrase::Part(start, length)
     }
 
-    /// Mostly an offset that is held; otherwise one near it, a start that may be dead, or any number at all.
+    /// Mostly an offset that is held; otherwise one near it, one that may be dead or no block, or any number at all.
     fn offset(&mut self, heap: &Buffers) -> usize {
         let all = self.arenas * self.pools;
         let held = if self.held.is_empty() { 48 } else { self.rng.pick(&self.held) };
@@ -331,10 +350,29 @@ impl Source {
                 // a start, or the place after the last one
                 4096 * pool + block_start(size, self.rng.below(4048 / size + 1))
             }
+            6 => self.dead(heap),
             // the newest, so that blocks come and go in turn
-            6..=15 => self.held.last().copied().unwrap_or(48),
+            7..=16 => self.held.last().copied().unwrap_or(48),
             _ => held,
         }
+    }
+
+    /// An offset that is likely dead: given back, freed, ready, or a start on one side or the other of nextoffset.
+    fn dead(&mut self, heap: &Buffers) -> usize {
+        if !self.gone.is_empty() && self.rng.one_in(2) {
+            return self.gone[self.rng.below(self.gone.len())];
+        }
+        let (pool, size, first) = self.freed(heap);
+        let nextoffset = heap.books[self.pool_word(pool, 5)] as usize;
+        let place = match self.rng.below(6) {
+            0 => first,
+            1 => nextoffset,
+            2 => nextoffset.wrapping_sub(size),
+            3 => nextoffset + size,
+            4 => block_start(size, self.rng.below(3)),
+            _ => block_start(size, 4048 / size - 1),
+        };
+        4096 * pool + place % 4096
     }
 
     /// The block size of the pool that an offset lies in, as far as the books tell.
@@ -384,12 +422,16 @@ impl Source {
     }
 
     /// The pool of a held block comes to be the next that an ask takes, and the block is resized: the ask and the
-    /// give-back of one resize then meet in one pool.
+    /// give-back of one resize then meet in one pool, often where the old block is the new class's second.
     fn take_again(&mut self, heap: &Buffers) {
         let all = self.arenas * self.pools;
         let offset = self.offset(heap);
         let pool = (offset / 4096).min(all - 1);
-        let size = self.rng.pick(&[8, 16, 24, 32, 256, 512]);
+        let second = (offset % 4096).saturating_sub(48) / 8 * 8;
+        let size = match self.rng.pick(&[8, 16, 24, 32, 256, 512, second, second, second]) {
+            size @ 8..=512 => size,
+            _ => 16,
+        };
         let arena = (heap.books[2] as usize).clamp(1, self.arenas) - 1;
         let free = self.rng.between(1, self.pools) as u32;
         let words = [
@@ -403,6 +445,47 @@ impl Source {
         // a pool is set to a class only where its first two bits are clear
         self.waiting.push_back(Step::Bits(8 * pool, heap.map[8 * pool] & !3));
         self.waiting.push_back(Step::Call(Call::Resize { offset, size: size - self.rng.below(8) }));
+    }
+
+    /// The words that W-206's split reads come to make a dead block of an offset, but for one of them, or the offset,
+    /// that is on the other side; a call meets it, and then the words are as they were.
+    fn go_to_the_split(&mut self, heap: &Buffers) {
+        let mut offset = self.dead(heap);
+        let (pool, place) = (offset / 4096, offset % 4096);
+        let (arena, number) = (pool / self.pools, (pool % self.pools) as u32);
+        let (pools, size) = (self.pools as u32, self.block_size(heap, offset));
+        let [at_open, at_mark] = [0, 1].map(|word| self.arena_word(arena, word));
+        let [at_class, at_nextoffset] = [4, 5].map(|word| self.pool_word(pool, word));
+
+        let (mut open, mut class) = (1, heap.books[at_class]);
+        let mut mark = self.rng.pick(&[number + 1, number + 1, pools, pools + 1, u32::MAX]);
+        let mut nextoffset = self.rng.pick(&[place + 1, place + size, place + size, 4096 - size, 4096, offset + 1]);
+        match self.rng.below(6) {
+            0 => open = self.rng.pick(&[0, 2, 2, 3, 1 << 16, (1 << 16) + 1, u32::MAX]),
+            1 => mark = self.rng.pick(&[0, number, number, number.saturating_sub(1)]),
+            2 => nextoffset = place.saturating_sub(self.rng.pick(&[0, 0, 1, size, place])),
+            3 => {
+                class = self.rng.pick(&[63, 64, 64, 64, 65, 66, 511, 65_535, (1 << 16) + 1, u32::MAX]);
+                // what would be a start of such a class
+                let size = self.rng.pick(&[512, 520, 520, 528]);
+                offset = 4096 * pool + block_start(size, self.rng.below(4048 / size));
+                nextoffset = 4096;
+            }
+            4 => {
+                // in the header, inside a block, or where a block would run past the pool
+                let past = block_start(size, 4048 / size);
+                offset = 4096 * pool + self.rng.pick(&[0, 40, 47, place + 1, place + 4, place + 8, past, past]) % 4096;
+                nextoffset = 4096;
+            }
+            _ => {}
+        }
+        let words = [(at_open, open), (at_mark, mark), (at_class, class), (at_nextoffset, nextoffset as u32)];
+        self.waiting.extend(words.map(|(at, word)| Step::Word(at, word)));
+        let give_back = self.rng.one_in(3);
+        let memory = lengths(self.arenas, self.pools)[0];
+        let call = if give_back { Call::GiveBack { offset } } else { self.call_on(heap, offset, memory) };
+        self.waiting.push_back(Step::Call(call));
+        self.waiting.extend(words.map(|(at, _)| Step::Word(at, heap.books[at])));
     }
 
     fn spoil_word(&mut self, heap: &Buffers) -> (Step, Step) {

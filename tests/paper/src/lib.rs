@@ -1,5 +1,5 @@
-//! 01 and W-214 of 02 read a second time: the calls as a trait, one program that keeps them, and what tells any other
-//! program from it.
+//! 01, and W-206 and W-214 of 02, read a second time: the calls as a trait, one program that keeps them, and what tells
+//! any other program from it.
 
 pub mod cases;
 pub mod compare;
@@ -9,6 +9,7 @@ pub mod desk;
 pub mod library;
 pub mod paper;
 pub mod readings;
+pub mod sides;
 pub mod steps;
 pub mod trail;
 

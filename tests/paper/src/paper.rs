@@ -1,5 +1,5 @@
-//! 01 as a program: its calls over lent buffers, in its order and its words, on any lengths and any contents. The call
-//! of W-214 of 02 stands beside view.
+//! 01 as a program: its calls over lent buffers, in its order and its words, on any lengths and any contents. The split
+//! of 5 that W-206 of 02 makes stands at the live test, the call of W-214 beside view.
 //!
 //! A step writes as it goes, in the order that 01 gives, and notes what stood there before. Where a used word breaks
 //! its rule, the notes are walked back and the answer is 6. So 01 can be laid beside this file sentence by sentence.
@@ -168,20 +168,28 @@ impl Heap<'_> {
     }
 
     /// An offset is live if it lies in memory, its pool's class is at most 63, it is a block start of that class and
-    /// its map bit is set. Otherwise it is 5.
+    /// its map bit is set. Otherwise (W-206) it is 10 where it is a block start, below nextoffset, of a carved pool of
+    /// class at most 63, but not live; 5 otherwise.
     fn live(&self, offset: usize) -> Refused<Block> {
         if offset >= self.lent.memory.len() {
             return refuse(5);
         }
-        let pool = offset / POOL;
+        let (pool, start) = (offset / POOL, offset % POOL);
         let class = self.read(self.pool(pool, CLASS));
         if class > 63 {
             return refuse(5);
         }
-        match block_at(class, offset % POOL) {
+        match block_at(class, start) {
             Some(k) if self.bit(pool, k) => Ok(Block { pool, class, k }),
+            Some(_) if start < self.read(self.pool(pool, NEXTOFFSET)) && self.carved(pool) => refuse(10),
             _ => refuse(5),
         }
+    }
+
+    /// A carved pool lies below an open (1) arena's mark, by its number in its arena and whatever the mark is.
+    fn carved(&self, pool: usize) -> bool {
+        let (arena, number) = (pool / self.pools, pool % self.pools);
+        self.read(self.arena(arena, OPEN)) == 1 && number < self.read(self.arena(arena, CARVE_MARK))
     }
 
     /// Every live block with its offset, by rising offset.
@@ -542,8 +550,8 @@ impl Heap<'_> {
         self.join(self.arena_list(UNUSED), arena, Rule::ReleasedHead)
     }
 
-    /// **Resize** of a live block to n. If the ask is done and the give-back would then meet 5 or 6, the answer is 6
-    /// with the new offset, and the ask and copy stand.
+    /// **Resize** of a live block to n. If the ask is done and the give-back would then meet 5 or 6, or 10 as well, the
+    /// answer is 6 with the new offset, and the ask and copy stand.
     fn resize(&mut self, offset: usize, block: Block, n: usize) -> Refused<usize> {
         let s = block.size();
         if n <= s && 4 * n > 3 * s {
@@ -557,7 +565,11 @@ impl Heap<'_> {
         match given {
             Ok(_) => self.walk(Path::Moved),
             Err(refusal) => {
-                self.walk(if refusal.number == 5 { Path::HalfDoneBy5 } else { Path::HalfDoneBy6 });
+                self.walk(match refusal.number {
+                    5 => Path::HalfDoneBy5,
+                    10 => Path::HalfDoneBy10,
+                    _ => Path::HalfDoneBy6,
+                });
                 return Err(Answer { number: 6, value: new as u32 });
             }
         }
@@ -625,7 +637,7 @@ fn answer(outcome: Refused<usize>) -> Answer {
     }
 }
 
-/// Each call tests in the order 1, 2, 3, 5, 7, and then comes the step, which gives 4 or 6.
+/// Each call tests in the order 1, 2, 3, 5 or 10, 7, and then comes the step, which gives 4 or 6.
 impl Calls for Paper {
     fn format(&mut self, lent: Lent, arenas: usize, pools: usize) -> Answer {
         self.trail.clear();

@@ -28,6 +28,13 @@ pub const CASES: &[Case] = &[
     ("R23: no number of a caller is cut to fit", r23),
     ("a returning pool reads the freed-pool head", returning_pool),
     ("W-202: a bit at no block is in no roll, and takes no room", w202),
+    ("W-206: carved, the open word is 1", w206_open),
+    ("W-206: carved, below the mark whatever it is", w206_mark),
+    ("W-206: the in-pool place is below nextoffset", w206_nextoffset),
+    ("W-206: a class above 63 has no dead block", w206_class),
+    ("W-206: where no block starts there is no dead one", w206_start),
+    ("W-206: 10 for a block never handed out", w206_ready),
+    ("W-206: the half-done resize meets 10", w206_half_done),
     ("W-214: 1 and 2 are refusals of view too, so the phrase", w214),
 ];
 
@@ -264,6 +271,134 @@ fn w202(calls: &mut dyn Calls) {
     *desk.pool(0, CLASS) = 64;
     desk.done(RollCall { words: 0 }, 0);
     desk.done(RollCall { words: 2024 }, 0);
+}
+
+/// Read as any word but 0, open 2 would be 10; read as no clause of the split, open 0 too. A block that is live is so
+/// whatever the word.
+fn w206_open(calls: &mut dyn Calls) {
+    let mut desk = Desk::fresh(calls, 1, 2);
+    desk.done(Ask { size: 8 }, 48);
+    desk.done(Ask { size: 8 }, 56);
+    desk.done(GiveBack { offset: 48 }, 48);
+    for (open, number) in [(0, 5), (1, 10), (2, 5), (3, 5), (65_537, 5), (u32::MAX, 5)] {
+        *desk.arena(0, OPEN) = open;
+        desk.refused(GiveBack { offset: 48 }, number);
+        desk.refused(GiveBack { offset: 64 }, number);
+        desk.refused(GiveBack { offset: 72 }, 5);
+        desk.done(ViewSize { offset: 56 }, 8);
+    }
+}
+
+/// Pool 4 is number 1 of arena 1. Read as at most the mark, 1 would be 10; by the pool's number in the heap, 2 to 4
+/// would be 5, and so would those above P if they were no mark. Another arena's mark says nothing.
+fn w206_mark(calls: &mut dyn Calls) {
+    let mut desk = Desk::fresh(calls, 2, 3);
+    for (n, size) in [8, 16, 24, 32, 40].into_iter().enumerate() {
+        desk.done(Ask { size }, 4096 * n as u32 + 48);
+    }
+    for other in [0, 3] {
+        *desk.arena(0, CARVE_MARK) = other;
+        for (mark, number) in [(0, 5), (1, 5), (2, 10), (3, 10), (4, 10), (5, 10), (u32::MAX, 10)] {
+            *desk.arena(1, CARVE_MARK) = mark;
+            desk.refused(GiveBack { offset: 16_472 }, number);
+            desk.done(ViewSize { offset: 16_432 }, 40);
+        }
+    }
+}
+
+/// Place 64 of pool 1 is offset 4,160. Read as at most nextoffset, 64 would be 10; by the whole offset, all up to 4,160
+/// would be 5, and by where the block ends 65 to 79. A block that is live is so above nextoffset too.
+fn w206_nextoffset(calls: &mut dyn Calls) {
+    let mut desk = Desk::fresh(calls, 1, 2);
+    for (size, offset) in [(8, 48), (16, 4144), (16, 4160)] {
+        desk.done(Ask { size }, offset);
+    }
+    desk.done(GiveBack { offset: 4160 }, 4160);
+    for nextoffset in [0, 48, 63, 64] {
+        *desk.pool(1, NEXTOFFSET) = nextoffset;
+        desk.refused(GiveBack { offset: 4160 }, 5);
+        desk.done(ViewSize { offset: 4144 }, 16);
+    }
+    for nextoffset in [65, 72, 79, 80, 96, 4096, 4160, 4161, u32::MAX] {
+        *desk.pool(1, NEXTOFFSET) = nextoffset;
+        desk.refused(GiveBack { offset: 4160 }, 10);
+    }
+}
+
+/// 560 is a start of class 63, and 568 would be one of class 64. Read with a class of 64 or with any, 48 and 568 would
+/// be 10.
+fn w206_class(calls: &mut dyn Calls) {
+    let mut desk = Desk::fresh(calls, 1, 2);
+    desk.done(Ask { size: 512 }, 48);
+    desk.refused(GiveBack { offset: 560 }, 10);
+    desk.all_bits(0);
+    desk.refused(GiveBack { offset: 48 }, 10);
+    for nextoffset in [1072, u32::MAX] {
+        *desk.pool(0, NEXTOFFSET) = nextoffset;
+        for class in [64, 65, 127, 65_535, u32::MAX] {
+            *desk.pool(0, CLASS) = class;
+            for offset in [48, 560, 568, 576, 1072] {
+                desk.refused(GiveBack { offset }, 5);
+            }
+        }
+    }
+}
+
+/// In the header, inside a block, and where a block would run past its pool. Read as any place below nextoffset, they
+/// would be 10.
+fn w206_start(calls: &mut dyn Calls) {
+    let mut desk = Desk::fresh(calls, 1, 2);
+    desk.done(Ask { size: 16 }, 48);
+    desk.done(Ask { size: 512 }, 4144);
+    for nextoffset in [80, u32::MAX] {
+        *desk.pool(0, NEXTOFFSET) = nextoffset;
+        for offset in [0, 16, 32, 47, 49, 52, 56, 63, 65, 68, 72, 79] {
+            desk.refused(GiveBack { offset }, 5);
+        }
+        desk.refused(GiveBack { offset: 64 }, 10);
+    }
+    desk.refused(GiveBack { offset: 4080 }, 10);
+    *desk.pool(1, NEXTOFFSET) = u32::MAX;
+    desk.refused(GiveBack { offset: 4096 + 3120 }, 10);
+    desk.refused(GiveBack { offset: 4096 + 3632 }, 5);
+}
+
+/// Read as a block that was handed out and came back, 56 would be 5.
+fn w206_ready(calls: &mut dyn Calls) {
+    let mut desk = Desk::fresh(calls, 1, 2);
+    desk.done(Ask { size: 1 }, 48);
+    desk.refused(GiveBack { offset: 56 }, 10);
+    desk.refused(GiveBack { offset: 64 }, 5);
+}
+
+/// The old block's pool is set to another class, of which the old offset is the second start: below nextoffset, and not
+/// live. Read without 10, the answer would be 10 or a resize that is done. Where the pool is not carved, or where no
+/// block of that class starts, the give-back meets 5 and the answer is the same.
+fn w206_half_done(calls: &mut dyn Calls) {
+    for (word, value, met) in [(OPEN, 1, 10), (OPEN, 0, 5), (OPEN, 2, 5), (CARVE_MARK, 0, 5)] {
+        let mut desk = Desk::fresh(calls, 1, 2);
+        (0..3).for_each(|k| desk.done(Ask { size: 8 }, 48 + 8 * k));
+        desk.done(Write { offset: 64, length: 8, first: b'A' }, 64);
+        desk.done(GiveBack { offset: 48 }, 48);
+        desk.done(GiveBack { offset: 56 }, 56);
+        *desk.arena(0, FREED_HEAD) = 1;
+        *desk.arena(0, word) = value;
+        assert_eq!(desk.answer(Resize { offset: 64, size: 16 }), Answer { number: 6, value: 48 });
+
+        // the ask and the copy stand
+        assert_eq!([COUNT, FREEBLOCK, CLASS, NEXTOFFSET].map(|word| *desk.pool(0, word)), [1, 64, 1, 80]);
+        assert_eq!(*desk.bits(0), 0b101);
+        assert_eq!(desk.bytes(48, 8), [0, 0, 0, 0, b'E', b'F', b'G', b'H']);
+        desk.refused(GiveBack { offset: 64 }, met);
+    }
+
+    let mut desk = Desk::fresh(calls, 1, 2);
+    (0..4).for_each(|k| desk.done(Ask { size: 8 }, 48 + 8 * k));
+    desk.done(GiveBack { offset: 48 }, 48);
+    desk.done(GiveBack { offset: 56 }, 56);
+    *desk.arena(0, FREED_HEAD) = 1;
+    assert_eq!(desk.answer(Resize { offset: 72, size: 16 }), Answer { number: 6, value: 48 });
+    desk.refused(GiveBack { offset: 72 }, 5);
 }
 
 /// The block would be live but for A and P, or for the lengths.

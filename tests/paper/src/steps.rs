@@ -31,7 +31,7 @@ pub enum Phrase {
 }
 
 /// The numbers that view can give.
-const VIEW: &[usize] = &[0, 1, 2, 5];
+const VIEW: &[usize] = &[0, 1, 2, 5, 10];
 
 impl Call {
     /// The kinds of calls, each with the numbers that it can give. View gives none, its companion gives view's.
@@ -39,11 +39,11 @@ impl Call {
     pub const KINDS: [(&'static str, &'static [usize]); 14] = [
         ("format", &[0, 1, 2]),
         ("ask", &[0, 1, 2, 3, 4, 6]),
-        ("give back", &[0, 1, 2, 5, 6]),
-        ("resize", &[0, 1, 2, 3, 4, 5, 6]),
+        ("give back", &[0, 1, 2, 5, 6, 10]),
+        ("resize", &[0, 1, 2, 3, 4, 5, 6, 10]),
         ("view", &[]),
         ("view's size", VIEW),
-        ("write", &[0, 1, 2, 5, 7]),
+        ("write", &[0, 1, 2, 5, 7, 10]),
         ("roll call", &[0, 1, 2, 7]),
         ("stand-in: an empty text", VIEW),
         ("stand-in: a text", VIEW),
@@ -72,6 +72,19 @@ impl Call {
                 Phrase::Part(start, length) if (start..start + length).contains(&offset) => 12,
                 Phrase::Part(..) => 13,
             },
+        }
+    }
+
+    /// The offset that it is given, if it takes one.
+    pub fn offset(&self) -> Option<usize> {
+        match *self {
+            Call::GiveBack { offset }
+            | Call::Resize { offset, .. }
+            | Call::View { offset }
+            | Call::ViewSize { offset }
+            | Call::Write { offset, .. }
+            | Call::StandIn { offset, .. } => Some(offset),
+            Call::Format { .. } | Call::Ask { .. } | Call::RollCall { .. } => None,
         }
     }
 }

@@ -41,6 +41,7 @@ named! {
         Kept = "resize: the offset is kept",
         Moved = "resize: the block moves",
         HalfDoneBy5 = "resize: half done, the give-back meets 5",
+        HalfDoneBy10 = "resize: half done, the give-back meets 10",
         HalfDoneBy6 = "resize: half done, the give-back meets 6",
     }
 }

@@ -9,8 +9,8 @@ use heskavern_paper::{Calls, Paper};
 const USAGE: &str = "usage: compare [--seed N] [--calls N] [--coverage [--least N]]
   --seed N      the seed of the first heap (1); a difference names the seed of its heap
   --calls N     at least this many calls (3000000)
-  --coverage    make the calls of the paper alone and print how often each number, path and rule was met
-  --least N     with --coverage: fail where a number that a call can give, a path or a rule was met fewer times (0)";
+  --coverage    make the calls of the paper alone and print how often each number, path, rule and side was met
+  --least N     with --coverage: fail where a number that a call can give, a path, rule or side was met less often (0)";
 
 struct Wanted {
     seed: u64,
@@ -48,7 +48,7 @@ fn library() -> Option<Box<dyn Calls>> {
     None
 }
 
-/// The calls of the paper alone, and how often each number, path and rule was met.
+/// The calls of the paper alone, and how often each number, path, rule and side was met.
 fn coverage(wanted: &Wanted) -> ExitCode {
     let mut tally = Tally::new();
     let same = compare(&mut Paper::default(), &mut Paper::default(), wanted.seed, wanted.calls, &mut tally);

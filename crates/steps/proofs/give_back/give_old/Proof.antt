@@ -3,11 +3,11 @@
 -- Assumes nothing.
 use mathlib.Core.Path.{refl, sym, _∙_}
 use native.Mathlib.Omega.{arith}
-use Rattle.rules.specs.Outcome.{heapOf}
+use Rattle.rules.specs.Outcome.{heapOf, answerOf}
 use Rattle.rules.specs.Resize.{giveOld}
-use Rattle.books.specs.Known.{found, not-found}
+use Rattle.books.specs.Known.{found, NotFound, not-found}
 use Rattle.steps.specs.Backs.{gave}
-use Rattle.books.specs.Passing.{refusal, step}
+use Rattle.books.specs.Passing.{stopped, refusal, step}
 use borrow.Author.Needs.{needs}
 use Rattle.steps.proofs.give_back.give_old.Statement.{statement}
 use Rattle.steps.proofs.give_back.give_old.Tie as tie
@@ -23,6 +23,15 @@ stepped c = c .before .before .before .before .before .before
 live-block-requires : tie.Need-live-block-requires
 live-block-requires c κs = search needs
 
+-- what is known where the offset is refused
+dead : (c : tie.Then1)
+    → let a = start (c .before) .args in
+    NotFound 8 (a .arenas) (a .pools) (a .books .now) (a .map .now) (a .offset) (omega arith) (omega arith) (c .before .live-block .result)
+dead c = not-found 8 _ _ _ _ _ (omega arith) (omega arith) _ (c .before .live-block .ensures) (c .if1 .taken)
+
+refusal-requires : tie.Need-refusal-requires
+refusal-requires c κs = (c .if1 .taken, dead c .few)
+
 same-length : tie.Need-same-length
 same-length c = search needs
 
@@ -35,14 +44,11 @@ same-length-3 c = search needs
 returns : tie.Need-returns
 unfolding giveOld
 returns c =
-    let at-start = start (c .before) in
-    let a = at-start .args in
-    let h = heapOf (a .memory .now) (a .books .now) (a .map .now) in (
-      refusal h _ (gave (a .offset) 5) 5 _ refl
-          (sym (not-found 8 (a .arenas) (a .pools) (a .books .now) (a .map .now) (a .offset) (omega arith) (omega arith)
-          (sym (c .before .live-block .ensures) ∙ c .if1 .taken))) (λ z. omega arith),
-      λ z. absurd (omega arith),
-    )
+    let a = start (c .before .before) .args in
+    let h = heapOf (a .memory .now) (a .books .now) (a .map .now) in
+    let n = c .refusal .result in
+    let t = dead (c .before) .number n (c .refusal .ensures) in
+    (refusal h _ (gave (a .offset) n) n _ (stopped (λ j. answerOf j 0) (answerOf 0 (a .offset)) n (t .1)) (t .0) (t .1), λ z. absurd (t .1 z))
 
 back-step-requires : tie.Need-back-step-requires
 back-step-requires c κs =
@@ -51,7 +57,7 @@ back-step-requires c κs =
     let at-start = start at-live-block in
     let a = at-start .args in
     let f = found 8 (a .arenas) (a .pools) (a .books .now) (a .map .now) (a .offset) (omega arith) (omega arith)
-    (λ z. at-if1 .if1 .left (at-live-block .live-block .ensures ∙ z)) in
+    (omega (arith, at-if1 .if1 .left, at-live-block .live-block .ensures)) in
     (at-start .pre, f .live-block, at-live-block .live-block .ensures ∙ f .block)
 
 same-length-4 : tie.Need-same-length-4
@@ -73,7 +79,7 @@ returns-2 c =
     let a = at-start .args in
     let h = heapOf (a .memory .now) (a .books .now) (a .map .now) in
     let f = found 8 (a .arenas) (a .pools) (a .books .now) (a .map .now) (a .offset) (omega arith) (omega arith)
-    (λ z. at-if1 .if1 .left (at-live-block .live-block .ensures ∙ z)) in
+    (omega (arith, at-if1 .if1 .left, at-live-block .live-block .ensures)) in
     (step h _ _ 0 _ (at-back-step .back-step .ensures) (sym (f .number)) refl, λ z. f .live-block .inside)
 
 pub give-old-spec : {M : Type 1} → statement M
@@ -81,6 +87,7 @@ give-old-spec =
     tie.close
     (tie.spec
     live-block-requires
+    refusal-requires
     same-length
     same-length-2
     same-length-3

@@ -1,11 +1,11 @@
--- `steps::give_back::arena_of` meets its contract: it is one of the arenas: the pool is one of A times P.
+-- `books::words::arena_of` meets its contract: it is one of the arenas: the pool is one of A times P.
 -- Assumes nothing.
 use mathlib.Core.Path.{refl}
 use native.Mathlib.Nat.{div-lt-iff-lt-mul}
 use native.Mathlib.Omega.{arith}
 use borrow.Author.Needs.{needs}
-use Rattle.steps.proofs.give_back.arena_of.Statement.{statement}
-use Rattle.steps.proofs.give_back.arena_of.Tie as tie
+use Rattle.books.proofs.words.arena_of.Statement.{statement}
+use Rattle.books.proofs.words.arena_of.Tie as tie
 
 div-result : tie.Need-div-result
 div-result c = search needs
