@@ -2,7 +2,7 @@
 -- class or its arena is released. It holds because nothing else lowers a nextoffset or a mark.
 -- Assumes nothing.
 use mathlib.Core.Path.{_≡_, refl, sym, ap, _∙_}
-use mathlib.Core.Logic.{_≢_, _⊎_, inl, inr}
+use mathlib.Core.Logic.{_⊎_, inl, inr}
 use mathlib.Core.Bool.{Bool, true, false, not, _&&_, _||_, true≢false}
 use mathlib.Core.List.{List, []}
 use Prim.Native.Nat.{ℕ, zero, suc, _+_, _*_, _/_, _%_, _≤_, _<_}
@@ -18,13 +18,10 @@ use Rattle.rules.specs.Books.{
   Heap,
   inRange,
   exact,
-  memoryLength,
   mapLength,
   isSet,
   arenas,
   pools,
-  openWord,
-  arena,
   class,
   nextoffset,
   pool,
@@ -34,7 +31,6 @@ use Rattle.rules.specs.Blocks.{classOf, sizeOf, lastClass, startOf, blockNo, cl
 use Rattle.rules.specs.Outcome.{Outcome, heapOf, refused, done, passing}
 use Rattle.rules.specs.Format.{freshBooks}
 use Rattle.rules.specs.Ask.{askAnswer}
-use Rattle.rules.specs.Resize.{keeps}
 use Rattle.rules.specs.Numbers.{
   fitNumber,
   shapeNumber,
@@ -50,13 +46,12 @@ use Rattle.rules.specs.Numbers.{
 }
 use Rattle.books.specs.Known.{shaped, at-start-is, live-is}
 use Rattle.books.specs.Tests.{both, either}
-use Rattle.books.specs.Starts.{start-is}
 use Rattle.laws.specs.Update.{is-false, to, to-same, to-other}
-use Rattle.laws.specs.Plain.{Plain, carved, fresh, planAsk as plainAsk, askPlain, backPlain}
+use Rattle.laws.specs.Plain.{Plain, carved, planAsk as plainAsk, askPlain, backPlain}
 use Rattle.laws.specs.Sizes.{Aligned, size-low, class-low}
 use Rattle.laws.specs.Chains.{live-below}
 use Rattle.laws.specs.Sound.{Sound}
-use Rattle.laws.specs.Held.{held, arena-low, opened, open-word, carved-word, classed, in-class}
+use Rattle.laws.specs.Held.{held, arena-low, opened, open-word, carved-word, classed}
 use Rattle.laws.specs.Holding.{holding}
 use Rattle.laws.specs.Fresh.{fresh-sound}
 use Rattle.laws.specs.Calls.{dead-some, ask-done, ask-leaves, ask-cases, plain-back, block-of, back-dead, back-is, back-leaves}
@@ -85,14 +80,14 @@ use Rattle.laws.specs.History.{
 use Rattle.laws.specs.Tied.{Tied}
 
 -- ---- what the test of a block says
-pub record BlockAt (al A P : ℕ) (b : List ℕ) (o : ℕ) : Type 0 where
+record BlockAt (al A P : ℕ) (b : List ℕ) (o : ℕ) : Type 0 where
   pub starts : atStart al A P b o ≡ true
   pub inside : o / 4096 < A * P
   pub low : classAt A b o ≤ lastClass al
   pub below : o % 4096 < pool A b nextoffset (o / 4096)
   pub cut : is-carved P b (o / 4096) ≡ true
 
-pub block-is : (al A P : ℕ) (b : List ℕ) (o : ℕ) → isBlock al A P b o ≡ true → BlockAt al A P b o
+block-is : (al A P : ℕ) (b : List ℕ) (o : ℕ) → isBlock al A P b o ≡ true → BlockAt al A P b o
 unfolding isBlock
 block-is al A P b o e =
     let u = ltb (o % 4096) (pool A b nextoffset (o / 4096)) in
@@ -121,7 +116,7 @@ module _ {al A P : ℕ} {h : Heap} {r : Plain} (L : Aligned al) (S : Sound al A 
   next-is p l c low = classed (S .rule8 p l (same-carved p l ∙ c)) (class-low L (pool A (h .books) class p) low) .blocks .next-is
 
   -- an arena is open exactly if its mark is not 0
-  pub open-is : (o : ℕ) → o / 4096 < A * P → inOpenArena h o ≡ not (eqb (r .mark (o / 4096 / P)) 0)
+  open-is : (o : ℕ) → o / 4096 < A * P → inOpenArena h o ≡ not (eqb (r .mark (o / 4096 / P)) 0)
   open-is o l =
       rw (S .rule1 .pools-are, open-word L (held S .books) (held S .says) (o / 4096 / P) (arena-low A P (o / 4096) pools-low l))
       (go (r .mark (o / 4096 / P)))
@@ -130,14 +125,17 @@ module _ {al A P : ℕ} {h : Heap} {r : Plain} (L : Aligned al) (S : Sound al A 
       go zero = refl
       go (suc mark) = rw (eqb·suc-zero mark)
 
-  -- a carved pool's is
-  pub carved-open : (o : ℕ) → o / 4096 < A * P → carved P r (o / 4096) ≡ true → inOpenArena h o ≡ true
-  carved-open o l c =
-      let t : o / 4096 % P < r .mark (o / 4096 / P) = ltb-true (o / 4096 % P) (r .mark (o / 4096 / P)) c in
-      open-is o l ∙ rw (ne-eqb (r .mark (o / 4096 / P)) 0 (λ z. absurd (omega arith)))
+  -- a block lies in a carved pool, and so in an open arena
+  in-carved : (o : ℕ) → isBlock al A P (h .books) o ≡ true → carved P r (o / 4096) ≡ true
+  in-carved o e = let t = block-is al A P (h .books) o e in sym (same-carved (o / 4096) (t .inside)) ∙ t .cut
+
+  pub block-open : (o : ℕ) → isBlock al A P (h .books) o ≡ true → inOpenArena h o ≡ true
+  block-open o e =
+      let t : o / 4096 % P < r .mark (o / 4096 / P) = ltb-true (o / 4096 % P) (r .mark (o / 4096 / P)) (in-carved o e) in
+      open-is o (block-is al A P (h .books) o e .inside) ∙ rw (ne-eqb (r .mark (o / 4096 / P)) 0 (λ z. absurd (omega arith)))
 
   -- a live block is a block
-  pub live-block : (o : ℕ) → live al A P (h .books) (h .map) o ≡ true → isBlock al A P (h .books) o ≡ true
+  live-block : (o : ℕ) → live al A P (h .books) (h .map) o ≡ true → isBlock al A P (h .books) o ≡ true
   unfolding live isBlock
   live-block o e =
       let p = o / 4096 in
@@ -168,24 +166,18 @@ module _ {al A P : ℕ} {h h′ : Heap} {r r′ : Plain} (L : Aligned al) (S : S
   t : BlockAt al A P (h .books) o
   t = block-is al A P (h .books) o e
 
-  pub in-pool : o / 4096 < A * P
-  in-pool = t .inside
-
-  pub was-carved : carved P r (o / 4096) ≡ true
-  was-carved = sym (same-carved L S (o / 4096) (t .inside)) ∙ t .cut
-
   -- its pool has the same class in both exactly if it has in both plain heaps
-  pub plain-class : classAt A (h′ .books) o ≡ classAt A (h .books) o → r′ .class (o / 4096) ≡ r .class (o / 4096)
+  plain-class : classAt A (h′ .books) o ≡ classAt A (h .books) o → r′ .class (o / 4096) ≡ r .class (o / 4096)
   plain-class same = sym (S′ .classes (o / 4096) (t .inside)) ∙ same ∙ S .classes (o / 4096) (t .inside)
 
   -- it is a block of the second, where its pool has the same class, no fewer blocks that are not virgin, and is carved
-  pub block-stays : classAt A (h′ .books) o ≡ classAt A (h .books) o → r .virgin (o / 4096) ≤ r′ .virgin (o / 4096)
+  block-stays : classAt A (h′ .books) o ≡ classAt A (h .books) o → r .virgin (o / 4096) ≤ r′ .virgin (o / 4096)
       → carved P r′ (o / 4096) ≡ true → isBlock al A P (h′ .books) o ≡ true
   unfolding isBlock
   block-stays same more cut =
       let p = o / 4096 in
       let low : classAt A (h′ .books) o ≤ lastClass al = rw same (t .low) in
-      let was = next-is L S p (t .inside) was-carved (t .low) in
+      let was = next-is L S p (t .inside) (in-carved L S o e) (t .low) in
       let now = next-is L S′ p (t .inside) cut low ∙ ap (λ (c : ℕ). startOf (sizeOf al c) (r′ .virgin p)) same in
       let s = sizeOf al (classAt A (h .books) o) in
       rw (
@@ -196,13 +188,8 @@ module _ {al A P : ℕ} {h h′ : Heap} {r r′ : Plain} (L : Aligned al) (S : S
         cut,
       )
 
--- the arena of a block is open
-pub block-open : {al A P : ℕ} {h : Heap} {r : Plain} (L : Aligned al) (S : Sound al A P h r) (o : ℕ)
-    → isBlock al A P (h .books) o ≡ true → inOpenArena h o ≡ true
-block-open L S o e = carved-open L S o (in-pool L S S o e) (was-carved L S S o e)
-
 -- ---- from the heap h to the heap h′ the block at o stays one, if its pool has the same class and its arena is open
-abbrev pub Stays : ℕ → ℕ → Heap → Heap → Type 0
+abbrev Stays : ℕ → ℕ → Heap → Heap → Type 0
 Stays al o h h′ =
     poolClass h′ o ≡ poolClass h o → inOpenArena h′ o ≡ true → isBlock al (arenas h′) (pools h′) (h′ .books) o ≡ true
 
@@ -228,8 +215,11 @@ back-class {P = P} {r = r} L S o l x on =
 -- ---- the calls, over a sound heap with a block at o
 module _ {al A P : ℕ} {h : Heap} {r : Plain} (L : Aligned al) (S : Sound al A P h r)
     (o : ℕ) (e : isBlock al A P (h .books) o ≡ true) where
+  inside : o / 4096 < A * P
+  inside = block-is al A P (h .books) o e .inside
+
   -- a refusal changes nothing
-  pub same-stays : Stays al o h h
+  same-stays : Stays al o h h
   same-stays = stays S S o (λ _ _. e)
 
   -- an ask lowers no mark, and no nextoffset but where it sets a pool to another class
@@ -237,10 +227,10 @@ module _ {al A P : ℕ} {h : Heap} {r : Plain} (L : Aligned al) (S : Sound al A 
       → classAt A (h′ .books) o ≡ classAt A (h .books) o → isBlock al A P (h′ .books) o ≡ true
   ask-block n lo hi S′ same =
       let G = ask-done L S n lo hi .grows in
-      block-stays L S S′ o e same (G .ready-still (o / 4096) (was-carved L S S′ o e) (plain-class L S S′ o e same))
-      (G .carved-still (o / 4096) (in-pool L S S′ o e) (was-carved L S S′ o e))
+      block-stays L S S′ o e same (G .ready-still (o / 4096) (in-carved L S o e) (plain-class L S S′ o e same))
+      (G .carved-still (o / 4096) inside (in-carved L S o e))
 
-  pub ask-stays : (n : ℕ) → Stays al o h (ask al h n .heap)
+  ask-stays : (n : ℕ) → Stays al o h (ask al h n .heap)
   ask-stays n =
       ask-cases L S n (λ (y : Outcome). Stays al o h (y .heap)) same-stays same-stays
       (λ lo hi z. let S′ = ask-leaves L S n lo hi z .sound in stays S S′ o (λ same _. ask-block n lo hi S′ same))
@@ -256,31 +246,31 @@ module _ {al A P : ℕ} {h : Heap} {r : Plain} (L : Aligned al) (S : Sound al A 
     S₁ : Sound al A P (giveBack al h x .heap) (backPlain P r p k)
     S₁ = back-leaves L S x on .sound
 
-    pub back-block : inOpenArena (giveBack al h x .heap) o ≡ true
+    back-block : inOpenArena (giveBack al h x .heap) o ≡ true
         → isBlock al A P (giveBack al h x .heap .books) o ≡ true
     back-block opens =
         let z = plain-back P r p k x in
-        block-stays L S S₁ o e (back-class L S o (in-pool L S S₁ o e) x on) (omega (arith, ap (λ (f : ℕ → ℕ). f (o / 4096)) (z .3))) (cut (z .4))
+        block-stays L S S₁ o e (back-class L S o inside x on) (omega (arith, ap (λ (f : ℕ → ℕ). f (o / 4096)) (z .3))) (cut (z .4))
       where
         a : ℕ
         a = o / 4096 / P
 
         same-mark : backPlain P r p k .mark a ≡ r .mark a → carved P (backPlain P r p k) (o / 4096) ≡ true
-        same-mark q = ap (ltb (o / 4096 % P)) q ∙ was-carved L S S₁ o e
+        same-mark q = ap (ltb (o / 4096 % P)) q ∙ in-carved L S o e
 
         other : (q : Dec (a ≡ p / P)) → to (p / P) 0 (r .mark) a ≡ backPlain P r p k .mark a
             → backPlain P r p k .mark a ≡ r .mark a
         other (no q) f = sym f ∙ to-other (p / P) 0 (r .mark) a q
         other (yes q) f =
             let shut : backPlain P r p k .mark a ≡ 0 = sym f ∙ to-same (p / P) 0 (r .mark) a q in
-            absurd (true≢false (sym opens ∙ open-is L S₁ o (in-pool L S S₁ o e) ∙ rw shut))
+            absurd (true≢false (sym opens ∙ open-is L S₁ o inside ∙ rw shut))
 
         cut : (backPlain P r p k .mark ≡ r .mark) ⊎ (backPlain P r p k .mark ≡ to (p / P) 0 (r .mark))
             → carved P (backPlain P r p k) (o / 4096) ≡ true
         cut (inl q) = same-mark (ap (λ (f : ℕ → ℕ). f a) q)
         cut (inr q) = same-mark (other (ℕ-discrete a (p / P)) (sym (ap (λ (f : ℕ → ℕ). f a) q)))
 
-  pub back-stays : (x : ℕ) → Stays al o h (giveBack al h x .heap)
+  back-stays : (x : ℕ) → Stays al o h (giveBack al h x .heap)
   back-stays x = go (live al A P (h .books) (h .map) x) refl
     where
       go : (t : Bool) → live al A P (h .books) (h .map) x ≡ t → Stays al o h (giveBack al h x .heap)
@@ -290,7 +280,7 @@ module _ {al A P : ℕ} {h : Heap} {r : Plain} (L : Aligned al) (S : Sound al A 
 -- a resize is an ask, a copy, which leaves the books, and a give-back, which leaves the classes
 module _ {al A P : ℕ} {h : Heap} {r : Plain} (L : Aligned al) (S : Sound al A P h r)
     (o : ℕ) (e : isBlock al A P (h .books) o ≡ true) (x n : ℕ) where
-  pub resize-stays : Stays al o h (resize al h x n .heap)
+  resize-stays : Stays al o h (resize al h x n .heap)
   resize-stays =
       resize-cases L S x n (λ (y : Outcome). Stays al o h (y .heap)) here here here here
       (λ lo hi on q z. rw (resize-moves L S x n lo hi on z q) (moves lo hi on z))

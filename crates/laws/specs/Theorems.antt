@@ -54,7 +54,6 @@ use Rattle.laws.specs.NoRoom.{four-full, full-four}
 use Rattle.laws.specs.StandIn.{stand-in-means}
 use Rattle.laws.specs.History.{
   Event,
-  gives,
   State,
   released,
   after,

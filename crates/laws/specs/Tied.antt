@@ -2,7 +2,7 @@
 -- the first 48 bytes of each pool stand.
 -- Assumes nothing.
 use mathlib.Core.Path.{_≡_, refl, sym, ap, _∙_, subst}
-use mathlib.Core.Logic.{_≢_, _⊎_, inl, inr}
+use mathlib.Core.Logic.{_≢_, inl, inr}
 use mathlib.Core.Bool.{Bool, true, false, not, false≢true}
 use mathlib.Core.List.{List, [], _∷_, _++_}
 use Prim.Native.Nat.{ℕ, zero, suc, _+_, _%_, _≤_, _<_, min}
@@ -19,7 +19,7 @@ use Rattle.rules.specs.Format.{freshBooks}
 use Rattle.rules.specs.View.{part}
 use Rattle.rules.specs.Ask.{askAnswer, afterAsk}
 use Rattle.rules.specs.Resize.{keeps}
-use Rattle.rules.specs.Numbers.{fitNumber, format, ask, giveBack, resize, write, roomNumber, sizeNumber}
+use Rattle.rules.specs.Numbers.{fitNumber, format, ask, giveBack, resize, write, roomNumber}
 use Rattle.books.specs.Known.{shaped}
 use Rattle.books.specs.Tests.{either}
 use Rattle.laws.specs.Update.{is-false, to, to-cong}

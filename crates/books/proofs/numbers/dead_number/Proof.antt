@@ -1,8 +1,6 @@
 -- `books::numbers::dead_number` makes the two tests that are left of a block's where one would start: below nextoffset,
 -- and in a carved pool.
 -- Assumes nothing.
-use mathlib.Core.Path.{_≡_, refl}
-use mathlib.Core.Bool.{true, false}
 use Prim.Native.Nat.{_/_, _*_, _<_}
 use native.Mathlib.Omega.{arith}
 use Rattle.rules.specs.Blocks.{isBlock}

@@ -1,7 +1,7 @@
 -- `books::numbers::live_number` answers 5 or 10 where the offset is not live, and 0 where it is,
 -- when its pool, its class and its block are known.
 -- Assumes nothing.
-use mathlib.Core.Path.{sym, _∙_}
+use mathlib.Core.Path.{sym}
 use native.Mathlib.Omega.{arith}
 use Rattle.books.specs.Known.{found, NotFound, not-found}
 use borrow.Author.Needs.{needs}
