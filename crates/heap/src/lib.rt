@@ -190,14 +190,23 @@ pub fn view<'a, 'b, 'c>(
     stand_in(memory, books, map, offset, &memory[0..0])
 }
 
-// View's companion: the number and, when done, the block size.
+// View's companion: the number and, when done, the block size. Its tests are those of `offset_test`; they stand here
+// once more, because LLVM calls a function of that size where two calls of the library share it, and inlines one that
+// is write's alone.
 pub fn view_size(memory: &[u8], books: &[u32], map: &[u64], offset: usize) -> Sized
     ensures { λ r. ⌜ ViewSizePromise (heapOf (now (memory .entry)) (now (books .entry)) (now (map .entry)))
         (heapOf (now (memory .exit)) (now (books .exit)) (now (map .exit))) offset r ⌝ }
 {
-    let number = offset_test(memory, books, map, offset);
+    let number = shape_number(memory, books, map);
     if number != 0 {
         return Sized { number, size: 0 };
+    }
+    let dead = live_number(memory, books, map, word(books, 0), word(books, 1), offset);
+    if dead != 0 {
+        return Sized {
+            number: dead,
+            size: 0,
+        };
     }
     Sized {
         number: 0,
