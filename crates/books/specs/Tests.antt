@@ -1,7 +1,7 @@
 -- What the answer to a test says.
 -- Assumes nothing.
 use mathlib.Core.Path.{_≡_, refl, sym, _∙_}
-use mathlib.Core.Bool.{Bool, true, false, not, _&&_}
+use mathlib.Core.Bool.{Bool, true, false, not, _&&_, _||_, true≢false}
 use borrow.Author.Tests.{not-true, not-false}
 use Rattle.rules.specs.Say.{if_then_else_}
 
@@ -9,6 +9,11 @@ use Rattle.rules.specs.Say.{if_then_else_}
 pub both : (t u : Bool) → t && u ≡ true → (t ≡ true) × (u ≡ true)
 both true u e = (refl, e)
 both false u e = (e, cc)
+
+-- and of a test that either of two parts would pass, and that fails, each fails
+pub neither : (t u : Bool) → t || u ≡ false → (t ≡ false) × (u ≡ false)
+neither false u e = (refl, e)
+neither true u e = absurd (true≢false e)
 
 -- `if !answer { return 6; }`: the test that was answered holds after it, and fails within
 pub held : {answer t : Bool} → answer ≡ t → not answer ≡ false → t ≡ true

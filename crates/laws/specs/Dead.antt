@@ -27,7 +27,20 @@ use Rattle.rules.specs.Books.{
   pool,
   carved as is-carved,
 }
-use Rattle.rules.specs.Blocks.{classOf, sizeOf, lastClass, startOf, blockNo, classAt, sizeAt, atStart, live, isBlock, deadNumber}
+use Rattle.rules.specs.Blocks.{
+  classOf,
+  sizeOf,
+  lastClass,
+  startOf,
+  blockNo,
+  classAt,
+  sizeAt,
+  atStart,
+  live,
+  isBlock,
+  deadNumber,
+  liveNumber,
+}
 use Rattle.rules.specs.Outcome.{Outcome, heapOf, refused, done, passing}
 use Rattle.rules.specs.Format.{freshBooks}
 use Rattle.rules.specs.Ask.{askAnswer}
@@ -45,7 +58,7 @@ use Rattle.rules.specs.Numbers.{
   write,
 }
 use Rattle.books.specs.Known.{shaped, at-start-is, live-is}
-use Rattle.books.specs.Tests.{both, either}
+use Rattle.books.specs.Tests.{both, neither, either}
 use Rattle.laws.specs.Update.{is-false, to, to-same, to-other}
 use Rattle.laws.specs.Plain.{Plain, carved, planAsk as plainAsk, askPlain, backPlain}
 use Rattle.laws.specs.Sizes.{Aligned, size-low, class-low}
@@ -54,7 +67,17 @@ use Rattle.laws.specs.Sound.{Sound}
 use Rattle.laws.specs.Held.{held, arena-low, opened, open-word, carved-word, classed}
 use Rattle.laws.specs.Holding.{holding}
 use Rattle.laws.specs.Fresh.{fresh-sound}
-use Rattle.laws.specs.Calls.{dead-some, ask-done, ask-leaves, ask-cases, plain-back, block-of, back-dead, back-is, back-leaves}
+use Rattle.laws.specs.Calls.{
+  live-zero,
+  ask-done,
+  ask-leaves,
+  ask-cases,
+  plain-back,
+  block-of,
+  back-dead,
+  back-is,
+  back-leaves,
+}
 use Rattle.laws.specs.Resized.{copied, copied-sound, still-live, resize-moves, resize-cases}
 use Rattle.laws.specs.Free.{live-held}
 use Rattle.laws.specs.Refused.{tested}
@@ -362,8 +385,8 @@ module _ {al : ℕ} (L : Aligned al) (m₀ : List ℕ) {x : State} (T : Tied al 
 
 -- ---- which number an offset gets
 module _ {al A P : ℕ} {h : Heap} {r : Plain} (L : Aligned al) (S : Sound al A P h r) (o : ℕ) where
-  number-is : (k : ℕ) → giveBack al h o .answer .number ≡ k
-      → (if live al A P (h .books) (h .map) o then 0 else deadNumber al A P (h .books) o) ≡ k
+  number-is : (k : ℕ) → giveBack al h o .answer .number ≡ k → liveNumber al A P (h .books) (h .map) o ≡ k
+  unfolding liveNumber
   number-is k z = go (live al A P (h .books) (h .map) o) refl
     where
       go : (t : Bool) → live al A P (h .books) (h .map) o ≡ t → (if t then 0 else deadNumber al A P (h .books) o) ≡ k
@@ -372,13 +395,10 @@ module _ {al A P : ℕ} {h : Heap} {r : Plain} (L : Aligned al) (S : Sound al A 
 
   -- 0: it is live. 10: it is not live, and there is a block
   pub done-live : giveBack al h o .answer .number ≡ 0 → live al A P (h .books) (h .map) o ≡ true
-  done-live z = go (live al A P (h .books) (h .map) o) (number-is 0 z)
-    where
-      go : (t : Bool) → (if t then 0 else deadNumber al A P (h .books) o) ≡ 0 → t ≡ true
-      go true q = refl
-      go false q = absurd (dead-some al A P (h .books) o q)
+  done-live z = live-zero al A P (h .books) o (h .map) (number-is 0 z)
 
   pub ten-block : giveBack al h o .answer .number ≡ 10 → isBlock al A P (h .books) o ≡ true
+  unfolding liveNumber
   ten-block z = go (live al A P (h .books) (h .map) o) (isBlock al A P (h .books) o) (number-is 10 z)
     where
       go : (t u : Bool) → _≡_ {A = ℕ} (if t then 0 else if u then 10 else 5) 10 → u ≡ true
@@ -422,10 +442,6 @@ module _ {al A P : ℕ} {h : Heap} {r : Plain} (L : Aligned al) (S : Sound al A 
       by-arena false f = rw (shut f, was-open, f)
 
 -- ---- what it says that an event does not end a dead block
-neither : (t u : Bool) → t || u ≡ false → (t ≡ false) × (u ≡ false)
-neither false u e = (refl, e)
-neither true u e = absurd (true≢false e)
-
 pub record NotEnded (x y : State) (o : ℕ) : Type 0 where
   pub held : length (y .ledger o) ≡ 0
   pub class : poolClass (y .heap) o ≡ poolClass (x .heap) o

@@ -21,7 +21,7 @@ use Rattle.rules.specs.declared.BackPlan.{BackPlan}
 use Rattle.rules.specs.declared.BackPlan.the-variants.{Damaged as Broken, Joins, Stays, Empties, Returns, Releases}
 use Rattle.rules.specs.Say.{if_then_else_}
 use Rattle.rules.specs.Books.{Heap, at, inRange, exact, arenas, pools, offsetOf}
-use Rattle.rules.specs.Blocks.{classOf, sizeOf, lastClass, putLink, classAt, sizeAt, live, deadNumber, liveNumber}
+use Rattle.rules.specs.Blocks.{classOf, sizeOf, lastClass, putLink, classAt, sizeAt, live, liveNumber}
 use Rattle.rules.specs.Outcome.{Outcome, heapOf, outcome, answerOf, done, refused, passing}
 use Rattle.rules.specs.Ask.{planAsk, takeFrom, arenaOf, spend, afterAsk, askAnswer, askStep}
 use Rattle.rules.specs.GiveBack.{afterBack, backStep}
@@ -48,7 +48,7 @@ use Rattle.laws.specs.Bytes.{sets-off}
 use Rattle.laws.specs.Chains.{first-outside, put-link-other}
 use Rattle.laws.specs.Sizes.{Aligned, size-low, size-high, has-class, class-fits}
 use Rattle.laws.specs.Taken.{spend-is}
-use Rattle.laws.specs.Calls.{dead-some, size-number}
+use Rattle.laws.specs.Calls.{live-zero, size-number}
 use Rattle.laws.specs.Refused.{tested}
 
 -- memory m′ has the first bytes of m's pools
@@ -126,14 +126,6 @@ pools-some h = go (ltb (length (h .books)) 2) (inRange (arenas h) (pools h)) ref
     go false false e v z = absurd (omega arith)
     go false true e v z = omega (arith, in-range (arenas h) (pools h) e .2)
 
-live-zero : (al A P : ℕ) (b m : List ℕ) (o : ℕ) → liveNumber al A P b m o ≡ 0 → live al A P b m o ≡ true
-unfolding liveNumber
-live-zero al A P b m o = go (live al A P b m o)
-  where
-    go : (t : Bool) → (if t then 0 else deadNumber al A P b o) ≡ 0 → t ≡ true
-    go true z = refl
-    go false z = absurd (dead-some al A P b o z)
-
 room-zero : (wanted room : ℕ) → roomNumber wanted room ≡ 0 → wanted ≤ room
 unfolding roomNumber
 room-zero wanted room = go (ltb room wanted) refl
@@ -171,7 +163,7 @@ module _ {al : ℕ} (L : Aligned al) (A P : ℕ) (h : Heap) (o : ℕ) where
   unfolding giveOld
   give-old-first =
       tested (λ (x : Outcome). First (h .memory) (x .heap .memory)) h (liveNumber al A P (h .books) (h .map) o) (backStep al A P h o)
-      (λ j i l. refl) (λ z. back-live (live-zero al A P (h .books) (h .map) o z))
+      (λ j i l. refl) (λ z. back-live (live-zero al A P (h .books) o (h .map) z))
 
 -- ---- an ask and a resize for n bytes
 half-heap : (al A P new : ℕ) (x : Outcome) → halfDone al A P new x .heap ≡ x .heap
@@ -266,7 +258,7 @@ module _ {al : ℕ} (L : Aligned al) (h : Heap) where
       (λ e.
       let t = before-zero (shapeNumber h) (0 before offsetNumber al h o before 0) e in
       let u = before-zero (offsetNumber al h o) 0 (t .1) in
-      back-live L (arenas h) (pools h) h o (live-zero al (arenas h) (pools h) (h .books) (h .map) o (u .0)))
+      back-live L (arenas h) (pools h) h o (live-zero al (arenas h) (pools h) (h .books) o (h .map) (u .0)))
 
   pub resize-first : (o n : ℕ) → First (h .memory) (resize al h o n .heap .memory)
   unfolding resize
@@ -284,7 +276,7 @@ module _ {al : ℕ} (L : Aligned al) (h : Heap) where
       (λ e.
       let t = before-zero (shapeNumber h) (0 before offsetNumber al h o before roomNumber (length text) (blockSize al h o)) e in
       let u = before-zero (offsetNumber al h o) (roomNumber (length text) (blockSize al h o)) (t .1) in
-      let b = live-is al (arenas h) (pools h) (h .books) (h .map) o (L .low) (L .high) (live-zero al (arenas h) (pools h) (h .books) (h .map) o (u .0)) in
+      let b = live-is al (arenas h) (pools h) (h .books) (h .map) o (L .low) (L .high) (live-zero al (arenas h) (pools h) (h .books) o (h .map) (u .0)) in
       let place : o ≡ offsetOf (o / 4096) (o % 4096) = omega arith in
       λ i l. ap (λ (x : ℕ). at (sets (h .memory) x text) i) place
       ∙ text-first (h .memory) text (o / 4096) (o % 4096) (b .start .low)

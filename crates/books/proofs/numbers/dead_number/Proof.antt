@@ -1,8 +1,11 @@
 -- `books::numbers::dead_number` makes the two tests that are left of a block's where one would start: below nextoffset,
 -- and in a carved pool.
 -- Assumes nothing.
-use Prim.Native.Nat.{_/_, _*_, _<_}
+use mathlib.Core.Path.{sym, ap}
+use mathlib.Core.Bool.{Bool}
+use Prim.Native.Nat.{ℕ, _/_, _*_, _<_}
 use native.Mathlib.Omega.{arith}
+use Rattle.rules.specs.Say.{if_then_else_}
 use Rattle.rules.specs.Blocks.{isBlock}
 use Rattle.books.specs.Known.{at-start-is}
 use borrow.Author.Needs.{needs}
@@ -39,17 +42,25 @@ is-carved-requires c κs =
     let length-is = at-start .pre .3 in
     (at-start .pre .0, inside at-start, at-start .pre .1, omega (arith, length-is))
 
+-- the number, by the test of both
+abbrev number : Bool → ℕ
+number t = if t then 10 else 5
+
 returns : tie.Need-returns
 unfolding isBlock
 returns c =
-    let at-word = c .before .before in
-    (rw (at-word .before .before .pre .4, ← at-word .word .ensures .0, ← c .before .is-carved .ensures, c .if1 .taken), omega arith)
+    let at-word = c .before .before in (
+      rw (at-word .before .before .pre .4, ← at-word .word .ensures .0, ← c .before .is-carved .ensures) (sym (ap number (c .if1 .taken))),
+      omega arith,
+    )
 
 returns-2 : tie.Need-returns-2
 unfolding isBlock
 returns-2 c =
-    let at-word = c .before .before in
-    (rw (at-word .before .before .pre .4, ← at-word .word .ensures .0, ← c .before .is-carved .ensures, c .if1 .left), omega arith)
+    let at-word = c .before .before in (
+      rw (at-word .before .before .pre .4, ← at-word .word .ensures .0, ← c .before .is-carved .ensures) (sym (ap number (c .if1 .left))),
+      omega arith,
+    )
 
 pub dead-number-spec : {M : Type 1} → statement M
 dead-number-spec =
