@@ -48,7 +48,7 @@ static void speak(uint32_t offset)
 
 int main(void)
 {
-    value_of(heskavern_format(HEAP, 1, 2));
+    value_of(heskavern_format(HEAP, 1, 2, HESKAVERN_EIGHT));
     uint32_t owed = keep("owed");
     keep("paid");
     speak(owed);

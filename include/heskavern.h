@@ -3,7 +3,8 @@ libheskavern.a.
 
 A heap has A arenas (1 to 16) of P pools (2 to 64); a pool is 4,096 bytes. Three buffers are lent to every call, each as
 a pointer and its length in elements: memory, which holds the blocks, books and map. Their lengths are exact: see the
-macros below; HESKAVERN_LENT makes all six arguments. A block is known by its offset in memory.
+macros below; HESKAVERN_LENT makes all six arguments. A block is known by its offset in memory. A heap is of edition
+eight or sixteen: format is told which, and every other call reads it off the books.
 
 Every call answers a number and a value, but for view and the stand-in, which hand back a part. The number is 0 when it
 is done, and otherwise says why it is refused. A refusal has value 0 and leaves every byte and word as it was, but for
@@ -37,14 +38,16 @@ What is good to know:
   block that is held, and leave both heaps damaged.
 - Any thread may make the next call, a give-back too, if you order the calls on a heap, by a lock or by handing it over:
   nothing is kept outside the three buffers. Two heaps need no order between them.
-- A block is aligned to 8 where memory is; to 16 where memory is and the block size is a multiple of 16, which it is for
-  sizes 9 to 16, 25 to 32, 41 to 48 and so on; to no more. An array of uint8_t is aligned to 1 unless you say more.
+- In edition sixteen a block is aligned to 16 where memory is. In edition eight it is aligned to 8 where memory is; to
+  16 where memory is and the block size is a multiple of 16, which it is for sizes 9 to 16, 25 to 32, 41 to 48 and so
+  on. In neither to more. An array of uint8_t is aligned to 1 unless you say more.
 - A heap may be saved and loaded, at another address too: all three buffers together, as they are between two calls.
   They hold offsets and no pointers; books and map are words of a little-endian machine.
-- How large: a text of n bytes takes a block of n rounded up to a multiple of 8, and a pool has 4,048 / size of them,
-  rounded down. For each block size divide the most texts that are live at one time by that, and round up: the sum is
-  the pools that are always enough. (A resize that moves holds both blocks for a moment: count one text more of the new
-  size.) 300 texts of 1 to 24 bytes and 20 of 500 want 1 + 2 + 2 + 3 pools: A = 1, P = 8.
+- How large: a text of n bytes takes a block of n rounded up to a multiple of 8, or of 16 in edition sixteen, and a pool
+  has 4,048 / size of them, rounded down. For each block size divide the most texts that are live at one time by that,
+  and round up: the sum is the pools that are always enough. (A resize that moves holds both blocks for a moment: count
+  one text more of the new size.) 300 texts of 1 to 24 bytes and 20 of 500 want 1 + 2 + 2 + 3 pools, and in edition
+  sixteen 2 + 3 + 3: A = 1, P = 8.
 - After a 6 something other than this heap's own calls has written to books, map or a block that is not out. Ask for
   nothing more: copy the texts out by roll call and view, and format anew. Those never give 6; they go by the map and
   the pools' classes, and show what stands there, whoever wrote it. The call that gave 6 wrote nothing, unless it is a
@@ -57,7 +60,7 @@ Example:
     static uint64_t map[HESKAVERN_MAP_WORDS(1, 16)];
     #define HEAP HESKAVERN_LENT(memory, books, map, 1, 16)
     int main(void) {
-        if (heskavern_format(HEAP, 1, 16).number != HESKAVERN_DONE)
+        if (heskavern_format(HEAP, 1, 16, HESKAVERN_EIGHT).number != HESKAVERN_DONE)
             return 1;
         heskavern_answer owed = heskavern_ask(HEAP, 4), paid = heskavern_ask(HEAP, 4);
         if (owed.number != HESKAVERN_DONE || paid.number != HESKAVERN_DONE)
@@ -83,12 +86,20 @@ Example:
 extern "C" {
 #endif
 
-/* The numbers. Format tests its A and P and then the lengths. In every other call books of under two words are 2; then
-   the tests come in the order 1, 2, 3, then 5 or 10, then 7, and then the step, which gives 4 or 6. (8 and 9 are the
-   replay program's alone.) */
+/* The editions: sizes and offsets of blocks are multiples of 8, or of 16. Word 68 of the books has it, and was 0 before
+   there were two: so a heap that was made then is one of edition eight. */
+enum {
+    HESKAVERN_EIGHT = 0,
+    HESKAVERN_SIXTEEN = 1
+};
+
+/* The numbers. Format tests its A and P, then its edition, and then the lengths. In every other call books of under two
+   words are 2; then A and P are tested, 1; books that do not reach word 68 are 2; then come the edition, 1, and the
+   lengths, 2; then 3, then 5 or 10, then 7, and then the step, which gives 4 or 6. (8 and 9 are the replay program's
+   alone.) */
 enum {
     HESKAVERN_DONE = 0,         /* done */
-    HESKAVERN_OUT_OF_RANGE = 1, /* A or P out of range */
+    HESKAVERN_OUT_OF_RANGE = 1, /* A, P or the edition out of range */
     HESKAVERN_NOT_EXACT = 2,    /* a lent length is not exact */
     HESKAVERN_BAD_SIZE = 3,     /* size 0 or above 512 */
     HESKAVERN_NO_ROOM = 4,      /* no room */
@@ -110,7 +121,8 @@ enum {
 #define HESKAVERN_BYTES(p) ((const uint8_t *)(p))
 #endif
 
-/* The exact lengths of the buffers for A arenas of P pools, and roll words that are always enough. */
+/* The exact lengths of the buffers for A arenas of P pools, and roll words that are always enough (in edition sixteen
+   half of them are). */
 #define HESKAVERN_MEMORY_BYTES(a, p) (4096 * HESKAVERN_SIZE(a) * HESKAVERN_SIZE(p))
 #define HESKAVERN_BOOKS_WORDS(a, p) (72 + 8 * HESKAVERN_SIZE(a) + 8 * HESKAVERN_SIZE(a) * HESKAVERN_SIZE(p))
 #define HESKAVERN_MAP_WORDS(a, p) (8 * HESKAVERN_SIZE(a) * HESKAVERN_SIZE(p))
@@ -156,11 +168,11 @@ typedef struct heskavern_part {
     size_t size;
 } heskavern_part;
 
-/* Format: makes a fresh heap of the given A and P. Writes all books and map, and no memory. Value 0. Refuses with
-   1, 2. */
+/* Format: makes a fresh heap of the given A, P and edition, HESKAVERN_EIGHT or HESKAVERN_SIXTEEN. Writes all books and
+   map, and no memory. Value 0. Refuses with 1, 2. */
 HESKAVERN_MUST_USE heskavern_answer heskavern_format(
     const uint8_t *memory, size_t memory_bytes, uint32_t *books, size_t books_words, uint64_t *map, size_t map_words,
-    size_t arenas, size_t pools) HESKAVERN_NOEXCEPT HESKAVERN_UNTOUCHED(1);
+    size_t arenas, size_t pools, size_t edition) HESKAVERN_NOEXCEPT HESKAVERN_UNTOUCHED(1);
 
 /* Ask: hands out a block of at least size bytes, which is the asker's until it is given back. Its bytes are not
    cleared. Value: its offset. Writes books, map, and at most a link of four bytes in a block that is not live. Refuses
