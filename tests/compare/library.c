@@ -1,5 +1,5 @@
-/* Replays 01's records through the C library, for a heap of any shape: library A P < records > replies.
- * The records are whole and well made: bad ones are the replay program's own business. */
+/* Replays 01's records through the C library, for a heap of any shape and edition: library A P EDITION < records
+ * > replies. The records are whole and well made: bad ones are the replay program's own business. */
 #include "../../include/heskavern.h"
 #include "../source/bytes.h"
 
@@ -40,10 +40,11 @@ int main(int argc, char **argv)
 {
     unsigned char record[RECORD], reply[RECORD];
     uint32_t live = 0;
-    arenas = argc == 3 ? strtoul(argv[1], NULL, 10) : 0;
-    pools = argc == 3 ? strtoul(argv[2], NULL, 10) : 0;
-    if (arenas > 16 || pools > 64 || heskavern_format(HEAP, arenas, pools).number != HESKAVERN_DONE) {
-        fputs("usage: library A P, with A from 1 to 16 and P from 2 to 64\n", stderr);
+    arenas = argc == 4 ? strtoul(argv[1], NULL, 10) : 0;
+    pools = argc == 4 ? strtoul(argv[2], NULL, 10) : 0;
+    size_t edition = argc == 4 ? strtoul(argv[3], NULL, 10) : 0;
+    if (arenas > 16 || pools > 64 || heskavern_format(HEAP, arenas, pools, edition).number != HESKAVERN_DONE) {
+        fputs("usage: library A P EDITION, A from 1 to 16, P from 2 to 64, EDITION 0 or 1\n", stderr);
         return 2;
     }
     while (fread(record, 1, RECORD, stdin) == RECORD) {

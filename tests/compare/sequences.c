@@ -1,5 +1,6 @@
-/* Writes a seeded sequence of replay records for a heap of A arenas of P pools: sequences SEED CALLS A P > records.
- * It makes each call on the allocator written from the source as well, so that it knows which blocks are live. */
+/* Writes a seeded sequence of replay records for a heap of A arenas of P pools, of edition eight (0) or sixteen (1):
+ * sequences SEED CALLS A P EDITION > records. It makes each call on the allocator written from the source as well, so
+ * that it knows which blocks are live. */
 #define _POSIX_C_SOURCE 200112L
 #include "bytes.h"
 #include "pymalloc.h"
@@ -13,7 +14,7 @@
 enum { ASK = 1, GIVE_BACK = 2, RESIZE = 3 };
 enum { STALE = 64 };
 
-static struct pymalloc heap;
+static struct pymalloc lent_heap, *const heap = &lent_heap;
 static block *memory;
 static uint32_t bytes;          /* of memory */
 static uint32_t *live, count;   /* the offsets of the live blocks, and how many */
@@ -63,7 +64,7 @@ static uint32_t noise(void)
 static bool ask(uint32_t size)
 {
     put_record(ASK, size, noise());
-    block *p = size >= 1 && size <= SMALL_REQUEST_THRESHOLD ? pymalloc_ask(&heap, size) : NULL;
+    block *p = size >= 1 && size <= SMALL_REQUEST_THRESHOLD ? pymalloc_ask(heap, size) : NULL;
     if (p != NULL)
         add((uint32_t)(p - memory));
     return p != NULL;
@@ -74,7 +75,7 @@ static void give_back(uint32_t offset)
     put_record(GIVE_BACK, noise(), offset);
     if (!is_live(offset))
         return;
-    pymalloc_give_back(&heap, memory + offset);
+    pymalloc_give_back(heap, memory + offset);
     drop(offset);
 }
 
@@ -83,26 +84,26 @@ static void resize(uint32_t offset, uint32_t size)
     put_record(RESIZE, size, offset);
     if (!is_live(offset) || size < 1 || size > SMALL_REQUEST_THRESHOLD)
         return;
-    block *p = pymalloc_resize(&heap, memory + offset, size);
+    block *p = pymalloc_resize(heap, memory + offset, size);
     if (p == NULL)
         return;
     drop(offset);
     add((uint32_t)(p - memory));
 }
 
-/* Which sizes a phase asks for. Those of EXACT fill a pool to its last byte. */
+/* Which sizes a phase asks for. Those of EXACT fill a pool to its last byte: they divide its 4,048. */
 static enum { SMALL, ONE_CLASS, THREE_CLASSES, LARGE, EXACT, ANY, MIXES } mix;
 static uint32_t class;
 
 static uint32_t some_size(void)
 {
-    static const uint32_t exact[] = {8, 16, 88, 176, 184, 368};
+    static const uint32_t exact[] = {16, 176, 368, 8, 88, 184};    /* at sixteen the first three */
     switch (mix) {
     case SMALL: return between(1, 64);
-    case ONE_CLASS: return 8 * class + between(1, 8);
-    case THREE_CLASSES: return 8 * ((class + 20 * below(3)) % NB_SMALL_SIZE_CLASSES) + between(1, 8);
+    case ONE_CLASS: return ALIGNMENT * class + between(1, ALIGNMENT);
+    case THREE_CLASSES: return ALIGNMENT * ((class + 20 * below(3)) % NB_SMALL_SIZE_CLASSES) + between(1, ALIGNMENT);
     case LARGE: return between(385, 512);
-    case EXACT: return exact[below(6)];
+    case EXACT: return exact[below(ALIGNMENT == 16 ? 3 : 6)];
     default: return between(1, 512);
     }
 }
@@ -176,12 +177,12 @@ static void empty_heap(void)
 static void empty_pools(void)
 {
     for (uint32_t n = times(12); n > 0; n--) {
-        uint32_t offset = some_block(), size = pymalloc_size(memory + offset);
+        uint32_t offset = some_block(), size = pymalloc_size(heap, memory + offset);
         for (uint32_t i = count; i > 0; i--)
             if (live[i - 1] / POOL_SIZE == offset / POOL_SIZE)
                 give_back(live[i - 1]);
         for (uint32_t k = below(4); k > 0; k--)
-            ask(below(2) ? size - below(8) : some_size());
+            ask(below(2) ? size - below(ALIGNMENT) : some_size());
     }
 }
 
@@ -189,7 +190,7 @@ static void empty_pools(void)
 static void resizes(void)
 {
     for (uint32_t n = times(200); n > 0; n--) {
-        uint32_t offset = some_block(), size = pymalloc_size(memory + offset);
+        uint32_t offset = some_block(), size = pymalloc_size(heap, memory + offset);
         switch (below(8)) {
         case 0: resize(offset, size); break;
         case 1: resize(offset, size + 1); break;
@@ -214,14 +215,14 @@ static uint32_t near_nextoffset(void)
 {
     uint32_t offset = some_block(), start = offset / POOL_SIZE * POOL_SIZE;
     const struct pool_header *pool = (const struct pool_header *)(memory + start);
-    return start + pool->nextoffset - below(2) * pymalloc_size(memory + offset);
+    return start + pool->nextoffset - below(2) * pymalloc_size(heap, memory + offset);
 }
 
 /* An offset that is most often not live: of a dead block, or where there is none. */
 static uint32_t bad_offset(void)
 {
     switch (below(7)) {
-    case 0: return some_block() + between(1, 7);
+    case 0: return some_block() + between(1, ALIGNMENT - 1);
     case 1: return some_block() + 8 * between(1, 64);
     case 2: return 8 * below(bytes / 8);
     case 3: return bytes + below(8192);
@@ -258,23 +259,26 @@ static void phase(void)
 
 int main(int argc, char **argv)
 {
-    int arenas = argc == 5 ? atoi(argv[3]) : 0, pools = argc == 5 ? atoi(argv[4]) : 0;
-    if (arenas < 1 || arenas > MAX_ARENAS || pools < 2 || pools > 64) {
-        fputs("usage: sequences SEED CALLS A P, with A from 1 to 16 and P from 2 to 64\n", stderr);
+    int arenas = argc == 6 ? atoi(argv[3]) : 0, pools = argc == 6 ? atoi(argv[4]) : 0;
+    int edition = argc == 6 ? atoi(argv[5]) : 0;
+    if (arenas < 1 || arenas > MAX_ARENAS || pools < 2 || pools > 64 || edition < 0 || edition > 1) {
+        fputs("usage: sequences SEED CALLS A P EDITION, A from 1 to 16, P from 2 to 64, EDITION 0 or 1\n", stderr);
         return 2;
     }
     void *lent;
     random_state = strtoull(argv[1], NULL, 10);
     wanted = strtoull(argv[2], NULL, 10);
     bytes = (uint32_t)(arenas * pools * POOL_SIZE);
-    live = calloc(bytes / ALIGNMENT, sizeof *live);
-    place = calloc(bytes / ALIGNMENT, sizeof *place);
-    if (live == NULL || place == NULL || posix_memalign(&lent, POOL_SIZE, bytes) != 0) {
+    if (posix_memalign(&lent, POOL_SIZE, bytes) == 0) {
+        memory = lent;
+        pymalloc_format(heap, memory, (unsigned)arenas, (unsigned)pools, 3 + (unsigned)edition);
+        live = calloc(bytes / ALIGNMENT, sizeof *live);
+        place = calloc(bytes / ALIGNMENT, sizeof *place);
+    }
+    if (live == NULL || place == NULL) {
         fputs("sequences: no memory for the heap\n", stderr);
         return 1;
     }
-    memory = lent;
-    pymalloc_format(&heap, memory, (unsigned)arenas, (unsigned)pools);
     while (calls < wanted)
         phase();
     return 0;

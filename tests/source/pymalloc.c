@@ -19,11 +19,12 @@ static poolp list_head(struct pymalloc *heap, unsigned size)
     return (poolp)((block *)&heap->usedpools[2 * size] - 2 * sizeof(block *));
 }
 
-void pymalloc_format(struct pymalloc *heap, void *memory, unsigned arenas, unsigned pools)
+void pymalloc_format(struct pymalloc *heap, void *memory, unsigned arenas, unsigned pools, unsigned alignment_shift)
 {
     memset(heap, 0, sizeof *heap);
     heap->memory = memory;
     heap->pools = pools;
+    heap->alignment_shift = alignment_shift;
     for (unsigned size = 0; size < NB_SMALL_SIZE_CLASSES; size++)
         heap->usedpools[2 * size] = heap->usedpools[2 * size + 1] = list_head(heap, size);
     for (unsigned i = 0; i + 1 < arenas; i++)
@@ -110,7 +111,7 @@ static void *init_pool(struct pymalloc *heap, poolp pool, unsigned size)
 }
 
 /* A block of a used pool, which always has one. The pool leaves its list when that was the last. */
-static void *take_block(poolp pool)
+static void *take_block(const struct pymalloc *heap, poolp pool)
 {
     block *bp = pool->freeblock;
     ++pool->ref.count;
@@ -133,7 +134,7 @@ void *pymalloc_ask(struct pymalloc *heap, size_t nbytes)
     unsigned size = (unsigned)(nbytes - 1) >> ALIGNMENT_SHIFT;
     poolp pool = heap->usedpools[size + size];
     if (pool != pool->nextpool)
-        return take_block(pool);
+        return take_block(heap, pool);
     if (heap->usable_arenas == NULL)
         heap->usable_arenas = new_arena(heap);
     if (heap->usable_arenas == NULL)
@@ -190,7 +191,7 @@ void pymalloc_give_back(struct pymalloc *heap, void *p)
 
 void *pymalloc_resize(struct pymalloc *heap, void *p, size_t nbytes)
 {
-    size_t size = pymalloc_size(p);
+    size_t size = pymalloc_size(heap, p);
     if (nbytes <= size && 4 * nbytes > 3 * size)
         return p;
     void *bp = pymalloc_ask(heap, nbytes);
@@ -201,7 +202,7 @@ void *pymalloc_resize(struct pymalloc *heap, void *p, size_t nbytes)
     return bp;
 }
 
-unsigned pymalloc_size(const void *p)
+unsigned pymalloc_size(const struct pymalloc *heap, const void *p)
 {
     return INDEX2SIZE(POOL_ADDR(p)->szidx);
 }

@@ -6,11 +6,13 @@
 
 #include <stddef.h>
 
-#define ALIGNMENT               8
-#define ALIGNMENT_SHIFT         3
+/* 3 in the source, and 4 in newer CPython on 64-bit machines. Here it is that of the heap in whose terms one speaks. */
+#define ALIGNMENT_SHIFT         (heap->alignment_shift)
+#define ALIGNMENT               (1u << ALIGNMENT_SHIFT)
 #define INDEX2SIZE(I)           (((unsigned)(I) + 1) << ALIGNMENT_SHIFT)
 #define SMALL_REQUEST_THRESHOLD 512
 #define NB_SMALL_SIZE_CLASSES   (SMALL_REQUEST_THRESHOLD / ALIGNMENT)
+#define MAX_SIZE_CLASSES        64      /* at the smaller alignment */
 #define POOL_SIZE               4096
 #define MAX_ARENAS              16
 
@@ -43,14 +45,16 @@ struct arena_object {
 struct pymalloc {
     block *memory;
     unsigned pools;                                 /* pools of an arena */
+    unsigned alignment_shift;                       /* 3 or 4: blocks are aligned to 8 or to 16 bytes */
     struct arena_object *usable_arenas;             /* open, with a pool to hand out */
     struct arena_object *unused_arena_objects;      /* not open */
-    poolp usedpools[2 * NB_SMALL_SIZE_CLASSES];     /* for each class the nextpool and prevpool of a list's head */
+    poolp usedpools[2 * MAX_SIZE_CLASSES];          /* for each class the nextpool and prevpool of a list's head */
     struct arena_object arenas[MAX_ARENAS];
 };
 
-/* An empty heap over arenas * pools * POOL_SIZE bytes, which start at a multiple of POOL_SIZE. Writes no memory. */
-void pymalloc_format(struct pymalloc *heap, void *memory, unsigned arenas, unsigned pools);
+/* An empty heap over arenas * pools * POOL_SIZE bytes, which start at a multiple of POOL_SIZE, with an alignment_shift
+ * of 3 or 4. Writes no memory. */
+void pymalloc_format(struct pymalloc *heap, void *memory, unsigned arenas, unsigned pools, unsigned alignment_shift);
 
 /* A block of at least nbytes, from 1 to SMALL_REQUEST_THRESHOLD. NULL where there is no room. */
 void *pymalloc_ask(struct pymalloc *heap, size_t nbytes);
@@ -61,6 +65,6 @@ void pymalloc_give_back(struct pymalloc *heap, void *p);
 void *pymalloc_resize(struct pymalloc *heap, void *p, size_t nbytes);
 
 /* The size of the block at p. */
-unsigned pymalloc_size(const void *p);
+unsigned pymalloc_size(const struct pymalloc *heap, const void *p);
 
 #endif

@@ -1,5 +1,6 @@
-/* Replays 01's records through the allocator written from the source: replay [A P] < records > replies. An offset that
- * is not live is refused by W-206's split. A heap has one arena of 16 pools where A and P are not given. */
+/* Replays 01's records through the allocator written from the source: replay [A P EDITION] < records > replies. An
+ * offset that is not live is refused by W-206's split. The edition is W-211's, 0 for eight and 1 for sixteen. Where
+ * nothing is given, a heap has one arena of 16 pools and is of edition eight. */
 #define _POSIX_C_SOURCE 200112L
 #include "bytes.h"
 #include "pymalloc.h"
@@ -21,7 +22,7 @@ struct ledger {
     struct pymalloc heap;
     block *memory;
     size_t bytes;
-    bool *live;             /* one for each place where a block can start */
+    bool *live;             /* one for each place where a block can start: for each multiple of ALIGNMENT */
     uint32_t count;
 };
 
@@ -31,22 +32,24 @@ struct answer {
 };
 
 /* A fresh heap. Its memory is full of ones, as what it holds must not matter. */
-static bool open_ledger(struct ledger *l, unsigned arenas, unsigned pools)
+static bool open_ledger(struct ledger *l, unsigned arenas, unsigned pools, unsigned edition)
 {
+    struct pymalloc *heap = &l->heap;
     void *memory;
     l->bytes = (size_t)arenas * pools * POOL_SIZE;
-    l->live = calloc(l->bytes / ALIGNMENT, sizeof *l->live);
     l->count = 0;
-    if (l->live == NULL || posix_memalign(&memory, POOL_SIZE, l->bytes) != 0)
+    if (posix_memalign(&memory, POOL_SIZE, l->bytes) != 0)
         return false;
     memset(memory, 0xff, l->bytes);
     l->memory = memory;
-    pymalloc_format(&l->heap, memory, arenas, pools);
-    return true;
+    pymalloc_format(heap, memory, arenas, pools, 3 + edition);
+    l->live = calloc(l->bytes / ALIGNMENT, sizeof *l->live);
+    return l->live != NULL;
 }
 
 static bool is_live(const struct ledger *l, uint32_t offset)
 {
+    const struct pymalloc *heap = &l->heap;
     return offset < l->bytes && offset % ALIGNMENT == 0 && l->live[offset / ALIGNMENT];
 }
 
@@ -55,12 +58,13 @@ static bool is_live(const struct ledger *l, uint32_t offset)
  * pool to be carved off there comes after it; it then has its class. */
 static unsigned dead_or_none(const struct ledger *l, uint32_t offset)
 {
+    const struct pymalloc *heap = &l->heap;
     const size_t first = sizeof(struct pool_header), n = offset / POOL_SIZE, place = offset % POOL_SIZE;
     if (offset >= l->bytes)
         return NO_BLOCK;
     const block *start = l->memory + n * POOL_SIZE;
     const struct pool_header *pool = (const struct pool_header *)start;
-    const struct arena_object *ao = &l->heap.arenas[n / l->heap.pools], *unused = l->heap.unused_arena_objects;
+    const struct arena_object *ao = &heap->arenas[n / heap->pools], *unused = heap->unused_arena_objects;
     while (unused != NULL && unused != ao)
         unused = unused->nextarena;
     bool carved = unused == NULL && start < ao->pool_address;
@@ -75,6 +79,7 @@ static bool is_small(uint32_t size)
 
 static void mark(struct ledger *l, uint32_t offset, bool live)
 {
+    const struct pymalloc *heap = &l->heap;
     l->live[offset / ALIGNMENT] = live;
     l->count += live ? 1 : -1;
 }
@@ -91,7 +96,7 @@ static struct answer hand_out(struct ledger *l, const block *p, uint32_t refused
         return refuse(NO_ROOM, refused);
     uint32_t offset = (uint32_t)(p - l->memory);
     mark(l, offset, true);
-    return (struct answer){DONE, offset, pymalloc_size(p)};
+    return (struct answer){DONE, offset, pymalloc_size(&l->heap, p)};
 }
 
 static struct answer ask(struct ledger *l, uint32_t size)
@@ -105,7 +110,7 @@ static struct answer give_back(struct ledger *l, uint32_t offset)
 {
     if (!is_live(l, offset))
         return refuse(dead_or_none(l, offset), offset);
-    struct answer a = {DONE, offset, pymalloc_size(l->memory + offset)};
+    struct answer a = {DONE, offset, pymalloc_size(&l->heap, l->memory + offset)};
     pymalloc_give_back(&l->heap, l->memory + offset);
     mark(l, offset, false);
     return a;
@@ -179,15 +184,17 @@ static int replay(struct ledger *l)
 
 int main(int argc, char **argv)
 {
-    int arenas = argc == 3 ? atoi(argv[1]) : 1, pools = argc == 3 ? atoi(argv[2]) : 16;
-    if ((argc != 1 && argc != 3) || arenas < 1 || arenas > MAX_ARENAS || pools < 2 || pools > 64) {
-        fputs("usage: replay [A P], with A from 1 to 16 and P from 2 to 64\n", stderr);
+    int arenas = argc == 4 ? atoi(argv[1]) : 1, pools = argc == 4 ? atoi(argv[2]) : 16;
+    int edition = argc == 4 ? atoi(argv[3]) : 0;
+    if ((argc != 1 && argc != 4) || arenas < 1 || arenas > MAX_ARENAS || pools < 2 || pools > 64
+        || edition < 0 || edition > 1) {
+        fputs("usage: replay [A P EDITION], A from 1 to 16, P from 2 to 64, EDITION 0 or 1\n", stderr);
         return 2;
     }
     /* a reader that goes away is then a failed write, with a message */
     signal(SIGPIPE, SIG_IGN);
     struct ledger l;
-    if (!open_ledger(&l, (unsigned)arenas, (unsigned)pools))
+    if (!open_ledger(&l, (unsigned)arenas, (unsigned)pools, (unsigned)edition))
         return fail("no memory for the heap");
     return replay(&l);
 }
