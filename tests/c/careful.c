@@ -38,14 +38,14 @@ int main(void)
     EXPECT(memory && books && map && roll);
 #endif
 #ifdef __cplusplus
-    static_assert(noexcept(heskavern_format(HEAP, A, P)) && noexcept(heskavern_ask(HEAP, 4))
+    static_assert(noexcept(heskavern_format(HEAP, A, P, HESKAVERN_EIGHT)) && noexcept(heskavern_ask(HEAP, 4))
         && noexcept(heskavern_give_back(HEAP, 48)) && noexcept(heskavern_resize(HEAP, 48, 100))
         && noexcept(heskavern_view_size(HEAP, 48)) && noexcept(heskavern_view(HEAP, 48))
         && noexcept(heskavern_stand_in(HEAP, 48, "no", 2))
         && noexcept(heskavern_write(HEAP, 48, "owed", 4)) && noexcept(heskavern_roll_call(HEAP, roll, 2)),
         "no call throws");
 #endif
-    EXPECT(heskavern_format(HEAP, A, P).number == HESKAVERN_DONE);
+    EXPECT(heskavern_format(HEAP, A, P, HESKAVERN_EIGHT).number == HESKAVERN_DONE);
     EXPECT(heskavern_view_size(HEAP, 48).number == HESKAVERN_NO_BLOCK);
     word = heskavern_ask(HEAP, 4);
     EXPECT(word.number == HESKAVERN_DONE);
@@ -61,6 +61,9 @@ int main(void)
     EXPECT(heskavern_give_back(HEAP, moved.value).number == HESKAVERN_NO_BLOCK);
     part = heskavern_stand_in(HEAP, moved.value, "no amount", 9);
     EXPECT(part.size == 9 && memcmp(part.bytes, "no amount", 9) == 0);
+    EXPECT(heskavern_format(HEAP, A, P, HESKAVERN_SIXTEEN).number == HESKAVERN_DONE);
+    word = heskavern_ask(HEAP, 4);
+    EXPECT(heskavern_view_size(HEAP, word.value).value == 16);
 #ifdef FROM_MALLOC
     free(memory);
     free(books);

@@ -1,5 +1,6 @@
 /* The cases of 01, run through heskavern.h: K1 to K10, the fills, the moves, and each number from 0 to 7; those of 02's
-   W-206, with number 10, and W-214; and what the header says is good to know. C99, and C++ too. */
+   W-206, with number 10, W-211 and W-214; and what the header says is good to know. Each is run in both editions, with
+   01's numbers where that is eight. C99, and C++ too. */
 #include <stdio.h>
 #include <stdlib.h>
 #include <string.h>
@@ -19,7 +20,7 @@ static uint64_t map_before[sizeof map / sizeof *map];
 /* the lengths that are lent, and the calls over them */
 static size_t memory_bytes, books_words, map_words;
 #define HEAP memory, memory_bytes, books, books_words, map, map_words
-#define FORMAT(a, p) heskavern_format(HEAP, a, p)
+#define FORMAT(a, p, e) heskavern_format(HEAP, a, p, e)
 #define ASK(n) heskavern_ask(HEAP, n)
 #define GIVE_BACK(o) heskavern_give_back(HEAP, o)
 #define RESIZE(o, n) heskavern_resize(HEAP, o, n)
@@ -28,6 +29,16 @@ static size_t memory_bytes, books_words, map_words;
 #define WRITE(o, text, n) heskavern_write(HEAP, o, text, n)
 #define ROLL_CALL(n) heskavern_roll_call(HEAP, roll, n)
 
+/* What the edition of the cases decides: the alignment, which is the size of the smallest blocks too; how many of these
+   a pool has; the class of 512 bytes; and the size of a block for 100 bytes. */
+static const struct edition {
+    size_t edition;
+    uint32_t unit, in_pool, last_class, of_100;
+} editions[] = {{HESKAVERN_EIGHT, 8, 506, 63, 104}, {HESKAVERN_SIXTEEN, 16, 253, 31, 112}}, *now = editions;
+
+/* The place of block k, from 0, of a pool of the smallest ones. */
+static uint32_t at(uint32_t k) { return 48 + k * now->unit; }
+
 static unsigned long facts;
 
 #define EXPECT(fact) expect(fact, #fact, __LINE__)
@@ -35,7 +46,7 @@ static void expect(int fact, const char *words, int line)
 {
     facts++;
     if (!fact) {
-        printf("cases.c:%d: not so: %s\n", line, words);
+        printf("cases.c:%d: not so in edition %d: %s\n", line, (int)now->edition, words);
         exit(1);
     }
 }
@@ -67,10 +78,11 @@ static void fresh(size_t arenas, size_t pools)
     memset(map, FILL, sizeof map);
     memset(roll, FILL, sizeof roll);
     lend(arenas, pools);
-    EXPECT(done(FORMAT(arenas, pools), 0));
+    EXPECT(done(FORMAT(arenas, pools, now->edition), 0));
 }
 
-/* A word of an arena's record, and of a pool's, by its place there. */
+/* The word of the books that has the edition. A word of an arena's record, and of a pool's, by its place there. */
+enum { EDITION = 68 };
 enum { OPEN = 0, MARK = 1, FREED_HEAD = 3 };
 static uint32_t *arena_word(size_t arena, size_t place) { return &books[72 + 8 * arena + place]; }
 enum { COUNT = 0, FREEBLOCK = 1, CLASS = 4, NEXTOFFSET = 5, MAXNEXTOFFSET = 6 };
@@ -115,36 +127,38 @@ static void k1_to_k3(void)
 {
     fresh(1, 16);
     EXPECT(done(ASK(1), 48));
-    EXPECT(*pool_word(0, FREEBLOCK) == 56 && *pool_word(0, NEXTOFFSET) == 64 && *pool_word(0, MAXNEXTOFFSET) == 4088);
+    EXPECT(*pool_word(0, FREEBLOCK) == at(1) && *pool_word(0, NEXTOFFSET) == at(2));
+    EXPECT(*pool_word(0, MAXNEXTOFFSET) == 4096 - now->unit && *pool_word(0, CLASS) == 0);
     fresh(1, 16);
     EXPECT(done(ASK(1), 48));
-    EXPECT(done(ASK(8), 56));
-    EXPECT(*pool_word(0, FREEBLOCK) == 64 && *pool_word(0, NEXTOFFSET) == 72);
+    EXPECT(done(ASK(now->unit), at(1)));
+    EXPECT(*pool_word(0, FREEBLOCK) == at(2) && *pool_word(0, NEXTOFFSET) == at(3));
     fresh(1, 16);
     EXPECT(done(ASK(1), 48));
-    EXPECT(done(ASK(1), 56));
+    EXPECT(done(ASK(1), at(1)));
     EXPECT(done(GIVE_BACK(48), 48));
-    EXPECT(done(ASK(8), 48));
+    EXPECT(done(ASK(now->unit), 48));
     expect_untouched();
 }
 
 static void k4_to_k6(void)
 {
+    const size_t second = now->unit + 1, third = 2 * now->unit + 1; /* the smallest sizes of the next two classes */
     fresh(1, 16);
-    EXPECT(done(ASK(8), 48));
-    EXPECT(done(ASK(9), 4144));
-    fresh(1, 16);
-    EXPECT(done(ASK(1), 48));
-    EXPECT(done(ASK(1), 56));
-    EXPECT(done(ASK(9), 4144));
-    EXPECT(done(GIVE_BACK(48), 48));
-    EXPECT(done(GIVE_BACK(56), 56));
-    EXPECT(done(ASK(8), 56));
+    EXPECT(done(ASK(now->unit), 48));
+    EXPECT(done(ASK(second), 4144));
     fresh(1, 16);
     EXPECT(done(ASK(1), 48));
-    EXPECT(done(ASK(9), 4144));
+    EXPECT(done(ASK(1), at(1)));
+    EXPECT(done(ASK(second), 4144));
     EXPECT(done(GIVE_BACK(48), 48));
-    EXPECT(done(ASK(17), 48));
+    EXPECT(done(GIVE_BACK(at(1)), at(1)));
+    EXPECT(done(ASK(now->unit), at(1)));
+    fresh(1, 16);
+    EXPECT(done(ASK(1), 48));
+    EXPECT(done(ASK(second), 4144));
+    EXPECT(done(GIVE_BACK(48), 48));
+    EXPECT(done(ASK(third), 48));
     expect_untouched();
 }
 
@@ -155,19 +169,20 @@ static void k7_to_k10(void)
     EXPECT(HESKAVERN_LARGEST == 512);
     EXPECT(is(ASK(HESKAVERN_LARGEST + 1), HESKAVERN_BAD_SIZE, 0));
     EXPECT(done(ASK(HESKAVERN_LARGEST), 48));
-    EXPECT(*pool_word(0, MAXNEXTOFFSET) == 3584);
+    EXPECT(*pool_word(0, MAXNEXTOFFSET) == 3584 && *pool_word(0, CLASS) == now->last_class);
     fresh(1, 16);
     EXPECT(done(ASK(100), 48));
-    EXPECT(done(VIEW_SIZE(48), 104));
-    EXPECT(done(RESIZE(48, 79), 48));
-    EXPECT(done(RESIZE(48, 78), 4144));
+    EXPECT(done(VIEW_SIZE(48), now->of_100));
+    EXPECT(done(RESIZE(48, now->of_100 / 4 * 3 + 1), 48)); /* to 79 in edition eight, and to 85 in sixteen */
+    EXPECT(done(RESIZE(48, now->of_100 / 4 * 3), 4144));
     fresh(1, 16);
-    EXPECT(done(ASK(8), 48));
-    EXPECT(done(RESIZE(48, 6), 56));
-    EXPECT(done(RESIZE(56, 7), 56));
+    EXPECT(done(ASK(now->unit), 48));
+    EXPECT(done(RESIZE(48, now->unit / 4 * 3), at(1)));
+    EXPECT(done(RESIZE(at(1), now->unit / 4 * 3 + 1), at(1)));
     fresh(1, 16);
     EXPECT(done(ASK(1), 48));
     EXPECT(is(GIVE_BACK(52), HESKAVERN_NO_BLOCK, 0));
+    EXPECT(is(GIVE_BACK(48 + now->unit / 2), HESKAVERN_NO_BLOCK, 0));
     EXPECT(is(GIVE_BACK(0), HESKAVERN_NO_BLOCK, 0));
     EXPECT(is(GIVE_BACK(65536), HESKAVERN_NO_BLOCK, 0));
     EXPECT(is(GIVE_BACK((size_t)-1), HESKAVERN_NO_BLOCK, 0));
@@ -176,28 +191,37 @@ static void k7_to_k10(void)
     expect_untouched();
 }
 
-/* The answer to the n-th ask of 8 bytes, from 1, on a heap that is filled with them: a pool holds 506. */
-static uint32_t nth_of_8(uint32_t n) { return (n - 1) / 506 * 4096 + 48 + 8 * ((n - 1) % 506); }
+/* The answer to the n-th ask for a smallest block, from 1, on a heap that is filled with them. */
+static uint32_t nth(uint32_t n) { return (n - 1) / now->in_pool * 4096 + at((n - 1) % now->in_pool); }
 
-/* Asks for 8 bytes, n times on a fresh heap, and says whether each is served as it should be. */
-static int serves_of_8(uint32_t n)
+/* Asks for a smallest block, n times on a fresh heap, and says whether each is served as it should be. */
+static int serves(uint32_t n)
 {
     uint32_t i = 1;
-    while (i <= n && done(ASK(8), nth_of_8(i)))
+    while (i <= n && done(ASK(now->unit), nth(i)))
         i++;
     return i == n + 1;
 }
 
-static void fill_with_8(void)
+/* The places that the cases speak of, in 01's numbers and in those of edition sixteen. */
+static void places(void)
 {
+    if (now->edition == HESKAVERN_EIGHT)
+        EXPECT(at(1) == 56 && at(2) == 64 && at(3) == 72 && nth(506) == 4088 && nth(507) == 4144 && nth(1012) == 8184);
+    else
+        EXPECT(at(1) == 64 && at(2) == 80 && at(3) == 96 && nth(253) == 4080 && nth(254) == 4144 && nth(506) == 8176);
+}
+
+static void fill_with_smallest(void)
+{
+    const uint32_t most = 2 * now->in_pool;
     uint32_t n = 1;
-    EXPECT(nth_of_8(506) == 4088 && nth_of_8(507) == 4144 && nth_of_8(1012) == 8184);
     fresh(1, 2);
-    EXPECT(serves_of_8(1012));
-    while (n <= 1012 && is(ASK(8), HESKAVERN_NO_ROOM, 0) && done(GIVE_BACK(nth_of_8(n)), nth_of_8(n))
-        && done(ASK(8), nth_of_8(n)))
+    EXPECT(serves(most));
+    while (n <= most && is(ASK(now->unit), HESKAVERN_NO_ROOM, 0) && done(GIVE_BACK(nth(n)), nth(n))
+        && done(ASK(1), nth(n)))
         n++;
-    EXPECT(n == 1013);
+    EXPECT(n == most + 1);
     expect_untouched();
 }
 
@@ -215,21 +239,22 @@ static void fill_with_512(void)
 
 static void moves(void)
 {
-    uint8_t text[104];
+    uint8_t text[HESKAVERN_LARGEST];
+    const uint32_t size = now->of_100;
     heskavern_answer moved;
     size_t i;
-    for (i = 0; i < sizeof text; i++)
+    for (i = 0; i < size; i++)
         text[i] = (uint8_t)i;
     fresh(1, 16);
-    EXPECT(done(ASK(104), 48));
-    EXPECT(done(WRITE(48, text, sizeof text), 48));
+    EXPECT(done(ASK(size), 48));
+    EXPECT(done(WRITE(48, text, size), 48));
     remember();
-    EXPECT(done(RESIZE(48, 104), 48));
+    EXPECT(done(RESIZE(48, size), 48));
     EXPECT(unchanged());
-    moved = RESIZE(48, 105);
+    moved = RESIZE(48, size + 1);
     EXPECT(done(moved, 4144));
-    EXPECT(done(VIEW_SIZE(moved.value), 112));
-    EXPECT(memcmp(memory + moved.value, text, sizeof text) == 0);
+    EXPECT(done(VIEW_SIZE(moved.value), size + now->unit));
+    EXPECT(memcmp(memory + moved.value, text, size) == 0);
     EXPECT(is(VIEW_SIZE(48), HESKAVERN_DEAD_BLOCK, 0));
     EXPECT(is(RESIZE(48, 0), HESKAVERN_BAD_SIZE, 0));
     EXPECT(is(RESIZE(48, 1), HESKAVERN_DEAD_BLOCK, 0));
@@ -333,38 +358,39 @@ static void dead_or_none(void)
     fresh(1, 2);
     expect_none(48);
     EXPECT(done(ASK(1), 48));
-    expect_dead(56);    /* set ready, and never handed out */
-    expect_none(64);    /* the block after it */
+    expect_dead(at(1)); /* set ready, and never handed out */
+    expect_none(at(2)); /* the block after it */
     expect_none(52);
+    expect_none(48 + now->unit / 2);
     expect_none(40);
     expect_none(0);
     expect_none(4144);  /* a pool that is not carved */
-    expect_none(HESKAVERN_MEMORY_BYTES(1, 2) + 56);
+    expect_none(HESKAVERN_MEMORY_BYTES(1, 2) + at(1));
     expect_none((size_t)-1);
-    EXPECT(done(ASK(1), 56));
+    EXPECT(done(ASK(1), at(1)));
     EXPECT(done(GIVE_BACK(48), 48));
     expect_dead(48);    /* a second give-back, with another block out */
     EXPECT(done(ASK(1), 48));
     EXPECT(done(GIVE_BACK(48), 48));
-    EXPECT(done(GIVE_BACK(56), 56));
+    EXPECT(done(GIVE_BACK(at(1)), at(1)));
     expect_none(48);    /* with the last block its arena was released */
-    expect_none(56);
+    expect_none(at(1));
 
-    EXPECT(done(ASK(8), 48));
-    EXPECT(done(ASK(9), 4144));
+    EXPECT(done(ASK(now->unit), 48));
+    EXPECT(done(ASK(2 * now->unit), 4144));
     EXPECT(done(GIVE_BACK(48), 48));
     expect_dead(48);    /* an emptied pool keeps its blocks */
-    expect_dead(56);
-    EXPECT(done(ASK(17), 48));
-    expect_none(56);    /* until it is set to another size */
-    expect_dead(72);
-    expect_none(96);
+    expect_dead(at(1));
+    EXPECT(done(ASK(3 * now->unit), 48));
+    expect_none(at(1)); /* until it is set to another size */
+    expect_dead(at(3));
+    expect_none(at(6));
     EXPECT(done(GIVE_BACK(48), 48));
     EXPECT(done(GIVE_BACK(4144), 4144));
-    EXPECT(done(ASK(17), 48));
+    EXPECT(done(ASK(3 * now->unit), 48));
     expect_none(4144);  /* the arena is open again, and this pool not carved again */
-    EXPECT(done(ASK(9), 4144));
-    expect_dead(4160);
+    EXPECT(done(ASK(2 * now->unit), 4144));
+    expect_dead(4096 + at(2));
     expect_untouched();
 }
 
@@ -373,10 +399,10 @@ static void last_blocks(void)
 {
     uint32_t n;
     fresh(1, 2);
-    EXPECT(serves_of_8(506));
-    EXPECT(done(GIVE_BACK(4088), 4088));
-    expect_dead(4088);
-    expect_none(4092);
+    EXPECT(serves(now->in_pool));
+    EXPECT(done(GIVE_BACK(4096 - now->unit), 4096 - now->unit));
+    expect_dead(4096 - now->unit);
+    expect_none(4096 - now->unit / 2);
     expect_none(4096);
     fresh(1, 2);
     for (n = 0; n < 7; n++)
@@ -388,14 +414,15 @@ static void last_blocks(void)
 }
 
 /* Pool 3 of two arenas of two pools, the second of its arena, with blocks of 32 bytes at the places 48, which was given
-   back, 80, which is out, 112, which is set ready, and 144, which is nextoffset. All four pools are in use. */
+   back, 80, which is out, 112, which is set ready, and 144, which is nextoffset. All four pools are in use, with sizes
+   that both editions have. */
 enum { POOL = 3, START = POOL * 4096 };
 static void four_in_use(void)
 {
     fresh(2, 2);
-    EXPECT(done(ASK(8), 48));
-    EXPECT(done(ASK(16), 4144));
-    EXPECT(done(ASK(24), 8240));
+    EXPECT(done(ASK(16), 48));
+    EXPECT(done(ASK(48), 4144));
+    EXPECT(done(ASK(64), 8240));
     EXPECT(done(ASK(32), START + 48));
     EXPECT(done(ASK(32), START + 80));
     EXPECT(done(GIVE_BACK(START + 48), START + 48));
@@ -446,11 +473,11 @@ static void dead_by_the_books(void)
     expect_with(next, UINT32_MAX, 47, none);
     expect_with(next, UINT32_MAX, 49, none);
     expect_with(next, UINT32_MAX, 64, none);
-    expect_with(class_word, 0, 64, dead);   /* a start by the class that stands there */
+    expect_with(class_word, 0, 96, dead);   /* a start by the class that stands there */
     expect_with(class_word, 0, 112, dead);
-    expect_with(class_word, 63, 48, dead);
-    expect_with(class_word, 63, 112, none);
-    expect_with(class_word, 64, 48, none);
+    expect_with(class_word, now->last_class, 48, dead);
+    expect_with(class_word, now->last_class, 112, none);
+    expect_with(class_word, now->last_class + 1, 48, none);
     expect_with(class_word, 65535, 48, none);
     expect_untouched();
 }
@@ -460,7 +487,7 @@ static void dead_or_live(void)
 {
     four_in_use();
     *arena_word(0, OPEN) = *arena_word(0, MARK) = 0;
-    *pool_word(2, CLASS) = 64;
+    *pool_word(2, CLASS) = now->last_class + 1;
     *pool_word(2, NEXTOFFSET) = 0;
     expect_dead(START + 48);
     *arena_word(1, OPEN) = *arena_word(1, MARK) = *pool_word(POOL, NEXTOFFSET) = 0;
@@ -478,20 +505,26 @@ static void dead_or_live(void)
 /* A resize whose ask takes the pool of its own block, and sets it to another size: by that one the old offset is a dead
    block, or none. Either way the give-back cannot be done, and what the ask has left of the text stands in the new
    block. */
-static void half_done(size_t size, const char *text, uint32_t number)
+static void half_done(uint32_t size, const char *text, uint32_t number)
 {
     fresh(1, 2);
     EXPECT(done(ASK(8), 48));
-    EXPECT(done(ASK(8), 56));
-    EXPECT(done(ASK(8), 64));
-    EXPECT(done(WRITE(64, "owed 100", 8), 64));
+    EXPECT(done(ASK(8), at(1)));
+    EXPECT(done(ASK(8), at(2)));
+    EXPECT(done(WRITE(at(2), "owed 100", 8), at(2)));
     EXPECT(done(GIVE_BACK(48), 48));
-    EXPECT(done(GIVE_BACK(56), 56));
+    EXPECT(done(GIVE_BACK(at(1)), at(1)));
     *arena_word(0, FREED_HEAD) = 1;
-    EXPECT(is(RESIZE(64, size), HESKAVERN_DAMAGED, 48));
-    EXPECT(done(VIEW_SIZE(48), (uint32_t)size) && memcmp(memory + 48, text, 8) == 0);
-    expect_not_live(64, number);
+    EXPECT(is(RESIZE(at(2), size), HESKAVERN_DAMAGED, 48));
+    EXPECT(done(VIEW_SIZE(48), size) && memcmp(memory + 48, text, 8) == 0);
+    expect_not_live(at(2), number);
     expect_untouched();
+}
+
+static void half_done_resizes(void)
+{
+    half_done(2 * now->unit, "\0\0\0\0 100", HESKAVERN_DEAD_BLOCK); /* the link of the block set ready is there */
+    half_done(3 * now->unit, "owed 100", HESKAVERN_NO_BLOCK);
 }
 
 static void roll_calls(void)
@@ -500,14 +533,15 @@ static void roll_calls(void)
     EXPECT(done(ROLL_CALL(0), 0));
     EXPECT(done(ASK(300), 48));
     EXPECT(done(ASK(8), 4144));
-    EXPECT(done(ASK(8), 4152));
-    EXPECT(done(ASK(16), 8240));
+    EXPECT(done(ASK(8), 4096 + at(1)));
+    EXPECT(done(ASK(now->unit + 1), 8240));
     EXPECT(done(GIVE_BACK(4144), 4144));
     remember();
     EXPECT(is(ROLL_CALL(5), HESKAVERN_DOES_NOT_FIT, 0));
     EXPECT(filled(roll, sizeof roll));
     EXPECT(done(ROLL_CALL(6), 3));
-    EXPECT(roll[0] == 48 && roll[1] == 304 && roll[2] == 4152 && roll[3] == 8 && roll[4] == 8240 && roll[5] == 16);
+    EXPECT(roll[0] == 48 && roll[1] == 304 && roll[2] == 4096 + at(1) && roll[3] == now->unit);
+    EXPECT(roll[4] == 8240 && roll[5] == 2 * now->unit);
     EXPECT(filled(roll + 6, sizeof roll - 6 * sizeof *roll));
     EXPECT(unchanged());
     expect_untouched();
@@ -538,6 +572,7 @@ static void expect_rolled(uint32_t blocks, uint32_t size, uint32_t first, uint32
 /* Bits at no block of their pool's class: they are in no roll, and take no room. */
 static void stray_bits(void)
 {
+    const uint32_t last = now->in_pool - 1;
     size_t i;
     fresh(1, 2);
     expect_rolled(0, 0, 0, 0);
@@ -548,32 +583,34 @@ static void stray_bits(void)
         map[i] = UINT64_MAX;
     expect_rolled(7, 512, 48, 512);     /* pool 1 has no class */
     *pool_word(0, CLASS) = 0;
-    expect_rolled(506, 8, 48, 8);
-    *pool_word(0, CLASS) = 64;
+    expect_rolled(now->in_pool, now->unit, 48, now->unit);
+    *pool_word(0, CLASS) = now->last_class + 1;
     expect_rolled(0, 0, 0, 0);
     for (i = 0; i < map_words; i++)
         map[i] = 0;
     *pool_word(0, CLASS) = 0;
     *pool_word(1, CLASS) = 0;
-    map[7] = map[15] = (uint64_t)1 << 57;   /* the last block of each pool, after words of zeros */
-    expect_rolled(2, 8, 4088, 4096);
+    map[last / 64] = map[8 + last / 64] = (uint64_t)1 << last % 64; /* of each pool, after words of zeros */
+    expect_rolled(2, now->unit, 4096 - now->unit, 4096);
     expect_untouched();
 }
 
-/* The largest heap, filled: the roll's macro gives the words that are needed, and not one more. */
+/* The largest heap, filled: the roll's macro gives the words that are needed, in edition sixteen twice as many, and not
+   one more. */
 static void largest(void)
 {
-    const uint32_t blocks = 506 * A * P;
+    const uint32_t blocks = now->in_pool * A * P;
+    const size_t words = HESKAVERN_ROLL_WORDS(A, P) * 8 / now->unit;
     uint32_t n = 1;
     fresh(A, P);
-    EXPECT(serves_of_8(blocks));
+    EXPECT(serves(blocks));
     EXPECT(is(ASK(8), HESKAVERN_NO_ROOM, 0));
-    EXPECT(is(ROLL_CALL(HESKAVERN_ROLL_WORDS(A, P) - 1), HESKAVERN_DOES_NOT_FIT, 0));
-    EXPECT(done(ROLL_CALL(HESKAVERN_ROLL_WORDS(A, P)), blocks));
-    while (n <= blocks && roll[2 * n - 2] == nth_of_8(n) && roll[2 * n - 1] == 8)
+    EXPECT(is(ROLL_CALL(words - 1), HESKAVERN_DOES_NOT_FIT, 0));
+    EXPECT(done(ROLL_CALL(words), blocks));
+    while (n <= blocks && roll[2 * n - 2] == nth(n) && roll[2 * n - 1] == now->unit)
         n++;
     EXPECT(n == blocks + 1);
-    EXPECT(filled(roll + HESKAVERN_ROLL_WORDS(A, P), GUARD * sizeof *roll));
+    EXPECT(filled(roll + words, sizeof roll - words * sizeof *roll));
     expect_untouched();
 }
 
@@ -602,7 +639,7 @@ static void wrong_shapes(void)
         fresh(1, 2);
         EXPECT(done(ASK(8), 48));
         remember();
-        EXPECT(is(FORMAT(shapes[i][0], shapes[i][1]), HESKAVERN_OUT_OF_RANGE, 0));
+        EXPECT(is(FORMAT(shapes[i][0], shapes[i][1], now->edition), HESKAVERN_OUT_OF_RANGE, 0));
         EXPECT(unchanged());
         books[0] = (uint32_t)shapes[i][0];
         books[1] = (uint32_t)shapes[i][1];
@@ -619,15 +656,159 @@ static void wrong_lengths(void)
     for (i = 0; i < 6; i++) {
         lend(1, 2);
         *lengths[i / 2] += i % 2 ? 1 : (size_t)-1;
-        EXPECT(is(FORMAT(1, 2), HESKAVERN_NOT_EXACT, 0));
+        EXPECT(is(FORMAT(1, 2, now->edition), HESKAVERN_NOT_EXACT, 0));
         expect_refused(HESKAVERN_NOT_EXACT);
     }
     lend(1, 2);
     books_words = 1;
     books[0] = 0;
-    EXPECT(is(FORMAT(1, 2), HESKAVERN_NOT_EXACT, 0));
-    EXPECT(is(FORMAT(0, 2), HESKAVERN_OUT_OF_RANGE, 0));
+    EXPECT(is(FORMAT(1, 2, now->edition), HESKAVERN_NOT_EXACT, 0));
+    EXPECT(is(FORMAT(0, 2, now->edition), HESKAVERN_OUT_OF_RANGE, 0));
     expect_refused(HESKAVERN_NOT_EXACT);
+}
+
+/* The tests of a shape in their order, on both sides of each: books of under two words; A and P; books that do not
+   reach the edition's word; the edition; the lengths. */
+static void wrong_editions(void)
+{
+    static const uint32_t wrong[] = {2, 3, 65536, UINT32_MAX};
+    size_t i;
+    for (i = 0; i < sizeof wrong / sizeof *wrong; i++) {
+        fresh(1, 2);
+        EXPECT(done(ASK(8), 48));
+        books[EDITION] = wrong[i];
+        expect_refused(HESKAVERN_OUT_OF_RANGE);
+        memory_bytes--;
+        expect_refused(HESKAVERN_OUT_OF_RANGE);
+        books_words = EDITION + 1;
+        expect_refused(HESKAVERN_OUT_OF_RANGE);
+        books_words = EDITION;
+        expect_refused(HESKAVERN_NOT_EXACT);
+        books_words = 2;
+        expect_refused(HESKAVERN_NOT_EXACT);
+        books[0] = 0;
+        expect_refused(HESKAVERN_OUT_OF_RANGE);
+        books_words = 1;
+        expect_refused(HESKAVERN_NOT_EXACT);
+        books_words = EDITION;
+        expect_refused(HESKAVERN_OUT_OF_RANGE);
+        books[0] = 1;
+        books[EDITION] = (uint32_t)now->edition;
+        expect_refused(HESKAVERN_NOT_EXACT);
+        books_words = EDITION + 1;
+        expect_refused(HESKAVERN_NOT_EXACT);
+        lend(1, 2);
+        EXPECT(done(VIEW_SIZE(48), now->unit));
+    }
+}
+
+/* Format tests the edition after A and P, which have its number, and before the lengths; it is not cut to 32 bits. */
+static void wrong_formats(void)
+{
+    static const size_t wrong[] = {2, 3, (size_t)1 << 32, ((size_t)1 << 32) + 1, (size_t)-1};
+    size_t i;
+    fresh(1, 2);
+    EXPECT(done(ASK(8), 48));
+    remember();
+    for (i = 0; i < sizeof wrong / sizeof *wrong; i++) {
+        lend(1, 2);
+        EXPECT(is(FORMAT(1, 2, wrong[i]), HESKAVERN_OUT_OF_RANGE, 0));
+        EXPECT(is(FORMAT(17, 2, wrong[i]), HESKAVERN_OUT_OF_RANGE, 0));
+        EXPECT(is(FORMAT(1, 1, wrong[i]), HESKAVERN_OUT_OF_RANGE, 0));
+        map_words++;
+        EXPECT(is(FORMAT(1, 2, wrong[i]), HESKAVERN_OUT_OF_RANGE, 0));
+        books_words = EDITION;
+        EXPECT(is(FORMAT(1, 2, wrong[i]), HESKAVERN_OUT_OF_RANGE, 0));
+        EXPECT(is(FORMAT(1, 2, now->edition), HESKAVERN_NOT_EXACT, 0));
+        EXPECT(is(FORMAT(1, 65, now->edition), HESKAVERN_OUT_OF_RANGE, 0));
+        books_words = 0;
+        EXPECT(is(FORMAT(1, 2, wrong[i]), HESKAVERN_OUT_OF_RANGE, 0));
+    }
+    EXPECT(unchanged());
+}
+
+/* The class heads are those of a heap whose one pool is of this class, and of the words after them only the edition's
+   may be other than 0. */
+static int heads_are(uint32_t class_of)
+{
+    uint32_t word = 4;
+    while (word < 72 && books[word] == (word == 4 + class_of ? 1 : word == EDITION ? now->edition : 0))
+        word++;
+    return word == 72;
+}
+
+/* Each size has its class, and a block of the least multiple of the alignment that is enough for it. */
+static void classes(void)
+{
+    uint32_t n;
+    fresh(1, 2);
+    for (n = 1; n <= HESKAVERN_LARGEST; n++) {
+        const uint32_t class_of = (n - 1) / now->unit;
+        EXPECT(done(FORMAT(1, 2, now->edition), 0));
+        EXPECT(done(ASK(n), 48) && done(VIEW_SIZE(48), now->unit * (class_of + 1)));
+        EXPECT(*pool_word(0, CLASS) == class_of && heads_are(class_of));
+    }
+    expect_untouched();
+}
+
+/* One block for every size: offsets and sizes are multiples of the alignment, and in edition eight not all of 16. */
+static void multiples(void)
+{
+    uint32_t n, odd = 0;
+    fresh(2, 64);
+    for (n = 1; n <= HESKAVERN_LARGEST; n++)
+        EXPECT(ASK(n).number == HESKAVERN_DONE);
+    EXPECT(done(ROLL_CALL(2 * HESKAVERN_LARGEST), HESKAVERN_LARGEST));
+    for (n = 0; n < 2 * HESKAVERN_LARGEST; n++) {
+        EXPECT(roll[n] % now->unit == 0);
+        odd += roll[n] % 16 != 0;
+    }
+    EXPECT((odd > 0) == (now->edition == HESKAVERN_EIGHT));
+}
+
+/* 505 and 506 bound the count in both editions, though in sixteen no pool has so many blocks. */
+static void counts(void)
+{
+    fresh(1, 2);
+    EXPECT(serves(3));
+    *pool_word(0, COUNT) = 400;
+    EXPECT(done(ASK(now->unit), at(3)));
+    *pool_word(0, COUNT) = 505;
+    EXPECT(done(ASK(now->unit), at(4)));
+    remember();
+    EXPECT(is(ASK(1), HESKAVERN_DAMAGED, 0));
+    EXPECT(unchanged());
+    EXPECT(done(GIVE_BACK(48), 48));
+    *pool_word(0, COUNT) = 507;
+    remember();
+    EXPECT(is(GIVE_BACK(at(1)), HESKAVERN_DAMAGED, 0));
+    EXPECT(unchanged());
+}
+
+/* The edition is what its word says. With the other one there an empty heap is what a format of that edition makes; and
+   with blocks 0 and 1 out, every call takes their bits for those of the other edition's smallest blocks. */
+static void other_edition(void)
+{
+    const struct edition *other = &editions[1 - now->edition];
+    const uint32_t next = 48 + other->unit;
+    fresh(1, 16);
+    books[EDITION] = (uint32_t)other->edition;
+    remember();
+    EXPECT(done(FORMAT(1, 16, other->edition), 0));
+    EXPECT(unchanged());
+    EXPECT(done(FORMAT(1, 16, now->edition), 0));
+    EXPECT(books[EDITION] == now->edition);
+    EXPECT(serves(2));
+    books[EDITION] = (uint32_t)other->edition;
+    EXPECT(done(VIEW_SIZE(next), other->unit));
+    EXPECT(done(RESIZE(next, other->unit), next));
+    EXPECT(done(WRITE(next, "sixteen letters.", other->unit), next));
+    EXPECT(is(WRITE(next, "seventeen letters", other->unit + 1), HESKAVERN_DOES_NOT_FIT, 0));
+    EXPECT(done(ROLL_CALL(4), 2));
+    EXPECT(roll[0] == 48 && roll[1] == other->unit && roll[2] == next && roll[3] == other->unit);
+    EXPECT(is(GIVE_BACK(at(1)), other->edition == HESKAVERN_EIGHT ? HESKAVERN_DEAD_BLOCK : HESKAVERN_NO_BLOCK, 0));
+    EXPECT(is(ASK(1), HESKAVERN_DAMAGED, 0)); /* maxnextoffset is not that of this size */
+    expect_untouched();
 }
 
 static void damaged(void)
@@ -647,38 +828,39 @@ static void damaged(void)
     EXPECT(is(RESIZE(48, 100), HESKAVERN_DAMAGED, 4144)); /* half done */
     EXPECT(memcmp(memory + 4144, "owed", 4) == 0);
     EXPECT(done(ROLL_CALL(4), 2));
-    EXPECT(roll[0] == 48 && roll[1] == 8 && roll[2] == 4144 && roll[3] == 104);
-    *pool_word(0, CLASS) = 64;
+    EXPECT(roll[0] == 48 && roll[1] == now->unit && roll[2] == 4144 && roll[3] == now->of_100);
+    *pool_word(0, CLASS) = now->last_class + 1;
     EXPECT(is(VIEW_SIZE(48), HESKAVERN_NO_BLOCK, 0));
     expect_untouched();
 }
 
-/* The header's sums: 300 texts of each block size up to 24 and 20 of 500 fit in 8 pools, and the blocks of a size are
-   aligned as it says, counted from memory's start. */
+/* The header's sums: 300 texts of each block size up to 24, in edition sixteen of sizes 16 and 24, and 20 of 500 fit in
+   8 pools, and the blocks of a size are aligned as it says, counted from memory's start. */
 static void sized_and_aligned(void)
 {
-    static const size_t sizes[] = {8, 16, 24, 500}, texts[] = {300, 300, 300, 20}, aligned[] = {8, 16, 8, 8};
+    static const uint32_t sizes[] = {8, 16, 24, 500}, texts[] = {300, 300, 300, 20}, aligned[] = {8, 16, 8, 8};
+    const size_t first = now->edition == HESKAVERN_EIGHT ? 0 : 1;
     size_t i, text;
     fresh(1, 8);
-    for (i = 0; i < sizeof sizes / sizeof *sizes; i++) {
+    for (i = first; i < sizeof sizes / sizeof *sizes; i++) {
         for (text = 0; text < texts[i]; text++) {
             heskavern_answer block = ASK(sizes[i]);
-            EXPECT(block.number == HESKAVERN_DONE && block.value % aligned[i] == 0);
+            EXPECT(block.number == HESKAVERN_DONE && block.value % aligned[i] == 0 && block.value % now->unit == 0);
         }
     }
-    EXPECT(ROLL_CALL(HESKAVERN_ROLL_WORDS(1, 8)).value == 920);
-    EXPECT(is(ASK(32), HESKAVERN_NO_ROOM, 0));
+    EXPECT(ROLL_CALL(HESKAVERN_ROLL_WORDS(1, 8)).value == 920 - 300 * first);
+    EXPECT(is(ASK(40), HESKAVERN_NO_ROOM, 0));
 }
 
 /* A resize that moves holds both blocks for a moment, so it wants one block more than there are texts. */
 static void resize_wants_one_more(void)
 {
     fresh(1, 2);
-    EXPECT(serves_of_8(506));
+    EXPECT(serves(now->in_pool));
     EXPECT(done(ASK(500), 4144));
     EXPECT(is(RESIZE(48, 6), HESKAVERN_NO_ROOM, 0));
-    EXPECT(done(GIVE_BACK(56), 56));
-    EXPECT(done(RESIZE(48, 6), 56));
+    EXPECT(done(GIVE_BACK(at(1)), at(1)));
+    EXPECT(done(RESIZE(48, 6), at(1)));
 }
 
 /* A heap that is copied, all three buffers together, is the same heap elsewhere; and a stale offset is the block's, not
@@ -693,7 +875,7 @@ static void copied_and_stale(void)
     fresh(1, 2);
 #define COPY memory_before, memory_bytes, books_before, books_words, map_before, map_words
     part = heskavern_view(COPY, 48);
-    EXPECT(lies(part, memory_before + 48, 8) && memcmp(part.bytes, "owed", 4) == 0);
+    EXPECT(lies(part, memory_before + 48, now->unit) && memcmp(part.bytes, "owed", 4) == 0);
     EXPECT(done(heskavern_give_back(COPY, 48), 48));
     EXPECT(is(heskavern_give_back(COPY, 48), HESKAVERN_NO_BLOCK, 0)); /* its arena is released */
     EXPECT(done(heskavern_ask(COPY, 4), 48));
@@ -707,19 +889,20 @@ static void mixed_up(void)
     fresh(1, 2);
     remember();
     EXPECT(done(ASK(4), 48));
-    EXPECT(done(ASK(4), 56));
-    EXPECT(done(WRITE(56, "paid", 4), 56));
+    EXPECT(done(ASK(4), at(1)));
+    EXPECT(done(WRITE(at(1), "paid", 4), at(1)));
     EXPECT(done(heskavern_ask(memory, memory_bytes, books_before, books_words, map_before, map_words, 4), 48));
-    EXPECT(memcmp(heskavern_view(HEAP, 56).bytes, "\0\0\0\0", 4) == 0);
+    EXPECT(memcmp(heskavern_view(HEAP, at(1)).bytes, "\0\0\0\0", 4) == 0);
     expect_untouched();
 }
 
-int main(void)
+static void of_the_papers(void)
 {
+    places();
     k1_to_k3();
     k4_to_k6();
     k7_to_k10();
-    fill_with_8();
+    fill_with_smallest();
     fill_with_512();
     moves();
     view_and_write();
@@ -728,18 +911,35 @@ int main(void)
     last_blocks();
     dead_by_the_books();
     dead_or_live();
-    half_done(16, "\0\0\0\0 100", HESKAVERN_DEAD_BLOCK); /* the link of the block set ready is written there */
-    half_done(24, "owed 100", HESKAVERN_NO_BLOCK);
+    half_done_resizes();
     roll_calls();
     stray_bits();
     largest();
     wrong_shapes();
     wrong_lengths();
+    wrong_editions();
+    wrong_formats();
+    classes();
+    multiples();
+    counts();
+    other_edition();
     damaged();
+}
+
+static void good_to_know(void)
+{
     sized_and_aligned();
     resize_wants_one_more();
     copied_and_stale();
     mixed_up();
+}
+
+int main(void)
+{
+    for (now = editions; now < editions + sizeof editions / sizeof *editions; now++) {
+        of_the_papers();
+        good_to_know();
+    }
     printf("%lu facts\n", facts);
     return 0;
 }

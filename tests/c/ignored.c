@@ -11,7 +11,7 @@
 
 void ignores_all(uint8_t *memory, uint32_t *books, uint64_t *map, uint32_t *roll)
 {
-    IGNORED heskavern_format(HEAP, 1, 2);
+    IGNORED heskavern_format(HEAP, 1, 2, HESKAVERN_SIXTEEN);
     IGNORED heskavern_ask(HEAP, 4);
     IGNORED heskavern_give_back(HEAP, 48);
     IGNORED heskavern_resize(HEAP, 48, 8);

@@ -1,5 +1,5 @@
-/* Runs the calls of the library on a painted stack, over whole and damaged heaps, and prints how many bytes of it each
- * call was seen to use: painted HEAPS SEED */
+/* Runs the calls of the library on a painted stack, over whole and damaged heaps of both editions, and prints how many
+ * bytes of it each call was seen to use: painted HEAPS SEED */
 #include "../../include/heskavern.h"
 #include "../compare/random.h"
 
@@ -157,7 +157,7 @@ int main(int argc, char **argv)
     for (unsigned long heap = 0; heap < heaps; ++heap) {
         arenas = between(1, ARENAS);
         pools = between(2, POOLS);
-        if (call(FORMAT, arenas, pools, 0).number != HESKAVERN_DONE)
+        if (call(FORMAT, arenas, pools, heap / 2 % 2).number != HESKAVERN_DONE)
             return 1;
         for (int i = 0; i < STEPS; ++i) {
             if (heap % 2 && below(8) == 0)
