@@ -52,7 +52,7 @@ static bool out_twice(const struct variant *v)
 static _Noreturn void give_back_twice(const struct variant *v, size_t way)
 {
     size_t end = OUT;
-    v->fresh();
+    v->fresh(HESKAVERN_EIGHT);
     ask(v, 0, OUT);
     unsigned number = 0;
     for (size_t i = 0; i < OUT; i += 2)         /* of others every second one, so that no pool falls empty */

@@ -10,9 +10,9 @@ static _Alignas(64) uint64_t THIS(map)[HESKAVERN_MAP_WORDS(ARENAS, POOLS)];
 #define PLACES
 #define LENT HESKAVERN_LENT(THIS(memory), THIS(books), THIS(map), ARENAS, POOLS)
 
-static void THIS(fresh)(void)
+static void THIS(fresh)(size_t edition)
 {
-    if (CALL(format)(LENT, ARENAS, POOLS).number != HESKAVERN_DONE)
+    if (CALL(format)(LENT, ARENAS, POOLS, edition).number != HESKAVERN_DONE)
         abort();
 }
 

@@ -10,8 +10,8 @@
 /* Everything but `refuse` is inlined into the calls, so that the struct of the buffers costs nothing. */
 #define INLINE static inline __attribute__((always_inline))
 
-enum { POOL_BYTES = 4096, FIRST_BLOCK = 48, ALIGNMENT = 8, LARGEST = 512, LAST_CLASS = 63, NO_CLASS = 65535 };
-enum { USABLE_HEAD = 2, UNUSED_HEAD = 3, CLASS_HEADS = 4, RECORDS = 72, RECORD = 8 };
+enum { POOL_BYTES = 4096, FIRST_BLOCK = 48, LARGEST = 512, NO_CLASS = 65535 };
+enum { USABLE_HEAD = 2, UNUSED_HEAD = 3, CLASS_HEADS = 4, EDITION = 68, RECORDS = 72, RECORD = 8 };
 enum { NONE = 512 };    /* the number of no block: no pool has so many */
 
 struct arena {
@@ -29,7 +29,7 @@ struct heap {
     uint64_t *map;
     struct arena *arena;
     struct pool *pool;
-    uint32_t arenas, pools, all;
+    uint32_t arenas, pools, all, edition;
 };
 
 INLINE heskavern_answer answer(uint32_t number, uint32_t value)
@@ -40,40 +40,68 @@ INLINE heskavern_answer answer(uint32_t number, uint32_t value)
 
 /* ---- the tests that the calls begin with */
 
-/* 1 or 2, for given numbers of arenas and pools. */
-INLINE uint32_t fit_number(size_t memory_bytes, size_t books_words, size_t map_words, size_t arenas, size_t pools)
+INLINE bool in_range(size_t arenas, size_t pools)
 {
-    if (arenas < 1 || arenas > 16 || pools < 2 || pools > 64)
-        return HESKAVERN_OUT_OF_RANGE;
-    if (memory_bytes != HESKAVERN_MEMORY_BYTES(arenas, pools) || books_words != HESKAVERN_BOOKS_WORDS(arenas, pools)
-        || map_words != HESKAVERN_MAP_WORDS(arenas, pools))
-        return HESKAVERN_NOT_EXACT;
-    return HESKAVERN_DONE;
+    return arenas >= 1 && arenas <= 16 && pools >= 2 && pools <= 64;
 }
 
-/* 1 or 2, for the numbers that the books hold. Where there is neither, the heap can be used. */
+INLINE bool exact(size_t memory_bytes, size_t books_words, size_t map_words, size_t arenas, size_t pools)
+{
+    return memory_bytes == HESKAVERN_MEMORY_BYTES(arenas, pools) && books_words == HESKAVERN_BOOKS_WORDS(arenas, pools)
+        && map_words == HESKAVERN_MAP_WORDS(arenas, pools);
+}
+
+/* 1 or 2, for the numbers that the books hold. Where there is neither, the heap can be used. The edition comes before
+ * the lengths, but books of the exact length reach its word: whether they do is asked only where a length is wrong. */
 INLINE uint32_t open_heap(struct heap *h, const uint8_t *memory, size_t memory_bytes, const uint32_t *books,
                           size_t books_words, const uint64_t *map, size_t map_words)
 {
     if (books_words < 2)
         return HESKAVERN_NOT_EXACT;
-    uint32_t number = fit_number(memory_bytes, books_words, map_words, books[0], books[1]);
-    if (number != HESKAVERN_DONE)
-        return number;
+    if (!in_range(books[0], books[1]))
+        return HESKAVERN_OUT_OF_RANGE;
+    if (!exact(memory_bytes, books_words, map_words, books[0], books[1])) {
+        bool no_edition = books_words > EDITION && books[EDITION] > HESKAVERN_SIXTEEN;
+        return no_edition ? HESKAVERN_OUT_OF_RANGE : HESKAVERN_NOT_EXACT;
+    }
+    if (books[EDITION] > HESKAVERN_SIXTEEN)
+        return HESKAVERN_OUT_OF_RANGE;
     h->memory = (uint8_t *)memory;
     h->books = (uint32_t *)books;
     h->map = (uint64_t *)map;
     h->arenas = books[0];
     h->pools = books[1];
     h->all = h->arenas * h->pools;
+    h->edition = books[EDITION];
     h->arena = (struct arena *)(h->books + RECORDS);
     h->pool = (struct pool *)(h->books + RECORDS + RECORD * h->arenas);
     return HESKAVERN_DONE;
 }
 
-INLINE uint32_t size_of(uint32_t class)
+/* Classes and sizes go by 8 in edition 0, and by 16 in edition 1. */
+INLINE uint32_t class_of(uint32_t edition, size_t n)
 {
-    return ALIGNMENT * (class + 1);
+    return (uint32_t)(n - 1) >> (3 + edition);
+}
+
+INLINE uint32_t size_of(uint32_t edition, uint32_t class)
+{
+    return (class + 1) << (3 + edition);
+}
+
+INLINE uint32_t last_class(uint32_t edition)
+{
+    return class_of(edition, LARGEST);
+}
+
+INLINE bool has_class(const struct heap *h, uint32_t p)
+{
+    return h->pool[p].class <= last_class(h->edition);
+}
+
+INLINE uint32_t size_of_pool(const struct heap *h, uint32_t p)
+{
+    return size_of(h->edition, h->pool[p].class);
 }
 
 /* Which block starts at this place of a pool, or NONE. */
@@ -100,10 +128,10 @@ INLINE uint32_t live_at(const struct heap *h, size_t offset)
 {
     if (offset >= (size_t)h->all * POOL_BYTES)
         return NONE;
-    uint32_t p = (uint32_t)(offset / POOL_BYTES), class = h->pool[p].class;
-    if (class > LAST_CLASS)
+    uint32_t p = (uint32_t)(offset / POOL_BYTES);
+    if (!has_class(h, p))
         return NONE;
-    uint32_t k = block_at(size_of(class), offset % POOL_BYTES);
+    uint32_t k = block_at(size_of_pool(h, p), offset % POOL_BYTES);
     return k != NONE && is_set(h, p, k) ? k : NONE;
 }
 
@@ -111,15 +139,17 @@ INLINE uint32_t live_at(const struct heap *h, size_t offset)
  * carved, and otherwise 5. It stands apart, so that nothing of it is done for a live offset. */
 static __attribute__((noinline, cold)) heskavern_answer refuse(const uint32_t *books, size_t offset)
 {
-    uint32_t arenas = books[0], pools = books[1], p = (uint32_t)(offset / POOL_BYTES), place = offset % POOL_BYTES;
+    uint32_t arenas = books[0], pools = books[1], edition = books[EDITION];
+    uint32_t p = (uint32_t)(offset / POOL_BYTES), place = offset % POOL_BYTES;
     if (offset >= HESKAVERN_MEMORY_BYTES(arenas, pools))
         return answer(HESKAVERN_NO_BLOCK, 0);
     const struct arena *arena = (const struct arena *)(books + RECORDS) + p / pools;
     const struct pool *pool = (const struct pool *)(books + RECORDS + RECORD * arenas) + p;
     bool carved = arena->open == 1 && p % pools < arena->mark;
-    if (!carved || pool->class > LAST_CLASS || place >= pool->nextoffset)
+    if (!carved || pool->class > last_class(edition) || place >= pool->nextoffset)
         return answer(HESKAVERN_NO_BLOCK, 0);
-    return answer(block_at(size_of(pool->class), place) != NONE ? HESKAVERN_DEAD_BLOCK : HESKAVERN_NO_BLOCK, 0);
+    bool starts = block_at(size_of(edition, pool->class), place) != NONE;
+    return answer(starts ? HESKAVERN_DEAD_BLOCK : HESKAVERN_NO_BLOCK, 0);
 }
 
 /* ---- links and lists */
@@ -334,7 +364,7 @@ INLINE heskavern_answer ask_unlisted(const struct heap *h, uint32_t class, uint3
 
 INLINE heskavern_answer ask_step(const struct heap *h, size_t n)
 {
-    uint32_t class = (uint32_t)(n - 1) / ALIGNMENT, size = size_of(class), front = h->books[CLASS_HEADS + class];
+    uint32_t class = class_of(h->edition, n), size = size_of(h->edition, class), front = h->books[CLASS_HEADS + class];
     if (front == 0)
         return ask_unlisted(h, class, size);
     if (front > h->all)
@@ -396,7 +426,7 @@ INLINE uint32_t back_step(const struct heap *h, size_t offset, uint32_t k)
         join(&h->pool->next, &h->books[CLASS_HEADS + class], p);
         return HESKAVERN_DONE;
     }
-    if (block_at(size_of(class), free) == NONE)
+    if (block_at(size_of(h->edition, class), free) == NONE)
         return HESKAVERN_DAMAGED;
     if (count == 1) {
         uint32_t a = p / h->pools;
@@ -424,7 +454,7 @@ INLINE bool none_set(const struct heap *h, uint32_t p)
 INLINE uint32_t *put_pool(const struct heap *h, uint32_t p, uint32_t *roll)
 {
     const uint64_t *word = map_word(h, p, 0);
-    uint32_t size = size_of(h->pool[p].class), first = POOL_BYTES * p + FIRST_BLOCK, last = POOL_BYTES * (p + 1) - size;
+    uint32_t size = size_of_pool(h, p), first = POOL_BYTES * p + FIRST_BLOCK, last = POOL_BYTES * (p + 1) - size;
     for (; first <= last; first += 64 * size, word++) {
         for (uint64_t left = *word; left != 0; left &= left - 1) {
             uint32_t offset = first + (uint32_t)__builtin_ctzll(left) * size;
@@ -440,7 +470,7 @@ INLINE uint32_t *put_pool(const struct heap *h, uint32_t p, uint32_t *roll)
 INLINE uint32_t *put_roll(const struct heap *h, uint32_t *roll)
 {
     for (uint32_t p = 0; p < h->all; p++)
-        if (!none_set(h, p) && h->pool[p].class <= LAST_CLASS)
+        if (!none_set(h, p) && has_class(h, p))
             roll = put_pool(h, p, roll);
     return roll;
 }
@@ -457,9 +487,9 @@ INLINE uint32_t count_live(const struct heap *h, bool pass_over)
 {
     uint32_t live = 0;
     for (uint32_t p = 0; p < h->all; p++) {
-        if ((pass_over && none_set(h, p)) || h->pool[p].class > LAST_CLASS)
+        if ((pass_over && none_set(h, p)) || !has_class(h, p))
             continue;
-        uint32_t blocks = (POOL_BYTES - FIRST_BLOCK) / size_of(h->pool[p].class);
+        uint32_t blocks = (POOL_BYTES - FIRST_BLOCK) / size_of_pool(h, p);
         for (uint32_t w = 0; 64 * w < blocks; w++) {
             uint64_t word = live_word(h, p, w, blocks);
             if (word != 0)
@@ -473,9 +503,9 @@ INLINE uint32_t count_live(const struct heap *h, bool pass_over)
 INLINE void put_plain_roll(const struct heap *h, uint32_t *roll)
 {
     for (uint32_t p = 0; p < h->all; p++) {
-        if (h->pool[p].class > LAST_CLASS)
+        if (!has_class(h, p))
             continue;
-        uint32_t size = size_of(h->pool[p].class), blocks = (POOL_BYTES - FIRST_BLOCK) / size;
+        uint32_t size = size_of_pool(h, p), blocks = (POOL_BYTES - FIRST_BLOCK) / size;
         for (uint32_t w = 0; 64 * w < blocks; w++) {
             for (uint64_t word = live_word(h, p, w, blocks); word != 0; word &= word - 1) {
                 uint32_t k = 64 * w + (uint32_t)__builtin_ctzll(word);
@@ -489,17 +519,19 @@ INLINE void put_plain_roll(const struct heap *h, uint32_t *roll)
 /* ---- the calls */
 
 heskavern_answer CHECKS(format)(const uint8_t *memory, size_t memory_bytes, uint32_t *books, size_t books_words,
-                                uint64_t *map, size_t map_words, size_t arenas, size_t pools)
+                                uint64_t *map, size_t map_words, size_t arenas, size_t pools, size_t edition)
 {
-    uint32_t number = fit_number(memory_bytes, books_words, map_words, arenas, pools);
-    if (number != HESKAVERN_DONE)
-        return answer(number, 0);
+    if (!in_range(arenas, pools) || edition > HESKAVERN_SIXTEEN)
+        return answer(HESKAVERN_OUT_OF_RANGE, 0);
+    if (!exact(memory_bytes, books_words, map_words, arenas, pools))
+        return answer(HESKAVERN_NOT_EXACT, 0);
     (void)memory;
     memset(books, 0, books_words * sizeof *books);
     memset(map, 0, map_words * sizeof *map);
     books[0] = (uint32_t)arenas;
     books[1] = (uint32_t)pools;
     books[UNUSED_HEAD] = 1;
+    books[EDITION] = (uint32_t)edition;
     struct arena *arena = (struct arena *)(books + RECORDS);
     struct pool *pool = (struct pool *)(books + RECORDS + RECORD * arenas);
     for (uint32_t a = 0; a < arenas; a++) {
@@ -548,7 +580,7 @@ heskavern_answer CHECKS(resize)(uint8_t *memory, size_t memory_bytes, uint32_t *
         return answer(HESKAVERN_BAD_SIZE, 0);
     if (live_at(&h, offset) == NONE)
         return refuse(books, offset);
-    size_t old = size_of(h.pool[offset / POOL_BYTES].class);
+    size_t old = size_of_pool(&h, (uint32_t)(offset / POOL_BYTES));
     if (size <= old && 4 * size > 3 * old)
         return answer(HESKAVERN_DONE, (uint32_t)offset);
     heskavern_answer asked = ask_step(&h, size);
@@ -570,7 +602,7 @@ heskavern_answer CHECKS(view_size)(const uint8_t *memory, size_t memory_bytes, c
         return answer(number, 0);
     if (live_at(&h, offset) == NONE)
         return refuse(books, offset);
-    return answer(HESKAVERN_DONE, size_of(h.pool[offset / POOL_BYTES].class));
+    return answer(HESKAVERN_DONE, size_of_pool(&h, (uint32_t)(offset / POOL_BYTES)));
 }
 
 heskavern_part CHECKS(stand_in)(const uint8_t *memory, size_t memory_bytes, const uint32_t *books, size_t books_words,
@@ -581,7 +613,7 @@ heskavern_part CHECKS(stand_in)(const uint8_t *memory, size_t memory_bytes, cons
     if (open_heap(&h, memory, memory_bytes, books, books_words, map, map_words) != HESKAVERN_DONE
         || live_at(&h, offset) == NONE)
         return (heskavern_part){phrase, phrase_bytes};
-    return (heskavern_part){memory + offset, size_of(h.pool[offset / POOL_BYTES].class)};
+    return (heskavern_part){memory + offset, size_of_pool(&h, (uint32_t)(offset / POOL_BYTES))};
 }
 
 heskavern_answer CHECKS(write)(uint8_t *memory, size_t memory_bytes, const uint32_t *books, size_t books_words,
@@ -594,7 +626,7 @@ heskavern_answer CHECKS(write)(uint8_t *memory, size_t memory_bytes, const uint3
         return answer(number, 0);
     if (live_at(&h, offset) == NONE)
         return refuse(books, offset);
-    if (text_bytes > size_of(h.pool[offset / POOL_BYTES].class))
+    if (text_bytes > size_of_pool(&h, (uint32_t)(offset / POOL_BYTES)))
         return answer(HESKAVERN_DOES_NOT_FIT, 0);
     memcpy(memory + offset, text, text_bytes);
     return answer(HESKAVERN_DONE, (uint32_t)offset);

@@ -4,7 +4,7 @@
 #include "heskavern.h"
 
 heskavern_answer CHECKS(format)(const uint8_t *memory, size_t memory_bytes, uint32_t *books, size_t books_words,
-                                uint64_t *map, size_t map_words, size_t arenas, size_t pools);
+                                uint64_t *map, size_t map_words, size_t arenas, size_t pools, size_t edition);
 heskavern_answer CHECKS(ask)(uint8_t *memory, size_t memory_bytes, uint32_t *books, size_t books_words, uint64_t *map,
                              size_t map_words, size_t size);
 heskavern_answer CHECKS(give_back)(uint8_t *memory, size_t memory_bytes, uint32_t *books, size_t books_words,

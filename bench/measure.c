@@ -4,7 +4,8 @@
  * in a process of its own, which the COMMAND starts and which makes its visits in the same rounds.
  *
  * measure peer LIBRARY: such a process, whose malloc must come from a file of that name.
- * measure count [LIBRARY]: runs both traces once over each variant, or over the process's own malloc, for callgrind. */
+ * measure count EDITION [LIBRARY]: runs both traces once over each variant that has this edition, or over the process's
+ * own malloc, for callgrind. */
 #define _DEFAULT_SOURCE
 #include "peers.h"
 #include "random.h"
@@ -297,14 +298,14 @@ static void print_again(void)
 
 /* ---- for callgrind */
 
-static void count_variant(const struct variant *v)
+static void count_variant(const struct variant *v, size_t edition)
 {
-    printf("mixed\t%s_mixed_trace\t%zu\t%s\n", v->stem, run_mixed(v), v->name);
-    printf("statement\t%s_statement_trace\t%zu\t%s\n", v->stem, run_statement(v), v->name);
+    printf("mixed\t%s_mixed_trace\t%zu\t%s\n", v->stem, run_mixed(v, edition), v->name);
+    printf("statement\t%s_statement_trace\t%zu\t%s\n", v->stem, run_statement(v, edition), v->name);
 }
 
 /* Says of each trace by which function it ran, and how many pairs it has. */
-static int count(const char *library)
+static int count(size_t edition, const char *library)
 {
     if (library == NULL)
         find_variants(NULL, 0);
@@ -314,8 +315,8 @@ static int count(const char *library)
         return 1;
     make_traces();
     for (size_t i = 0; i < variant_count; i++)
-        if (variants[i]->mixed != NULL)
-            count_variant(variants[i]);
+        if (has_edition(variants[i], edition))
+            count_variant(variants[i], edition);
     return 0;
 }
 
@@ -324,8 +325,8 @@ int main(int argc, char **argv)
     static struct peer peers[MOST_PEERS];
     if (argc == 3 && strcmp(argv[1], "peer") == 0)
         serve(argv[2]);
-    if ((argc == 2 || argc == 3) && strcmp(argv[1], "count") == 0)
-        return count(argv[2]);
+    if ((argc == 3 || argc == 4) && strcmp(argv[1], "count") == 0)
+        return count(strtoul(argv[2], NULL, 10), argv[3]);
     if (argc > 1)
         rounds = strtoul(argv[1], NULL, 10);
     size_t words = argc > 2 ? (size_t)argc - 2 : 0;

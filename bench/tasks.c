@@ -71,14 +71,24 @@ void make_traces(void)
 
 /* ---- ask and give back */
 
-static bool can_ask(const struct variant *v)
+bool has_edition(const struct variant *v, size_t edition)
 {
-    return v->fill != NULL;
+    return v->fill != NULL && (edition == HESKAVERN_EIGHT || !v->older);
 }
 
+static bool can_ask(const struct variant *v)
+{
+    return has_edition(v, HESKAVERN_EIGHT);
+}
+
+static bool can_ask_sixteen(const struct variant *v)
+{
+    return has_edition(v, HESKAVERN_SIXTEEN);
+}
+
+/* This preparation and the others find an empty heap. */
 static void prepare_mixed(const struct variant *v)
 {
-    v->fresh();
     must(v->fill(start, SLOTS), v);
 }
 
@@ -96,7 +106,6 @@ static double visit_mixed(const struct variant *v, size_t round)
 /* Every slot has held a block, so that the variants' slots can be compared. */
 static void prepare_empty(const struct variant *v)
 {
-    v->fresh();
     must(v->fill(start, SLOTS), v);
     must(v->drain(start, SLOTS), v);
 }
@@ -114,16 +123,18 @@ static double visit_statement(const struct variant *v, size_t round)
     return (end - begin) / (double)pairs;
 }
 
-size_t run_mixed(const struct variant *v)
+size_t run_mixed(const struct variant *v, size_t edition)
 {
+    v->fresh(edition);
     prepare_mixed(v);
     must(v->mixed(mixed, COUNTED), v);
     return COUNTED;
 }
 
-size_t run_statement(const struct variant *v)
+size_t run_statement(const struct variant *v, size_t edition)
 {
     size_t pairs = 0;
+    v->fresh(edition);
     prepare_empty(v);
     for (size_t w = 0; w < RUN_WINDOWS; w++) {
         must(v->statement(texts[w], runs[w], RUNS), v);
@@ -137,7 +148,6 @@ size_t run_statement(const struct variant *v)
 
 static void prepare_resize(const struct variant *v)
 {
-    v->fresh();
     must(v->fill(down, SLOTS), v);
 }
 
@@ -175,7 +185,6 @@ static bool can_write(const struct variant *v)
 
 static void prepare_write(const struct variant *v)
 {
-    v->fresh();
     must(v->fill(wide, SLOTS), v);
 }
 
@@ -284,7 +293,7 @@ static void make_heap(const struct wanted_heap *w)
 {
     heap.arenas = w->arenas;
     heap.pools = w->pools;
-    if (heskavern_format(HEAP, w->arenas, w->pools).number != HESKAVERN_DONE)
+    if (heskavern_format(HEAP, w->arenas, w->pools, HESKAVERN_EIGHT).number != HESKAVERN_DONE)
         fail("this library", "a format was refused");
     fill_heap(w->largest);
     uint32_t left = heskavern_roll_call(HEAP, roll, sizeof roll / sizeof *roll).value;
@@ -337,7 +346,7 @@ static void prepare_format(const struct variant *v)
 
 static void call_format(const struct variant *v)
 {
-    if (v->format(HEAP, heap.arenas, heap.pools).number != HESKAVERN_DONE)
+    if (v->format(HEAP, heap.arenas, heap.pools, HESKAVERN_EIGHT).number != HESKAVERN_DONE)
         fail(v->name, "its format was refused");
 }
 
@@ -356,7 +365,9 @@ static double visit_format(const struct variant *v, size_t round)
 
 void prepare(const struct task *t, const struct variant *v)
 {
-    if (t->wanted.arenas != 0 && v == variants[0])
+    if (t->wanted.arenas == 0)
+        v->fresh(t->edition);
+    else if (v == variants[0])
         make_heap(&t->wanted);
     t->prepare(v);
 }
@@ -370,7 +381,8 @@ double visit(const struct task *t, const struct variant *v, size_t round)
 }
 
 /* Roll call over one heap, with each share of its blocks live; and the same where the roll has just room enough. */
-#define ROLL(title, share, tight, ...) {title, can_roll, prepare_roll, visit_roll, {__VA_ARGS__, share, tight}}
+#define ROLL(title, share, tight, ...) \
+    {title, can_roll, prepare_roll, .visit = visit_roll, .wanted = {__VA_ARGS__, share, tight}}
 #define ROLLS(title, ...) \
     ROLL(title ", 0 % live", 0, false, __VA_ARGS__), ROLL(title ", 0.1 % live", 1, false, __VA_ARGS__), \
         ROLL(title ", 1 % live", 10, false, __VA_ARGS__), ROLL(title ", 10 % live", 100, false, __VA_ARGS__), \
@@ -384,13 +396,18 @@ double visit(const struct task *t, const struct variant *v, size_t round)
 const struct task tasks[TASKS] = {
     {"ask + give back, mixed: ns a pair", can_ask, prepare_mixed, .visit = visit_mixed},
     {"ask + give back, statement: ns a pair", can_ask, prepare_empty, .visit = visit_statement},
+    {"ask + give back, mixed, edition sixteen: ns a pair", can_ask_sixteen, prepare_mixed, .visit = visit_mixed,
+     .edition = HESKAVERN_SIXTEEN},
+    {"ask + give back, statement, edition sixteen: ns a pair", can_ask_sixteen, prepare_empty,
+     .visit = visit_statement, .edition = HESKAVERN_SIXTEEN},
     {"resize up: ns", can_ask, prepare_resize, .visit = visit_up},
     {"resize down: ns", can_ask, prepare_resize, .visit = visit_down},
     {"write 16 bytes (source: memcpy): ns", can_write, prepare_write, .visit = visit_write_16},
     {"write 200 bytes (source: memcpy): ns", can_write, prepare_write, .visit = visit_write_200},
     {"view_size: ns", can_write, prepare_write, .visit = visit_view},
     {"stand-in, half of the blocks given back: ns", can_stand_in, prepare_stand_in, .visit = visit_stand_in},
-    {"format (C: memset and a loop): µs", can_format, prepare_format, visit_format, {4, 64, 8, 0, false}},
+    {"format (C: memset and a loop): µs", can_format, prepare_format, .visit = visit_format,
+     .wanted = {4, 64, 8, 0, false}},
     ROLLS("16 pools, blocks of 8 bytes", 1, 16, 8),
     ROLLS("16 pools, blocks of all sizes", 1, 16, HESKAVERN_LARGEST),
     ROLLS("1,024 pools, blocks of 8 bytes", 16, 64, 8),

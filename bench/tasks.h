@@ -4,7 +4,7 @@
 
 #include "variants.h"
 
-enum { FIRST_ROLL = 9, TASKS = FIRST_ROLL + 34 };    /* those of roll call are the last ones */
+enum { FIRST_ROLL = 11, TASKS = FIRST_ROLL + 34 };    /* those of roll call are the last ones */
 
 /* A heap that was filled with blocks for 1 to so many bytes until there was room for none, of which this share, in
  * thousandths and to the nearest block, is still live. The roll has room for just these where it is tight, and
@@ -21,6 +21,7 @@ struct task {
     void (*prepare)(const struct variant *v);
     double (*visit)(const struct variant *v, size_t round);
     struct wanted_heap wanted;      /* of roll call and format; 0 arenas where the variants have heaps of their own */
+    size_t edition;                 /* of their own heaps */
 };
 
 extern const struct task tasks[TASKS];
@@ -39,7 +40,10 @@ void prepare(const struct task *t, const struct variant *v);
 double visit(const struct task *t, const struct variant *v, size_t round);
 
 /* Prepares and runs a whole trace once, for the instructions to be counted; how many pairs it has. */
-size_t run_mixed(const struct variant *v);
-size_t run_statement(const struct variant *v);
+size_t run_mixed(const struct variant *v, size_t edition);
+size_t run_statement(const struct variant *v, size_t edition);
+
+/* Whether a variant can run the traces in this edition. */
+bool has_edition(const struct variant *v, size_t edition);
 
 #endif

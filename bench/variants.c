@@ -32,7 +32,10 @@ static const struct variant library = {
     .format = heskavern_format
 };
 
-#ifdef BEFORE   /* it is linked, with before_ask for heskavern_ask and so on */
+/* The older archive is linked with before_ask for heskavern_ask and so on. In one of before W-211 format takes no
+ * edition. It is given one all the same: on x86-64 that stands on the stack after the arguments that it reads, and is
+ * its caller's to clear away. */
+#ifdef BEFORE
 #define CHECKS(name) before_##name
 #include "checks.h"
 #define THIS(name) archive_before_##name
@@ -81,9 +84,9 @@ static _Alignas(POOL_SIZE) uint8_t source_memory[HESKAVERN_MEMORY_BYTES(ARENAS, 
 #define WRITES
 #define PLACES
 
-static void source_fresh(void)
+static void source_fresh(size_t edition)
 {
-    pymalloc_format(&source_heap, source_memory, ARENAS, POOLS);
+    pymalloc_format(&source_heap, source_memory, ARENAS, POOLS, 3 + (unsigned)edition);
 }
 
 static inline BLOCK source_ask(size_t size, unsigned *refused)
@@ -115,7 +118,7 @@ static inline void source_write(BLOCK p, const uint8_t *text, size_t bytes, unsi
 static inline uint32_t source_view_size(BLOCK p, unsigned *refused)
 {
     (void)refused;
-    return pymalloc_size(p);
+    return pymalloc_size(&source_heap, p);
 }
 
 static inline uint32_t source_place(BLOCK p)
@@ -137,8 +140,9 @@ struct system_calls {
     void *(*resize)(void *, size_t);
 };
 
-static void no_heap(void)
+static void no_heap(size_t edition)
 {
+    (void)edition;
 }
 
 #define SYSTEM(v) .fresh = no_heap, TRACES(v), WITH_BLOCKS(v)

@@ -17,9 +17,9 @@ struct step {
 struct variant {
     const char *name;
     struct peer *peer;              /* the process that it runs in, where that is not this one */
-    bool older;                     /* whether it is an older archive of the library */
+    bool older;                     /* whether it is an older archive of the library, measured in edition eight alone */
     const char *stem;               /* what the names of its traces' functions begin with: callgrind knows them by it */
-    void (*fresh)(void);                                    /* an empty heap */
+    void (*fresh)(size_t edition);                          /* an empty heap, of that edition where it has editions */
     unsigned (*fill)(const struct step *steps, size_t n);   /* asks */
     unsigned (*drain)(const struct step *steps, size_t n);  /* give-backs */
     unsigned (*mixed)(const struct step *steps, size_t n);  /* gives back what the slot holds, then asks */
@@ -34,7 +34,7 @@ struct variant {
     uint32_t (*place)(size_t slot);                         /* the offset of the slot's block */
     heskavern_answer (*roll_call)(const uint8_t *, size_t, const uint32_t *, size_t, const uint64_t *, size_t,
                                   uint32_t *, size_t);
-    heskavern_answer (*format)(const uint8_t *, size_t, uint32_t *, size_t, uint64_t *, size_t, size_t, size_t);
+    heskavern_answer (*format)(const uint8_t *, size_t, uint32_t *, size_t, uint64_t *, size_t, size_t, size_t, size_t);
 };
 
 /* All variants that this machine has; the library is the first. */

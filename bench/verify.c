@@ -1,9 +1,10 @@
 /* Holds bench/checks.c, by its names CHECKS(name), to the library: verify SEED CALLS. Both get the same random calls
- * over the same buffers, on sound books and on damaged ones, and must give the same number and value, or of a stand-in
- * the same part, and leave the same memory, books, map and roll. Fails also where the calls never met a number, a
- * half-done resize whose give-back meets 5, 6 or 10, a stand-in that is the phrase or one that is the block's own part,
- * one of the calls on an offset with one of the reasons why that is a dead block or none, or one of the roll calls over
- * one of the kinds of map with one of the kinds of room. */
+ * over the same buffers, in both editions, on sound books and on damaged ones, and must give the same number and value,
+ * or of a stand-in the same part, and leave the same memory, books, map and roll. Fails also where the calls never met
+ * one of the tests of a shape that fails first, or in one of the editions a number, a half-done resize whose give-back
+ * meets 5, 6 or 10, a stand-in that is the phrase or one that is the block's own part, one of the calls on an offset
+ * with one of the reasons why that is a dead block or none, or one of the roll calls over one of the kinds of map with
+ * one of the kinds of room. */
 #include "checks.h"
 #include "random.h"
 
@@ -12,12 +13,13 @@
 #include <stdlib.h>
 #include <string.h>
 
-enum { MOST_POOLS = 64, MOST_HELD = 4096, GONE = 64 };
+enum { MOST_POOLS = 64, MOST_HELD = 4096, GONE = 64, EDITION = 68, EDITIONS = 2 };
 enum { FORMAT, ASK, GIVE_BACK, RESIZE, VIEW_SIZE, STAND_IN, WRITE, ROLL_CALL, PLAIN_ROLL_CALL, CALLS };
 enum { AT_BLOCKS, PAST_THE_LAST, NO_CLASS, WHOLE_WORDS, ALL_ONES, LAST_WORD, CROWDED, MAPS };
 enum { FOR_ALL, MORE, ENOUGH, ONE_TOO_FEW, FEWER, ROOMS };
 enum { DEAD, DEAD_DAMAGED, OPEN_0, OPEN_ABOVE_1, PAST_THE_MARK, AT_NEXTOFFSET, PAST_NEXTOFFSET, NO_START, NO_END,
-       ABOVE_63, SEVERAL, REASONS };
+       ABOVE_LAST, SEVERAL, REASONS };
+enum { UNDER_TWO_WORDS, A_OR_P, NO_EDITION, BAD_EDITION, LENGTHS, SHAPES };
 
 struct buffers {
     uint8_t memory[MOST_POOLS * 4096];
@@ -29,7 +31,7 @@ struct buffers {
 struct call {
     unsigned kind;
     size_t memory_bytes, books_words, map_words, roll_words;
-    size_t x, y;            /* A and P; or a size; or an offset, and a size or a text's length */
+    size_t x, y, z;         /* A, P and the edition; or a size; or an offset, and a size or a text's length */
     uint32_t live;          /* of a roll call: the live blocks that it meets, and what is in the map */
     bool in_map[MAPS];
 };
@@ -39,10 +41,10 @@ static const char *const names[CALLS] = {"format", "ask", "give back", "resize",
 static const char *const maps[MAPS] = {
     [AT_BLOCKS] = "bits at blocks alone",
     [PAST_THE_LAST] = "bits past a pool's last block",
-    [NO_CLASS] = "bits of a pool of class above 63",
+    [NO_CLASS] = "bits of a pool of class above the last",
     [WHOLE_WORDS] = "whole words of ones",
     [ALL_ONES] = "every word all ones",
-    [LAST_WORD] = "a pool's live blocks in its eighth word alone",
+    [LAST_WORD] = "a pool's live blocks in the last word alone that the smallest have bits in",
     [CROWDED] = "most blocks live that there could be",
 };
 static const char *const rooms[ROOMS] = {
@@ -63,8 +65,15 @@ static const char *const reasons[REASONS] = {
     [PAST_NEXTOFFSET] = "none, only because it is past nextoffset",
     [NO_START] = "none, only because no block starts there",
     [NO_END] = "none, only because the block would not end in its pool",
-    [ABOVE_63] = "none, only because the class is above 63",
+    [ABOVE_LAST] = "none, only because the class is above the last",
     [SEVERAL] = "none, because of several of these, or outside memory",
+};
+static const char *const shapes[SHAPES] = {
+    [UNDER_TWO_WORDS] = "books of under two words",
+    [A_OR_P] = "A or P",
+    [NO_EDITION] = "books that do not reach the edition's word",
+    [BAD_EDITION] = "the edition",
+    [LENGTHS] = "the lengths",
 };
 static const unsigned numbers[] = {0, 1, 2, 3, 4, 5, 6, 7, 10};
 static const uint8_t on_offsets[] = {GIVE_BACK, RESIZE, VIEW_SIZE, WRITE};
@@ -74,7 +83,10 @@ static size_t arenas, pools;
 static bool sound;                              /* nothing was damaged since format */
 static uint32_t held[MOST_HELD], held_count;    /* offsets that were handed out, as far as the answers tell */
 static uint32_t gone[GONE], gone_count;         /* the last of those that came back, and how many came in all */
-static unsigned long met[11], half_done[11], stood_in[2], rolls_met[CALLS][MAPS][ROOMS], met_on[CALLS][REASONS];
+static unsigned long shapes_met[2][SHAPES];     /* of the other calls, and of format */
+static struct met {
+    unsigned long numbers[11], half_done[11], stood_in[2], rolls[CALLS][MAPS][ROOMS], on[CALLS][REASONS];
+} met_in[EDITIONS], *met = met_in;              /* now is the one of the books' edition */
 static uint8_t text[600];
 
 #define LENT(b) (b)->memory, c->memory_bytes, (b)->books, c->books_words, (b)->map, c->map_words
@@ -91,7 +103,7 @@ static heskavern_answer handed(const struct buffers *b, heskavern_part part)
 static heskavern_answer by_library(struct buffers *b, const struct call *c)
 {
     switch (c->kind) {
-    case FORMAT: return heskavern_format(LENT(b), c->x, c->y);
+    case FORMAT: return heskavern_format(LENT(b), c->x, c->y, c->z);
     case ASK: return heskavern_ask(LENT(b), c->x);
     case GIVE_BACK: return heskavern_give_back(LENT(b), c->x);
     case RESIZE: return heskavern_resize(LENT(b), c->x, c->y);
@@ -105,7 +117,7 @@ static heskavern_answer by_library(struct buffers *b, const struct call *c)
 static heskavern_answer by_checks(struct buffers *b, const struct call *c)
 {
     switch (c->kind) {
-    case FORMAT: return CHECKS(format)(LENT(b), c->x, c->y);
+    case FORMAT: return CHECKS(format)(LENT(b), c->x, c->y, c->z);
     case ASK: return CHECKS(ask)(LENT(b), c->x);
     case GIVE_BACK: return CHECKS(give_back)(LENT(b), c->x);
     case RESIZE: return CHECKS(resize)(LENT(b), c->x, c->y);
@@ -124,7 +136,23 @@ static size_t random_size(void)
     return below(40) == 0 ? below(3) * 513 : below(4) == 0 ? between(1, 512) : sizes[below(5)];
 }
 
-/* Where the books have the class of pool p; nextoffset is the word after it. */
+/* The alignment by the books' edition; one that is none is taken for eight. */
+static uint32_t alignment(void)
+{
+    return library.books[EDITION] == HESKAVERN_SIXTEEN ? 16 : 8;
+}
+
+static uint32_t last_class(void)
+{
+    return 512 / alignment() - 1;
+}
+
+static uint32_t size_of(uint32_t class)
+{
+    return alignment() * (class + 1);
+}
+
+/* Where the books have the class of pool p; nextoffset is the word after it, and the count the first of its record. */
 static size_t class_word(size_t p)
 {
     return 72 + 8 * arenas + 8 * p + 4;
@@ -135,7 +163,7 @@ static size_t class_word(size_t p)
 static size_t random_offset(void)
 {
     uint32_t all = (uint32_t)(arenas * pools), p = below(all), class = library.books[class_word(p)];
-    uint32_t size = class > 63 ? 512 : 8 * (class + 1);
+    uint32_t size = class > last_class() ? 512 : size_of(class);
     switch (below(held_count != 0 ? 25 : 5)) {
     case 0: return below(4096 * all + 64);
     case 1: return 4096 * p + 48 + 8 * below(506);
@@ -149,9 +177,11 @@ static size_t random_offset(void)
 /* What a roll call is to meet, bit by bit. */
 static void look(struct call *c)
 {
+    const uint32_t most = 4048 / alignment();
     c->in_map[ALL_ONES] = true;
     for (size_t p = 0; p < arenas * pools; p++) {
-        uint32_t class = library.books[class_word(p)], blocks = class > 63 ? 0 : 4048 / (8 * (class + 1)), lowest = 512;
+        uint32_t class = library.books[class_word(p)], lowest = 512;
+        uint32_t blocks = class > last_class() ? 0 : 4048 / size_of(class);
         for (uint32_t k = 512; k-- > 0;) {
             uint64_t word = library.map[8 * p + k / 64];
             c->in_map[ALL_ONES] &= word == UINT64_MAX;
@@ -159,14 +189,14 @@ static void look(struct call *c)
                 continue;
             lowest = k;
             c->live += k < blocks;
-            c->in_map[PAST_THE_LAST] |= class <= 63 && k >= blocks;
-            c->in_map[NO_CLASS] |= class > 63;
+            c->in_map[PAST_THE_LAST] |= class <= last_class() && k >= blocks;
+            c->in_map[NO_CLASS] |= class > last_class();
             c->in_map[WHOLE_WORDS] |= word == UINT64_MAX;
         }
-        c->in_map[LAST_WORD] |= lowest >= 448 && lowest < blocks;
+        c->in_map[LAST_WORD] |= lowest >= most / 64 * 64 && lowest < blocks;
     }
     c->in_map[AT_BLOCKS] = !c->in_map[PAST_THE_LAST] && !c->in_map[NO_CLASS];
-    c->in_map[CROWDED] = 4 * c->live > HESKAVERN_ROLL_WORDS(arenas, pools);
+    c->in_map[CROWDED] = 2 * c->live > most * arenas * pools;
 }
 
 /* Roll words: about as many as for every block, about as many as for the live ones, or any. */
@@ -194,14 +224,17 @@ static struct call random_call(void)
 {
     static const uint8_t kinds[] = {ASK,    ASK,    ASK,       ASK,      ASK,   GIVE_BACK, GIVE_BACK,      GIVE_BACK,
                                     RESIZE, RESIZE, VIEW_SIZE, STAND_IN, WRITE, ROLL_CALL, PLAIN_ROLL_CALL};
+    static const size_t editions[] = {2, (size_t)1 << 32, ((size_t)1 << 32) + 1, SIZE_MAX};    /* each is none */
     struct call c = {.kind = kinds[below(sizeof kinds)],
                      .memory_bytes = arenas * pools * 4096,
                      .books_words = 72 + 8 * arenas + 8 * arenas * pools,
                      .map_words = 8 * arenas * pools,
                      .x = random_offset(),
                      .y = random_size()};
-    if (below(300) == 0)
+    if (below(300) == 0) {
         c.kind = FORMAT, c.x = below(4) == 0 ? below(18) : arenas, c.y = below(4) == 0 ? below(66) : pools;
+        c.z = below(4) == 0 ? editions[below(4)] : below(2);
+    }
     if (c.kind == ASK)
         c.x = random_size();
     if (c.kind == RESIZE && below(4) == 0)
@@ -213,8 +246,8 @@ static struct call random_call(void)
     }
     if (below(200) == 0)
         *(below(3) == 0 ? &c.memory_bytes : below(2) == 0 ? &c.books_words : &c.map_words) -= 1;
-    if (below(2000) == 0)
-        c.books_words = below(2);
+    if (below(library.books[EDITION] > HESKAVERN_SIXTEEN ? 20 : 1000) == 0)
+        c.books_words = below(2) == 0 ? below(2) : between(EDITION - 2, EDITION + 2);
     return c;
 }
 
@@ -223,7 +256,7 @@ static struct call random_call(void)
 static uint32_t odd_word(void)
 {
     static const uint32_t odd[] = {0, 0, 1, 2, 3, 48, 56, 505, 506, 507, 4088, 4096, 65535, UINT32_MAX};
-    static const uint32_t past[] = {4096, 4080, 4048, 4008, 3632};
+    static const uint32_t past[] = {4096, 4080, 4048, 4008, 4000, 3632};
     switch (below(5)) {
     case 0: return (uint32_t)(arenas * pools) + below(2);
     case 1: return 48 + 8 * below(506);
@@ -233,7 +266,7 @@ static uint32_t odd_word(void)
     }
 }
 
-/* Most pools, or all of them, get bits of ones, and most of these blocks of 8 bytes, the same in both. */
+/* Most pools, or all of them, get bits of ones, and most of these the smallest blocks, the same in both. */
 static void crowd(void)
 {
     bool all = below(2) == 0;
@@ -258,27 +291,42 @@ static void free_in_use(void)
     library.map[8 * p] = checks.map[8 * p] = library.map[8 * p] & ~(uint64_t)3;
 }
 
+/* The edition becomes one of the two, or none; and after that one again, since such a heap does nothing. */
+static void damage_edition(void)
+{
+    bool none = library.books[EDITION] <= HESKAVERN_SIXTEEN && below(2) == 0;
+    library.books[EDITION] = checks.books[EDITION] = none ? 2 + odd_word() / 2 : below(2);
+}
+
+/* A word of a pool's map becomes all ones, the others perhaps all zeros: often the last one that the smallest blocks
+ * have bits in. */
+static void damage_map(size_t p)
+{
+    size_t last = (4048 / alignment() - 1) / 64;
+    if (below(2) == 0)
+        memset(&library.map[8 * p], 0, 8 * sizeof *library.map);
+    library.map[8 * p + (below(2) == 0 ? last : below(8))] = UINT64_MAX;
+    memcpy(&checks.map[8 * p], &library.map[8 * p], 8 * sizeof *library.map);
+}
+
 /* Damages words of the books, a bit or a word of the map or a link, the same in both. */
 static void damage(void)
 {
     size_t words = 72 + 8 * arenas + 8 * arenas * pools, p = below((uint32_t)(arenas * pools)), at;
     uint32_t word = odd_word();
     sound = false;
-    switch (below(11)) {
+    switch (library.books[EDITION] > HESKAVERN_SIXTEEN ? 9 : below(14)) {
     case 0:
         at = 8 * p + below(1 + below(8));
         library.map[at] = checks.map[at] = library.map[at] ^ (uint64_t)1 << below(64);
         break;
     case 1:
-        at = 8 * p + (below(2) == 0 ? 7 : below(8));
-        if (below(2) == 0)
-            memset(&library.map[8 * p], 0, 8 * sizeof *library.map);
-        library.map[at] = UINT64_MAX;
-        memcpy(&checks.map[8 * p], &library.map[8 * p], 8 * sizeof *library.map);
+        damage_map(p);
         break;
     case 2:
         at = class_word(p);
-        library.books[at] = checks.books[at] = below(3) == 0 ? between(62, 65) : below(2) == 0 ? below(64) : word;
+        word = below(3) == 0 ? last_class() - 1 + below(4) : below(2) == 0 ? below(64) : word;
+        library.books[at] = checks.books[at] = word;
         break;
     case 3:
     case 4:
@@ -296,8 +344,16 @@ static void damage(void)
         library.books[at] = checks.books[at] = word;
         break;
     case 7:
+    case 8:
         if (held_count != 0)
             free_in_use();
+        break;
+    case 9:
+        damage_edition();
+        break;
+    case 10:
+        at = class_word(p) - 4;
+        library.books[at] = checks.books[at] = between(504, 508) / (1 + below(2));   /* or about half of these */
         break;
     default:
         at = below(20) == 0 ? below(2) : 2 + below((uint32_t)words - 2);
@@ -333,8 +389,10 @@ static bool same(const struct call *c, heskavern_answer x, heskavern_answer y)
         what = "roll";
     if (what == NULL)
         return true;
-    printf("bench/verify: %s differ after %s (%zu, %zu), A = %zu, P = %zu: the library gives %u %u, checks.c %u %u\n",
-           what, names[c->kind], c->x, c->y, arenas, pools, x.number, x.value, y.number, y.value);
+    printf("bench/verify: %s differ after %s (%zu, %zu, %zu), A = %zu, P = %zu, edition %u: "
+           "the library gives %u %u, checks.c %u %u\n",
+           what, names[c->kind], c->x, c->y, c->z, arenas, pools, library.books[EDITION], x.number, x.value, y.number,
+           y.value);
     return false;
 }
 
@@ -346,17 +404,17 @@ static size_t reason_of(size_t offset)
     size_t p = offset / 4096, place = offset % 4096, start = 48, reason = sound ? DEAD : DEAD_DAMAGED;
     uint32_t open = library.books[72 + 8 * (p / pools)], mark = library.books[72 + 8 * (p / pools) + 1];
     uint32_t class = library.books[class_word(p)], next = library.books[class_word(p) + 1];
-    while (class <= 63 && start < place)
-        start += 8 * (class + 1);
+    while (class <= last_class() && start < place)
+        start += size_of(class);
     const bool against[REASONS] = {
         [OPEN_0] = open == 0,
         [OPEN_ABOVE_1] = open > 1,
         [PAST_THE_MARK] = p % pools >= mark,
         [AT_NEXTOFFSET] = place == next,
         [PAST_NEXTOFFSET] = place > next,
-        [NO_START] = class <= 63 && start != place,
-        [NO_END] = class <= 63 && start == place && start + 8 * (class + 1) > 4096,
-        [ABOVE_63] = class > 63,
+        [NO_START] = class <= last_class() && start != place,
+        [NO_END] = class <= last_class() && start == place && start + size_of(class) > 4096,
+        [ABOVE_LAST] = class > last_class(),
     };
     for (size_t i = 0; i < REASONS; i++)
         if (against[i])
@@ -370,7 +428,7 @@ static void note_half_done(const struct call *c)
     struct call view = *c;
     view.kind = VIEW_SIZE;
     uint32_t number = by_library(&library, &view).number;
-    half_done[number == HESKAVERN_DONE ? HESKAVERN_DAMAGED : number]++;
+    met->half_done[number == HESKAVERN_DONE ? HESKAVERN_DAMAGED : number]++;
 }
 
 /* Counts a roll call that was done or did not fit. */
@@ -384,7 +442,26 @@ static void note_roll(const struct call *c)
     else if (words + 1 == needed)
         room = ONE_TOO_FEW;
     for (size_t m = 0; m < MAPS; m++)
-        rolls_met[c->kind][m][room] += c->in_map[m];
+        met->rolls[c->kind][m][room] += c->in_map[m];
+}
+
+/* Counts a call that was refused with 1 or 2, by the test that failed first. */
+static void note_shape(const struct call *c)
+{
+    const bool format = c->kind == FORMAT;
+    const size_t a = format ? c->x : library.books[0], p = format ? c->y : library.books[1];
+    const size_t edition = format ? c->z : library.books[EDITION];
+    const bool fails[SHAPES] = {
+        [UNDER_TWO_WORDS] = !format && c->books_words < 2,
+        [A_OR_P] = a < 1 || a > 16 || p < 2 || p > 64,
+        [NO_EDITION] = !format && c->books_words <= EDITION,
+        [BAD_EDITION] = edition > HESKAVERN_SIXTEEN,
+        [LENGTHS] = true,
+    };
+    size_t first = 0;
+    while (!fails[first])
+        first++;
+    shapes_met[format][first]++;
 }
 
 /* Keeps what is held by the answers of the call. */
@@ -392,12 +469,14 @@ static void note(const struct call *c, heskavern_answer a)
 {
     bool moved = c->kind == RESIZE && a.value != c->x;
     if (c->kind == STAND_IN) {
-        stood_in[a.number]++;
+        met->stood_in[a.number]++;
         return;
     }
-    met[a.number]++;
+    met->numbers[a.number]++;
+    if (a.number == HESKAVERN_OUT_OF_RANGE || a.number == HESKAVERN_NOT_EXACT)
+        note_shape(c);
     if (a.number == HESKAVERN_NO_BLOCK || a.number == HESKAVERN_DEAD_BLOCK)
-        met_on[c->kind][reason_of(c->x)]++;
+        met->on[c->kind][reason_of(c->x)]++;
     if (c->kind == RESIZE && a.number == HESKAVERN_DAMAGED && a.value != 0)
         note_half_done(c);
     if (c->kind >= ROLL_CALL && (a.number == HESKAVERN_DONE || a.number == HESKAVERN_DOES_NOT_FIT))
@@ -428,11 +507,13 @@ static bool compare(unsigned long *calls)
                      .books_words = 72 + 8 * arenas + 8 * arenas * pools,
                      .map_words = 8 * arenas * pools,
                      .x = arenas,
-                     .y = pools};
+                     .y = pools,
+                     .z = below(2)};
     for (; *calls > last; --*calls, c = random_call()) {
         heskavern_answer x = by_library(&library, &c), y = by_checks(&checks, &c);
         if (!same(&c, x, y))
             return false;
+        met = &met_in[library.books[EDITION] == HESKAVERN_SIXTEEN];
         note(&c, x);
         if (damaged && below(16) == 0)
             damage();
@@ -452,7 +533,7 @@ static bool say_rolls(void)
     for (size_t m = 0; m < MAPS; m++) {
         printf("\n    %s:", maps[m]);
         for (size_t room = 0; room < ROOMS; room++) {
-            unsigned long roll = rolls_met[ROLL_CALL][m][room], plain = rolls_met[PLAIN_ROLL_CALL][m][room];
+            unsigned long roll = met->rolls[ROLL_CALL][m][room], plain = met->rolls[PLAIN_ROLL_CALL][m][room];
             printf(" %lu", roll + plain);
             all &= roll != 0 && plain != 0;
         }
@@ -471,29 +552,44 @@ static bool say_reasons(void)
     for (size_t reason = 0; reason < REASONS; reason++) {
         printf("\n    %s:", reasons[reason]);
         for (size_t i = 0; i < sizeof on_offsets; i++) {
-            printf(" %lu", met_on[on_offsets[i]][reason]);
-            all &= met_on[on_offsets[i]][reason] != 0;
+            printf(" %lu", met->on[on_offsets[i]][reason]);
+            all &= met->on[on_offsets[i]][reason] != 0;
         }
     }
     printf("\n");
     return all;
 }
 
-/* Says what was met, and whether all of it was. */
-static bool say_met(const char *calls)
+/* Says what was met in an edition, and whether all of it was. */
+static bool say_met(size_t edition)
 {
-    unsigned long five = half_done[HESKAVERN_NO_BLOCK], six = half_done[HESKAVERN_DAMAGED];
-    unsigned long ten = half_done[HESKAVERN_DEAD_BLOCK];
-    bool all = five != 0 && six != 0 && ten != 0 && stood_in[0] != 0 && stood_in[1] != 0;
-    printf("bench/verify: checks.c and the library agree on %s calls; numbers 0 to 7, and 10:", calls);
+    met = &met_in[edition];
+    unsigned long five = met->half_done[HESKAVERN_NO_BLOCK], six = met->half_done[HESKAVERN_DAMAGED];
+    unsigned long ten = met->half_done[HESKAVERN_DEAD_BLOCK], own = met->stood_in[0], phrases = met->stood_in[1];
+    bool all = five != 0 && six != 0 && ten != 0 && own != 0 && phrases != 0;
+    printf("  edition %s; numbers 0 to 7, and 10:", edition == HESKAVERN_SIXTEEN ? "sixteen" : "eight");
     for (size_t i = 0; i < sizeof numbers / sizeof *numbers; i++) {
-        printf(" %lu", met[numbers[i]]);
-        all &= met[numbers[i]] != 0;
+        printf(" %lu", met->numbers[numbers[i]]);
+        all &= met->numbers[numbers[i]] != 0;
     }
-    printf("; half-done resizes by 5, 6 and 10: %lu %lu %lu; stand-ins: %lu blocks, %lu phrases\n", five, six, ten,
-           stood_in[0], stood_in[1]);
+    printf("; half-done resizes by 5, 6 and 10: %lu %lu %lu; stand-ins: %lu blocks, %lu phrases\n", five, six, ten, own,
+           phrases);
     all &= say_reasons();
     return say_rolls() && all;
+}
+
+/* Says what was met of shapes that are refused, and whether all of it was: format reads no books. */
+static bool say_shapes(void)
+{
+    bool all = true;
+    printf("  1 or 2 by the first test that fails, of format and of the other calls:");
+    for (size_t i = 0; i < SHAPES; i++) {
+        bool of_format = i != UNDER_TWO_WORDS && i != NO_EDITION;
+        printf("%s %s %lu %lu", i == 0 ? "" : ",", shapes[i], shapes_met[1][i], shapes_met[0][i]);
+        all &= shapes_met[0][i] != 0 && (shapes_met[1][i] != 0) == of_format;
+    }
+    printf("\n");
+    return all;
 }
 
 int main(int argc, char **argv)
@@ -508,7 +604,11 @@ int main(int argc, char **argv)
     for (unsigned long calls = strtoul(argv[2], NULL, 10); calls > 0;)
         if (!compare(&calls))
             return 1;
-    if (say_met(argv[2]))
+    printf("bench/verify: checks.c and the library agree on %s calls\n", argv[2]);
+    bool all = say_shapes();
+    for (size_t edition = 0; edition < EDITIONS; edition++)
+        all &= say_met(edition);
+    if (all)
         return 0;
     puts("bench/verify: one of these was never met: too few calls");
     return 1;
