@@ -4,7 +4,7 @@
 //!
 //! cargo run --manifest-path bindings/rust/Cargo.toml --example statement
 
-use heskavern::{books_words, map_words, memory_bytes, roll_words, Heap, Refusal};
+use heskavern::{books_words, map_words, memory_bytes, roll_words, Edition, Heap, Refusal};
 
 /// Keeps a text in a block that is asked for it, and answers where.
 fn keep(heap: &mut Heap, text: &str) -> Result<u32, Refusal> {
@@ -33,7 +33,7 @@ fn main() -> Result<(), Refusal> {
     let mut memory = [0; memory_bytes(1, 2)];
     let mut books = [0; books_words(1, 2)];
     let mut map = [0; map_words(1, 2)];
-    let mut heap = Heap::format(&mut memory, &mut books, &mut map, 1, 2)?;
+    let mut heap = Heap::format(&mut memory, &mut books, &mut map, 1, 2, Edition::Eight)?;
 
     let owed = keep(&mut heap, "owed")?;
     keep(&mut heap, "paid")?;

@@ -37,6 +37,7 @@ extern "C" {
         map_words: usize,
         arenas: usize,
         pools: usize,
+        edition: usize,
     ) -> Answer;
     fn heskavern_ask(
         memory: *mut u8,
@@ -98,8 +99,16 @@ extern "C" {
     ) -> Answer;
 }
 
-/// Format: a fresh heap of A arenas of P pools. Value 0.
-pub fn format(memory: &[u8], books: &mut [u32], map: &mut [u64], arenas: usize, pools: usize) -> Answer {
+/// Format: a fresh heap of A arenas of P pools, of edition eight (0) or sixteen (1); another edition is refused with 1.
+/// Value 0.
+pub fn format(
+    memory: &[u8],
+    books: &mut [u32],
+    map: &mut [u64],
+    arenas: usize,
+    pools: usize,
+    edition: usize,
+) -> Answer {
     // SAFETY: see the module.
     unsafe {
         heskavern_format(
@@ -111,6 +120,7 @@ pub fn format(memory: &[u8], books: &mut [u32], map: &mut [u64], arenas: usize, 
             map.len(),
             arenas,
             pools,
+            edition,
         )
     }
 }

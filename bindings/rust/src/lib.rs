@@ -2,16 +2,17 @@
 //!
 //! A heap has A arenas (1 to 16) of P pools (2 to 64); a pool is 4,096 bytes. Three buffers are lent to it: memory,
 //! which holds the blocks, books and map, each of an exact length ([`memory_bytes`], [`books_words`], [`map_words`]).
-//! A block is known by its offset in memory. A call that cannot be done is refused with a number, which a [`Refusal`]
-//! names, and changes nothing, but for [`HalfDone`](Refusal::HalfDone).
+//! Its [`Edition`] says whether block sizes are multiples of 8 or of 16. A block is known by its offset in memory. A
+//! call that cannot be done is refused with a number, which a [`Refusal`] names, and changes nothing, but for
+//! [`HalfDone`](Refusal::HalfDone).
 //!
 //! ```
-//! use heskavern::{books_words, map_words, memory_bytes, Heap, Refusal};
+//! use heskavern::{books_words, map_words, memory_bytes, Edition, Heap, Refusal};
 //!
 //! let mut memory = [0; memory_bytes(1, 16)];
 //! let mut books = [0; books_words(1, 16)];
 //! let mut map = [0; map_words(1, 16)];
-//! let mut heap = Heap::format(&mut memory, &mut books, &mut map, 1, 16)?;
+//! let mut heap = Heap::format(&mut memory, &mut books, &mut map, 1, 16, Edition::Eight)?;
 //!
 //! let (owed, paid) = (heap.ask(4)?, heap.ask(4)?);
 //! heap.write(owed, b"owed")?;
@@ -45,14 +46,17 @@
 //!   and leave both heaps damaged.
 //! - A [`Heap`] may go to another thread, between calls, and blocks be given back there: nothing is kept outside the
 //!   buffers. Several threads share one under a lock of theirs.
-//! - A block is aligned to 8 where memory is; to 16 where memory is and the block size is a multiple of 16, which it is
-//!   for sizes 9 to 16, 25 to 32, 41 to 48 and so on; to no more. A `[u8]` is aligned to 1 unless you say more.
+//! - A block is aligned to 8 where memory is, in edition sixteen to 16 ([`Edition::alignment`]). In edition eight it is
+//!   aligned to 16 too where memory is and the block size is a multiple of 16, which it is for sizes 9 to 16, 25 to 32,
+//!   41 to 48 and so on. To no more, in either. A `[u8]` is aligned to 1 unless you say more.
 //! - A heap may be saved and loaded, at another address too: all three buffers together, as they are between two calls,
-//!   and then [`Heap::open`]. They hold offsets and no pointers; books and map are words of a little-endian machine.
-//! - How large: a text of n bytes takes a block of n rounded up to a multiple of 8, and a pool has 4,048 / size of
-//!   them, rounded down. For each block size divide the most texts that are live at one time by that, and round up: the
-//!   sum is the pools that are always enough. (A resize that moves holds both blocks for a moment: count one text more
-//!   of the new size.) 300 texts of 1 to 24 bytes and 20 of 500 want 1 + 2 + 2 + 3 pools: A = 1 and P = 8.
+//!   and then [`Heap::open`]. They hold offsets and no pointers, and the edition; books and map are words of a
+//!   little-endian machine. A heap that was saved before there were editions is of edition eight.
+//! - How large: a text of n bytes takes a block of n rounded up to a multiple of 8, in edition sixteen of 16, and a
+//!   pool has 4,048 / size of them, rounded down. For each block size divide the most texts that are live at one time
+//!   by that, and round up: the sum is the pools that are always enough. (A resize that moves holds both blocks for a
+//!   moment: count one text more of the new size.) 300 texts of 1 to 24 bytes and 20 of 500 want 1 + 2 + 2 + 3 pools in
+//!   edition eight, for 8, 16, 24 and 504, and 2 + 3 + 3 in edition sixteen, for 16, 32 and 512: A = 1 and P = 8.
 //! - After a [`Damaged`](Refusal::Damaged) something other than this heap's own calls has written to books, map or a
 //!   block that is not out. Ask for nothing more: copy the texts out by [`roll_call`](Heap::roll_call) and
 //!   [`view`](Heap::view), and format anew. Those never give it; they go by the map and the pools' classes, and show
@@ -71,14 +75,19 @@ use core::fmt;
 
 #[allow(unsafe_code)]
 pub mod calls;
+mod edition;
 mod refusal;
 mod roll;
 
+pub use edition::Edition;
 pub use refusal::Refusal;
 pub use roll::Roll;
 
 /// The largest size that can be asked for.
 pub const LARGEST: usize = 512;
+
+/// The word of the books that says the edition.
+const EDITION_WORD: usize = 68;
 
 /// The exact length of memory, in bytes, for A arenas of P pools.
 #[must_use]
@@ -98,8 +107,8 @@ pub const fn map_words(arenas: usize, pools: usize) -> usize {
     8 * arenas * pools
 }
 
-/// Roll words that are enough for every roll call on A arenas of P pools: two for each block, were all of them of 8
-/// bytes and live.
+/// Roll words that are enough for every roll call on A arenas of P pools, of either edition: two for each block, were
+/// all of them of 8 bytes and live.
 #[must_use]
 pub const fn roll_words(arenas: usize, pools: usize) -> usize {
     2 * 506 * arenas * pools
@@ -111,21 +120,24 @@ pub const fn roll_words(arenas: usize, pools: usize) -> usize {
 /// or [`view_mut`](Heap::view_mut). So, from [`format`](Heap::format) on, a block is never handed out twice and no
 /// call gives 6. Only [`open`](Heap::open) can bring in books that something damaged.
 pub struct Heap<'a> {
+    // A, P, the edition and the three lengths are good: `format` or `open` has had them tested, and no call writes A, P
+    // or the edition thereafter.
     memory: &'a mut [u8],
     books: &'a mut [u32],
     map: &'a mut [u64],
 }
 
 impl<'a> Heap<'a> {
-    /// Format: a fresh heap of the given A and P. Writes all books and map, and no memory. Refused with 1 or 2.
+    /// Format: a fresh heap of the given A, P and edition. Writes all books and map and no memory. Refused with 1 or 2.
     ///
     /// ```
-    /// # use heskavern::{books_words, map_words, memory_bytes, Heap, Refusal};
+    /// # use heskavern::{books_words, map_words, memory_bytes, Edition, Heap, Refusal};
     /// # let (mut memory, mut books, mut map) =
     /// #     ([0; memory_bytes(1, 2)], [0; books_words(1, 2)], [0; map_words(1, 2)]);
-    /// assert!(Heap::format(&mut memory, &mut books, &mut map, 1, 2).is_ok());
-    /// assert_eq!(Heap::format(&mut memory, &mut books, &mut map, 1, 1).unwrap_err(), Refusal::OutOfRange);
-    /// assert_eq!(Heap::format(&mut memory, &mut books, &mut map, 1, 3).unwrap_err(), Refusal::NotExact);
+    /// let edition = Edition::Eight;
+    /// assert!(Heap::format(&mut memory, &mut books, &mut map, 1, 2, edition).is_ok());
+    /// assert_eq!(Heap::format(&mut memory, &mut books, &mut map, 1, 1, edition).unwrap_err(), Refusal::OutOfRange);
+    /// assert_eq!(Heap::format(&mut memory, &mut books, &mut map, 1, 3, edition).unwrap_err(), Refusal::NotExact);
     /// ```
     pub fn format(
         memory: &'a mut [u8],
@@ -133,19 +145,20 @@ impl<'a> Heap<'a> {
         map: &'a mut [u64],
         arenas: usize,
         pools: usize,
+        edition: Edition,
     ) -> Result<Self, Refusal> {
-        done(calls::format(memory, books, map, arenas, pools))?;
+        done(calls::format(memory, books, map, arenas, pools, edition.word() as usize))?;
         Ok(Heap { memory, books, map })
     }
 
     /// A heap that was formatted before, with the blocks that are live in it. Writes nothing. Refused with 1 or 2, by
-    /// the A and P that stand in the books; other damage to them is met by the call that comes upon it.
+    /// the A, P and edition that stand in the books; other damage to them is met by the call that comes upon it.
     ///
     /// ```
-    /// # use heskavern::{books_words, map_words, memory_bytes, Heap, Refusal};
+    /// # use heskavern::{books_words, map_words, memory_bytes, Edition, Heap, Refusal};
     /// # let (mut memory, mut books, mut map) =
     /// #     ([0; memory_bytes(1, 2)], [0; books_words(1, 2)], [0; map_words(1, 2)]);
-    /// let mut heap = Heap::format(&mut memory, &mut books, &mut map, 1, 2)?;
+    /// let mut heap = Heap::format(&mut memory, &mut books, &mut map, 1, 2, Edition::Eight)?;
     /// let word = heap.ask(4)?;
     ///
     /// let mut heap = Heap::open(&mut memory, &mut books, &mut map)?;
@@ -161,14 +174,33 @@ impl<'a> Heap<'a> {
         }
     }
 
+    /// The edition that format was told, off the books. It is there on every heap: [`open`](Heap::open) refuses books
+    /// that hold none.
+    ///
+    /// ```
+    /// # use heskavern::{books_words, map_words, memory_bytes, Edition, Heap, Refusal};
+    /// # let (mut memory, mut books, mut map) =
+    /// #     ([0; memory_bytes(1, 2)], [0; books_words(1, 2)], [0; map_words(1, 2)]);
+    /// let mut heap = Heap::format(&mut memory, &mut books, &mut map, 1, 2, Edition::Sixteen)?;
+    /// assert_eq!((heap.ask(1), heap.ask(1)), (Ok(48), Ok(64)));
+    ///
+    /// let heap = Heap::open(&mut memory, &mut books, &mut map)?;
+    /// assert_eq!(heap.edition(), Edition::Sixteen);
+    /// # Ok::<(), Refusal>(())
+    /// ```
+    #[must_use]
+    pub fn edition(&self) -> Edition {
+        Edition::of(self.books[EDITION_WORD])
+    }
+
     /// Ask: hands out a block of at least `size` bytes and answers its offset. Its bytes are not cleared. Refused
     /// with 3, 4 or 6.
     ///
     /// ```
-    /// # use heskavern::{books_words, map_words, memory_bytes, Heap, Refusal, LARGEST};
+    /// # use heskavern::{books_words, map_words, memory_bytes, Edition, Heap, Refusal, LARGEST};
     /// # let (mut memory, mut books, mut map) =
     /// #     ([0; memory_bytes(1, 2)], [0; books_words(1, 2)], [0; map_words(1, 2)]);
-    /// # let mut heap = Heap::format(&mut memory, &mut books, &mut map, 1, 2)?;
+    /// # let mut heap = Heap::format(&mut memory, &mut books, &mut map, 1, 2, Edition::Eight)?;
     /// assert_eq!(heap.ask(8), Ok(48));
     /// assert_eq!(heap.ask(8), Ok(56));
     /// assert_eq!(heap.ask(LARGEST), Ok(4144));
@@ -182,10 +214,10 @@ impl<'a> Heap<'a> {
     /// Give back: the block at `offset` is live no more. Refused with 5, 10 or 6.
     ///
     /// ```
-    /// # use heskavern::{books_words, map_words, memory_bytes, Heap, Refusal};
+    /// # use heskavern::{books_words, map_words, memory_bytes, Edition, Heap, Refusal};
     /// # let (mut memory, mut books, mut map) =
     /// #     ([0; memory_bytes(1, 2)], [0; books_words(1, 2)], [0; map_words(1, 2)]);
-    /// # let mut heap = Heap::format(&mut memory, &mut books, &mut map, 1, 2)?;
+    /// # let mut heap = Heap::format(&mut memory, &mut books, &mut map, 1, 2, Edition::Eight)?;
     /// let (word, other) = (heap.ask(4)?, heap.ask(4)?);
     /// assert_eq!(heap.give_back(word), Ok(()));
     /// assert_eq!(heap.give_back(word), Err(Refusal::DeadBlock));
@@ -203,10 +235,10 @@ impl<'a> Heap<'a> {
     /// [`Refusal::HalfDone`] has the new offset where only the give-back could not be done.
     ///
     /// ```
-    /// # use heskavern::{books_words, map_words, memory_bytes, Heap, Refusal};
+    /// # use heskavern::{books_words, map_words, memory_bytes, Edition, Heap, Refusal};
     /// # let (mut memory, mut books, mut map) =
     /// #     ([0; memory_bytes(1, 2)], [0; books_words(1, 2)], [0; map_words(1, 2)]);
-    /// # let mut heap = Heap::format(&mut memory, &mut books, &mut map, 1, 2)?;
+    /// # let mut heap = Heap::format(&mut memory, &mut books, &mut map, 1, 2, Edition::Eight)?;
     /// let word = heap.ask(100)?;
     /// heap.write(word, b"owed")?;
     /// assert_eq!(heap.resize(word, 79), Ok(word));
@@ -222,10 +254,10 @@ impl<'a> Heap<'a> {
     /// View: the live block's own part of memory, the whole block. Refused with 5 or 10.
     ///
     /// ```
-    /// # use heskavern::{books_words, map_words, memory_bytes, Heap, Refusal};
+    /// # use heskavern::{books_words, map_words, memory_bytes, Edition, Heap, Refusal};
     /// # let (mut memory, mut books, mut map) =
     /// #     ([0; memory_bytes(1, 2)], [0; books_words(1, 2)], [0; map_words(1, 2)]);
-    /// # let mut heap = Heap::format(&mut memory, &mut books, &mut map, 1, 2)?;
+    /// # let mut heap = Heap::format(&mut memory, &mut books, &mut map, 1, 2, Edition::Eight)?;
     /// let word = heap.ask(4)?;
     /// assert_eq!(heap.view(word)?.len(), 8);
     /// assert_eq!(heap.view(word + 4), Err(Refusal::NoBlock));
@@ -242,10 +274,10 @@ impl<'a> Heap<'a> {
     /// used, and the phrase may lie in a block of this heap.
     ///
     /// ```
-    /// # use heskavern::{books_words, map_words, memory_bytes, Heap, Refusal};
+    /// # use heskavern::{books_words, map_words, memory_bytes, Edition, Heap, Refusal};
     /// # let (mut memory, mut books, mut map) =
     /// #     ([0; memory_bytes(1, 2)], [0; books_words(1, 2)], [0; map_words(1, 2)]);
-    /// # let mut heap = Heap::format(&mut memory, &mut books, &mut map, 1, 2)?;
+    /// # let mut heap = Heap::format(&mut memory, &mut books, &mut map, 1, 2, Edition::Eight)?;
     /// let word = heap.ask(4)?;
     /// heap.write(word, b"owed")?;
     /// assert!(heap.stand_in(word, b"this amount can't be read out").starts_with(b"owed"));
@@ -261,10 +293,10 @@ impl<'a> Heap<'a> {
     /// View, for the holder to write to. Refused with 5 or 10.
     ///
     /// ```
-    /// # use heskavern::{books_words, map_words, memory_bytes, Heap, Refusal};
+    /// # use heskavern::{books_words, map_words, memory_bytes, Edition, Heap, Refusal};
     /// # let (mut memory, mut books, mut map) =
     /// #     ([0; memory_bytes(1, 2)], [0; books_words(1, 2)], [0; map_words(1, 2)]);
-    /// # let mut heap = Heap::format(&mut memory, &mut books, &mut map, 1, 2)?;
+    /// # let mut heap = Heap::format(&mut memory, &mut books, &mut map, 1, 2, Edition::Eight)?;
     /// let word = heap.ask(4)?;
     /// heap.view_mut(word)?.fill(b'-');
     /// assert_eq!(heap.view(word)?, b"--------");
@@ -278,10 +310,10 @@ impl<'a> Heap<'a> {
     /// Write: copies the text to the start of the live block; the rest of the block stays. Refused with 5, 10 or 7.
     ///
     /// ```
-    /// # use heskavern::{books_words, map_words, memory_bytes, Heap, Refusal};
+    /// # use heskavern::{books_words, map_words, memory_bytes, Edition, Heap, Refusal};
     /// # let (mut memory, mut books, mut map) =
     /// #     ([0; memory_bytes(1, 2)], [0; books_words(1, 2)], [0; map_words(1, 2)]);
-    /// # let mut heap = Heap::format(&mut memory, &mut books, &mut map, 1, 2)?;
+    /// # let mut heap = Heap::format(&mut memory, &mut books, &mut map, 1, 2, Edition::Eight)?;
     /// let word = heap.ask(4)?;
     /// heap.write(word, b"owed")?;
     /// assert_eq!(&heap.view(word)?[..4], b"owed");
@@ -297,10 +329,10 @@ impl<'a> Heap<'a> {
     /// are always enough, and quickest: with fewer the live blocks are counted before they are written.
     ///
     /// ```
-    /// # use heskavern::{books_words, map_words, memory_bytes, roll_words, Heap, Refusal};
+    /// # use heskavern::{books_words, map_words, memory_bytes, roll_words, Edition, Heap, Refusal};
     /// # let (mut memory, mut books, mut map) =
     /// #     ([0; memory_bytes(1, 2)], [0; books_words(1, 2)], [0; map_words(1, 2)]);
-    /// # let mut heap = Heap::format(&mut memory, &mut books, &mut map, 1, 2)?;
+    /// # let mut heap = Heap::format(&mut memory, &mut books, &mut map, 1, 2, Edition::Eight)?;
     /// heap.ask(4)?;
     /// heap.ask(100)?;
     /// let mut words = [0; roll_words(1, 2)];
@@ -318,10 +350,14 @@ impl<'a> Heap<'a> {
     }
 }
 
-/// Shows A and P, and not the buffers.
+/// Shows A, P and the edition, and not the buffers.
 impl fmt::Debug for Heap<'_> {
     fn fmt(&self, f: &mut fmt::Formatter<'_>) -> fmt::Result {
-        f.debug_struct("Heap").field("arenas", &self.books[0]).field("pools", &self.books[1]).finish_non_exhaustive()
+        f.debug_struct("Heap")
+            .field("arenas", &self.books[0])
+            .field("pools", &self.books[1])
+            .field("edition", &self.edition())
+            .finish_non_exhaustive()
     }
 }
 

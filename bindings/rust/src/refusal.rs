@@ -17,7 +17,7 @@ use core::fmt;
 #[derive(Clone, Copy, Debug, PartialEq, Eq, Hash)]
 #[non_exhaustive]
 pub enum Refusal {
-    /// 1: A or P out of range.
+    /// 1: A, P or the edition out of range.
     OutOfRange,
     /// 2: a lent length is not exact.
     NotExact,
@@ -77,7 +77,7 @@ impl Refusal {
 impl fmt::Display for Refusal {
     fn fmt(&self, f: &mut fmt::Formatter<'_>) -> fmt::Result {
         match self {
-            Refusal::OutOfRange => f.write_str("A or P out of range"),
+            Refusal::OutOfRange => f.write_str("A, P or the edition out of range"),
             Refusal::NotExact => f.write_str("a lent length is not exact"),
             Refusal::BadSize => f.write_str("size 0 or above 512"),
             Refusal::NoRoom => f.write_str("no room"),
