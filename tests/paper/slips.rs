@@ -1,6 +1,6 @@
 // Small changes to src/paper.rs, one at a time: the slips that 01 names, the other reading of each place that leaves
-// room, the slips of a tired hand, and those of W-206 and W-214. The build makes a program of each, and tests/broken.rs
-// shows that it is found.
+// room, the slips of a tired hand, and those of W-206, W-211 and W-214. The build makes a program of each, and
+// tests/broken.rs shows that it is found.
 
 // the build reads the texts, the tests the rest
 #[allow(dead_code)]
@@ -17,7 +17,7 @@ const fn slip(name: &'static str, case: Option<&'static str>, old: &'static str,
     Slip { name, case, old, new }
 }
 
-pub const ALL: [&[Slip]; 5] = [NAMED, READINGS, TIRED, SPLIT, STAND_IN];
+pub const ALL: [&[Slip]; 8] = [NAMED, READINGS, TIRED, SPLIT, SHAPE, EDITIONS, BY_EIGHT, STAND_IN];
 
 /// The slips that 01 names.
 const NAMED: &[Slip] = &[
@@ -36,7 +36,7 @@ const NAMED: &[Slip] = &[
         "a move is skipped because the class is the same",
         Some("K9"),
         "if n <= s && 4 * n > 3 * s {",
-        "if class_of(n) == block.class || n <= s && 4 * n > 3 * s {",
+        "if self.edition.class_of(n) == block.class || n <= s && 4 * n > 3 * s {",
     ),
     slip(
         "a start counts although its block runs past the pool",
@@ -58,11 +58,11 @@ const READINGS: &[Slip] = &[
     slip(
         "format on books of under two words is 2",
         Some("R1:"),
-        "    fits(&lent, arenas, pools)?;
-    lent.map.fill(0);",
+        "    in_range(arenas, pools)?;
+    Edition::said_by(edition)?;",
         "    if lent.books.len() < 2 { return refuse(2); }
-    fits(&lent, arenas, pools)?;
-    lent.map.fill(0);",
+    in_range(arenas, pools)?;
+    Edition::said_by(edition)?;",
     ),
     slip(
         "leaving a list reads the head",
@@ -111,8 +111,8 @@ const READINGS: &[Slip] = &[
     slip(
         "a give-back tests freeblock's bit",
         Some("R8:"),
-        "old == 0 || block_at(class, old).is_some()",
-        "old == 0 || block_at(class, old).map_or(false, |k| !self.bit(pool, k))",
+        "old == 0 || self.edition.block_at(class, old).is_some()",
+        "old == 0 || self.edition.block_at(class, old).map_or(false, |k| !self.bit(pool, k))",
     ),
     slip(
         "the copied bytes are those before the ask",
@@ -139,7 +139,7 @@ const READINGS: &[Slip] = &[
         "a give-back holds count against the blocks of its class",
         Some("R11:"),
         "count <= 506",
-        "count <= (POOL - HEADER) / block_size(class)",
+        "count <= (POOL - HEADER) / self.edition.block_size(class)",
     ),
     slip(
         "a freed pool must lie in its arena",
@@ -167,14 +167,16 @@ const READINGS: &[Slip] = &[
         Some("R13:"),
         "if had == class {",
         "if had == class {
-             self.rule(self.read(self.pool(pool, MAXNEXTOFFSET)) == POOL - block_size(class), Rule::FrontMaximum)?;",
+             let most = POOL - self.edition.block_size(class);
+             self.rule(self.read(self.pool(pool, MAXNEXTOFFSET)) == most, Rule::FrontMaximum)?;",
     ),
     slip(
         "nextoffset is tested where there is a link as well",
         Some("R14:"),
         "self.walk(Path::FollowLink);",
         "let nextoffset = self.read(self.pool(pool, NEXTOFFSET));
-         self.rule(nextoffset > POOL - size || block_at(class, nextoffset).is_some(), Rule::ReadyNoStart)?;",
+         let ready = self.edition.block_at(class, nextoffset);
+         self.rule(nextoffset > POOL - size || ready.is_some(), Rule::ReadyNoStart)?;",
     ),
     slip(
         "a nextoffset above maxnextoffset must be where blocks end",
@@ -197,9 +199,9 @@ const READINGS: &[Slip] = &[
     slip(
         "a class above 63 is 6",
         Some("R17:"),
-        "if class > 63 {
+        "if class > self.edition.last_class() {
             return refuse(5);",
-        "if class > 63 {
+        "if class > self.edition.last_class() {
             return refuse(6);",
     ),
     slip(
@@ -208,12 +210,7 @@ const READINGS: &[Slip] = &[
         "for k in (0..(POOL - HEADER) / size)",
         "for k in (0..POOL / size)",
     ),
-    slip(
-        "an empty text is 7",
-        Some("R22:"),
-        "text.len() > block.size()",
-        "text.is_empty() || text.len() > block.size()",
-    ),
+    slip("an empty text is 7", Some("R22:"), "text.len() > block.size", "text.is_empty() || text.len() > block.size"),
     slip(
         "an empty roll is 7",
         Some("R22:"),
@@ -236,8 +233,8 @@ const READINGS: &[Slip] = &[
     slip(
         "an offset is cut to 32 bits",
         Some("R23:"),
-        "Ok(heap.live(offset)?.size())",
-        "Ok(heap.live(offset as u32 as usize)?.size())",
+        "Ok(heap.live(offset)?.size)",
+        "Ok(heap.live(offset as u32 as usize)?.size)",
     ),
     slip(
         "a returning pool doesn't test the freed-pool head",
@@ -261,7 +258,14 @@ const TIRED: &[Slip] = &[
         "while let Some(was) = self.notes.pop() {",
         "for was in std::mem::take(self.notes) {",
     ),
-    slip("books of under two words are 1", Some("order"), "return refuse(2);", "return refuse(1);"),
+    slip(
+        "books of under two words are 1",
+        Some("order"),
+        "if lent.books.len() < 2 {
+            return refuse(2);",
+        "if lent.books.len() < 2 {
+            return refuse(1);",
+    ),
     slip("a map that is too long is taken", None, "lent.map.len() == 8 * all", "lent.map.len() >= 8 * all"),
     slip(
         "resize tests its offset before its size",
@@ -278,7 +282,12 @@ const TIRED: &[Slip] = &[
     slip("a link to the last member is 6", None, "link <= most", "link < most"),
     slip("an ask takes a count of 506", None, "count <= 505", "count <= 506"),
     slip("a give-back refuses a count of 506", None, "count <= 506", "count <= 505"),
-    slip("any class will do for the front pool", None, "== class, Rule::FrontClass", "<= 63, Rule::FrontClass"),
+    slip(
+        "any class will do for the front pool",
+        None,
+        "== class, Rule::FrontClass",
+        "<= self.edition.last_class(), Rule::FrontClass",
+    ),
     slip(
         "maxnextoffset may be lower",
         None,
@@ -318,7 +327,7 @@ const TIRED: &[Slip] = &[
         "a resize copies whole blocks",
         None,
         "offset + n.min(s), new",
-        "offset + block_size(class_of(n)).min(s), new",
+        "offset + self.edition.block_size(self.edition.class_of(n)).min(s), new",
     ),
     slip("a half-done resize answers offset 0", Some("R9:"), "value: new as u32", "value: 0"),
     slip(
@@ -331,7 +340,7 @@ const TIRED: &[Slip] = &[
         "write clears the rest of the block",
         Some("write and view"),
         "self.lent.memory[offset..offset + text.len()].copy_from_slice(text);",
-        "self.lent.memory[offset..offset + block.size()].fill(0);
+        "self.lent.memory[offset..offset + block.size].fill(0);
          self.lent.memory[offset..offset + text.len()].copy_from_slice(text);",
     ),
     slip(
@@ -433,13 +442,13 @@ const SPLIT: &[Slip] = &[
         "a dead block must end at nextoffset or below",
         Some("W-206: the in-pool"),
         "start < self.read(self.pool(pool, NEXTOFFSET))",
-        "start + block_size(class) <= self.read(self.pool(pool, NEXTOFFSET))",
+        "start + size <= self.read(self.pool(pool, NEXTOFFSET))",
     ),
     slip(
         "the block that was set ready is not dead",
         Some("W-206: 10 for a block never"),
         "start < self.read(self.pool(pool, NEXTOFFSET))",
-        "start + block_size(class) < self.read(self.pool(pool, NEXTOFFSET))",
+        "start + size < self.read(self.pool(pool, NEXTOFFSET))",
     ),
     slip(
         "maxnextoffset is read for nextoffset",
@@ -450,36 +459,37 @@ const SPLIT: &[Slip] = &[
     slip(
         "class 64 has dead blocks",
         Some("W-206: a class above"),
-        "if class > 63 {
+        "if class > self.edition.last_class() {
             return refuse(5);",
-        "if class == 64 && block_at(class, start).is_some() {
+        "if class == 64 && self.edition.block_at(class, start).is_some() {
             let dead = start < self.read(self.pool(pool, NEXTOFFSET)) && self.carved(pool);
             return refuse(if dead { 10 } else { 5 });
         }
-        if class > 63 {
+        if class > self.edition.last_class() {
             return refuse(5);",
     ),
     slip(
         "a pool of any class has dead blocks",
         Some("W-206: a class above"),
-        "if class > 63 {
+        "if class > self.edition.last_class() {
             return refuse(5);",
-        "if class > 63 {
+        "if class > self.edition.last_class() {
             let dead = start < self.read(self.pool(pool, NEXTOFFSET)) && self.carved(pool);
-            return refuse(if dead && block_at(63, start).is_some() { 10 } else { 5 });",
+            let last = self.edition.last_class();
+            return refuse(if dead && self.edition.block_at(last, start).is_some() { 10 } else { 5 });",
     ),
     slip("every place below nextoffset is dead", Some("W-206: where no block"), "Some(_) if start <", "_ if start <"),
     slip(
         "every place that a small block could start at is dead",
         Some("W-206: where no block"),
         "Some(_) if start <",
-        "_ if block_at(0, start).is_some() && start <",
+        "_ if self.edition.block_at(0, start).is_some() && start <",
     ),
     slip(
         "a dead block may run past its pool",
         Some("W-206: where no block"),
         "Some(_) if start <",
-        "_ if start >= HEADER && (start - HEADER) % block_size(class) == 0 && start <",
+        "_ if start >= HEADER && (start - HEADER) % size == 0 && start <",
     ),
     slip(
         "an offset past memory is 10",
@@ -537,8 +547,8 @@ const SPLIT: &[Slip] = &[
     slip(
         "view's companion doesn't take the split",
         Some("W-206: in each"),
-        "Ok(heap.live(offset)?.size())",
-        "Ok(heap.live(offset).or_else(|_| refuse(5))?.size())",
+        "Ok(heap.live(offset)?.size)",
+        "Ok(heap.live(offset).or_else(|_| refuse(5))?.size)",
     ),
     slip(
         "write doesn't take the split",
@@ -580,7 +590,7 @@ const SPLIT: &[Slip] = &[
             heap.resize(",
         "let block = match heap.live(offset) {
                 Err(Answer { number: 10, .. }) if heap.read(USABLE) == 0 && heap.read(UNUSED) == 0
-                    && heap.read(CLASSES + class_of(size)) == 0 => return refuse(4),
+                    && heap.read(CLASSES + heap.edition.class_of(size)) == 0 => return refuse(4),
                 found => found?,
             };
             heap.resize(",
@@ -620,6 +630,537 @@ const SPLIT: &[Slip] = &[
     ),
 ];
 
+/// The slips of W-211: first those of the shape's tests and of format.
+const SHAPE: &[Slip] = &[
+    slip(
+        "books that end before word 68 are 2 before A and P are tested",
+        Some("W-211: the order"),
+        "in_range(arenas, pools)?;
+        if lent.books.len() <= EDITION {
+            return refuse(2);
+        }",
+        "if lent.books.len() <= EDITION {
+            return refuse(2);
+        }
+        in_range(arenas, pools)?;",
+    ),
+    slip(
+        "books that end before word 68 are 1",
+        Some("W-211: the order"),
+        "if lent.books.len() <= EDITION {
+            return refuse(2);",
+        "if lent.books.len() <= EDITION {
+            return refuse(1);",
+    ),
+    slip(
+        "books that end at word 68 don't reach it",
+        Some("W-211: the order"),
+        "lent.books.len() <= EDITION",
+        "lent.books.len() <= EDITION + 1",
+    ),
+    slip(
+        "word 68 is tested after the lengths",
+        Some("W-211: the order"),
+        "let edition = Edition::said_by(lent.books[EDITION] as usize)?;
+        exact(&lent, arenas, pools)?;",
+        "exact(&lent, arenas, pools)?;
+        let edition = Edition::said_by(lent.books[EDITION] as usize)?;",
+    ),
+    slip(
+        "word 68 above 1 is 1 only over exact books",
+        Some("W-211: the order"),
+        "let edition = Edition::said_by(lent.books[EDITION] as usize)?;",
+        "if lent.books.len() != ARENAS + RECORD * (arenas + arenas * pools) {
+            return refuse(2);
+        }
+        let edition = Edition::said_by(lent.books[EDITION] as usize)?;",
+    ),
+    slip(
+        "word 68 above 1 is 2",
+        Some("W-211: any word"),
+        "Edition::said_by(lent.books[EDITION] as usize)?",
+        "Edition::said_by(lent.books[EDITION] as usize).or_else(|_| refuse(2))?",
+    ),
+    slip(
+        "word 68 above 1 is 6",
+        Some("W-211: any word"),
+        "Edition::said_by(lent.books[EDITION] as usize)?",
+        "Edition::said_by(lent.books[EDITION] as usize).or_else(|_| refuse(6))?",
+    ),
+    slip(
+        "any word 68 but 0 says sixteen",
+        Some("W-211: any word"),
+        "Edition::said_by(lent.books[EDITION] as usize)?",
+        "Edition::said_by(usize::from(lent.books[EDITION] != 0))?",
+    ),
+    slip(
+        "any word 68 but 1 says eight",
+        Some("W-211: any word"),
+        "Edition::said_by(lent.books[EDITION] as usize)?",
+        "Edition::said_by(usize::from(lent.books[EDITION] == 1))?",
+    ),
+    slip(
+        "a word 68 of 2 says sixteen",
+        Some("W-211: any word"),
+        "Edition::said_by(lent.books[EDITION] as usize)?",
+        "Edition::said_by(if lent.books[EDITION] == 2 { 1 } else { lent.books[EDITION] as usize })?",
+    ),
+    slip(
+        "word 68 is read by its low bit",
+        Some("W-211: any word"),
+        "Edition::said_by(lent.books[EDITION] as usize)?",
+        "Edition::said_by(lent.books[EDITION] as usize % 2)?",
+    ),
+    slip(
+        "word 68 is read by its low byte",
+        Some("W-211: any word"),
+        "Edition::said_by(lent.books[EDITION] as usize)?",
+        "Edition::said_by(lent.books[EDITION] as u8 as usize)?",
+    ),
+    slip(
+        "word 68 is read by its low half",
+        Some("W-211: any word"),
+        "Edition::said_by(lent.books[EDITION] as usize)?",
+        "Edition::said_by(lent.books[EDITION] as u16 as usize)?",
+    ),
+    slip(
+        "word 69 says the edition",
+        Some("W-211: K1 in"),
+        "Edition::said_by(lent.books[EDITION] as usize)?",
+        "Edition::said_by(lent.books.get(EDITION + 1).map_or(0, |word| *word as usize))?",
+    ),
+    slip(
+        "every heap is of edition eight",
+        Some("W-211: K1 in"),
+        "Edition::said_by(lent.books[EDITION] as usize)?;",
+        "Edition::said_by(lent.books[EDITION] as usize).map(|_| Edition::Eight)?;",
+    ),
+    slip(
+        "0 says sixteen and 1 eight",
+        Some("W-211: word 68 says"),
+        "0 => Ok(Edition::Eight),
+            1 => Ok(Edition::Sixteen),",
+        "1 => Ok(Edition::Eight),
+            0 => Ok(Edition::Sixteen),",
+    ),
+    slip(
+        "an ask tests its size before word 68",
+        Some("W-211: any word"),
+        "fn ask(&mut self, lent: Lent, size: usize) -> Answer {",
+        "fn ask(&mut self, lent: Lent, size: usize) -> Answer {
+        if let [arenas, pools, .., word] = lent.books[..lent.books.len().min(EDITION + 1)] {
+            let wrong = in_range(arenas as usize, pools as usize).is_ok() && lent.books.len() > EDITION && word > 1;
+            if wrong && asked(size).is_err() {
+                return answer(refuse(3));
+            }
+        }",
+    ),
+    slip(
+        "opening an arena writes word 68",
+        Some("W-211: K1 in"),
+        "self.put(self.arena(arena, OPEN), 1);",
+        "self.put(self.arena(arena, OPEN), 1);
+         self.put(EDITION, 0);",
+    ),
+    slip(
+        "format tests its edition after the lengths",
+        Some("W-211: format tests"),
+        "Edition::said_by(edition)?;
+    exact(&lent, arenas, pools)?;",
+        "exact(&lent, arenas, pools)?;
+    Edition::said_by(edition)?;",
+    ),
+    slip(
+        "format over books that end before the records is 2 before A and P are tested",
+        Some("R1:"),
+        "    in_range(arenas, pools)?;
+    Edition::said_by(edition)?;",
+        "    if in_range(arenas, pools).is_err() && lent.books.len() < ARENAS { return refuse(2); }
+    in_range(arenas, pools)?;
+    Edition::said_by(edition)?;",
+    ),
+    slip("format takes any edition", Some("W-211: format tests"), "    Edition::said_by(edition)?;\n", ""),
+    slip(
+        "format takes any edition but 0 for sixteen",
+        Some("W-211: format tests"),
+        "    Edition::said_by(edition)?;\n",
+        "    let edition = usize::from(edition != 0);\n",
+    ),
+    slip(
+        "format takes any edition but 1 for eight",
+        Some("W-211: format tests"),
+        "    Edition::said_by(edition)?;\n",
+        "    let edition = usize::from(edition == 1);\n",
+    ),
+    slip(
+        "format takes an edition of 2",
+        Some("W-211: format tests"),
+        "    Edition::said_by(edition)?;\n",
+        "    if edition != 2 { Edition::said_by(edition)?; }\n",
+    ),
+    slip(
+        "format's edition is told by the alignment",
+        Some("W-211: format tests"),
+        "    Edition::said_by(edition)?;\n",
+        "    let edition = match edition { 8 => 0, 16 => 1, other => other };
+    Edition::said_by(edition)?;\n",
+    ),
+    slip(
+        "a wrong edition is 2 in format",
+        Some("W-211: format tests"),
+        "    Edition::said_by(edition)?;\n",
+        "    Edition::said_by(edition).or_else(|_| refuse(2))?;\n",
+    ),
+    slip(
+        "format cuts its edition to 32 bits",
+        Some("W-211: no edition"),
+        "    Edition::said_by(edition)?;\n",
+        "    Edition::said_by(edition as u32 as usize)?;\n",
+    ),
+    slip(
+        "format cuts its edition to 8 bits",
+        Some("W-211: no edition"),
+        "    Edition::said_by(edition)?;\n",
+        "    Edition::said_by(edition as u8 as usize)?;\n",
+    ),
+    slip("format always makes a heap of eight", Some("W-211: format in"), "lent.books[EDITION] = edition as u32;", ""),
+    slip(
+        "format always makes a heap of sixteen",
+        Some("format"),
+        "lent.books[EDITION] = edition as u32;",
+        "lent.books[EDITION] = 1;",
+    ),
+    slip(
+        "format writes the alignment",
+        Some("format"),
+        "lent.books[EDITION] = edition as u32;",
+        "lent.books[EDITION] = 8 + 8 * edition as u32;",
+    ),
+    slip(
+        "format writes its edition to word 69",
+        Some("W-211: format in"),
+        "lent.books[EDITION] = edition as u32;",
+        "lent.books[EDITION + 1] = edition as u32;",
+    ),
+    slip(
+        "format leaves word 68",
+        Some("W-211: format reads"),
+        "lent.books.fill(0);
+    lent.books[0] = arenas as u32;
+    lent.books[1] = pools as u32;
+    lent.books[UNUSED] = 1;
+    lent.books[EDITION] = edition as u32;",
+        "lent.books[..EDITION].fill(0);
+    lent.books[EDITION + 1..].fill(0);
+    lent.books[0] = arenas as u32;
+    lent.books[1] = pools as u32;
+    lent.books[UNUSED] = 1;",
+    ),
+    slip(
+        "format over books of no edition is 1",
+        Some("W-211: format reads"),
+        "    Edition::said_by(edition)?;\n",
+        "    Edition::said_by(edition)?;
+    if let Some(word) = lent.books.get(EDITION) { Edition::said_by(*word as usize)?; }\n",
+    ),
+    slip(
+        "format to sixteen leaves heads 36 to 67",
+        Some("W-211: format in"),
+        "lent.books.fill(0);",
+        "lent.books[..36].fill(0);
+    if edition == 0 { lent.books[36..68].fill(0); }
+    lent.books[68..].fill(0);",
+    ),
+];
+
+/// Those of classes, blocks and counts.
+const EDITIONS: &[Slip] = &[
+    slip("class by 8 in sixteen", Some("W-211: K4 in"), "(size - 1) / self.alignment()", "(size - 1) / 8"),
+    slip("class by 16 in eight", Some("K4"), "(size - 1) / self.alignment()", "(size - 1) / 16"),
+    slip(
+        "class n div 16 in sixteen",
+        Some("W-211: K2 in"),
+        "(size - 1) / self.alignment()",
+        "(size - usize::from(self == Edition::Eight)) / self.alignment()",
+    ),
+    slip("block size by 8 in sixteen", Some("W-211: K1 in"), "self.alignment() * (class + 1)", "8 * (class + 1)"),
+    slip(
+        "block size 16 x class",
+        Some("W-211: every size"),
+        "self.alignment() * (class + 1)",
+        "self.alignment() * if self == Edition::Eight { class + 1 } else { class.max(1) }",
+    ),
+    slip(
+        "the last class is 63 in sixteen",
+        Some("W-211: a class above"),
+        "Edition::Sixteen => 31,",
+        "Edition::Sixteen => 63,",
+    ),
+    slip(
+        "the last class is 32 in sixteen",
+        Some("W-211: a class above"),
+        "Edition::Sixteen => 31,",
+        "Edition::Sixteen => 32,",
+    ),
+    slip(
+        "the last class is 30 in sixteen",
+        Some("W-211: a class above"),
+        "Edition::Sixteen => 31,",
+        "Edition::Sixteen => 30,",
+    ),
+    slip(
+        "the last class is 31 in eight",
+        Some("W-211: a class above"),
+        "Edition::Eight => 63,",
+        "Edition::Eight => 31,",
+    ),
+    slip(
+        "sizes up to 1,024 in sixteen",
+        Some("W-211: K7 in"),
+        "asked(size)?;
+            heap.step(",
+        "if size == 0 || size > 1024 || heap.edition == Edition::Eight {
+                asked(size)?;
+            }
+            heap.step(",
+    ),
+    slip(
+        "an ask in sixteen holds count against 252",
+        Some("W-211: 505"),
+        "count <= 505",
+        "count <= if self.edition == Edition::Eight { 505 } else { 252 }",
+    ),
+    slip(
+        "a give-back in sixteen holds count against 253",
+        Some("W-211: 505"),
+        "count <= 506",
+        "count <= if self.edition == Edition::Eight { 506 } else { 253 }",
+    ),
+    slip(
+        "an ask in sixteen takes a count of 506",
+        Some("W-211: 505"),
+        "count <= 505",
+        "count <= if self.edition == Edition::Eight { 505 } else { 506 }",
+    ),
+    slip(
+        "heads of sixteen stand two words apart",
+        Some("W-211: fill with 512"),
+        "head: CLASSES + class,",
+        "head: CLASSES + class * self.edition.alignment() / 8,",
+    ),
+    slip(
+        "the heads of sixteen are the last 32",
+        Some("W-211: K2 in"),
+        "head: CLASSES + class,",
+        "head: CLASSES + class + if self.edition == Edition::Eight { 0 } else { 32 },",
+    ),
+    slip(
+        "in sixteen a head from 36 to 67 that is not 0 is 6",
+        Some("W-211: heads"),
+        "let class = self.edition.class_of(size);",
+        "let class = self.edition.class_of(size);
+         if self.edition == Edition::Sixteen {
+             self.rule(self.lent.books[36..68].iter().all(|head| *head == 0), Rule::FrontHead)?;
+         }",
+    ),
+    slip(
+        "an ask in sixteen clears heads 36 to 67",
+        Some("W-211: heads"),
+        "let class = self.edition.class_of(size);",
+        "let class = self.edition.class_of(size);
+         if self.edition == Edition::Sixteen {
+             (36..68).for_each(|head| self.put(head, 0));
+         }",
+    ),
+    slip(
+        "links have eight bytes in sixteen",
+        Some("W-211: a link"),
+        "(link as u32).to_le_bytes().into_iter().enumerate()",
+        "(link as u64).to_le_bytes().into_iter().take(self.edition.alignment() / 2).enumerate()",
+    ),
+    slip(
+        "a map of sixteen has four words for a pool",
+        Some("W-211: the lengths"),
+        "exact(&lent, arenas, pools)?;
+        Ok(Heap",
+        "exact(&lent, arenas, pools)?;
+        if edition == Edition::Sixteen && lent.map.len() != 4 * arenas * pools {
+            return refuse(2);
+        }
+        Ok(Heap",
+    ),
+    slip(
+        "an ask in sixteen counts its bit by 32 blocks a word",
+        Some("W-211: fill with 16"),
+        "self.put_bit(pool, (start - HEADER) / self.edition.block_size(class), true);",
+        "let k = (start - HEADER) / self.edition.block_size(class);
+        self.put_bit(pool, if self.edition == Edition::Eight { k } else { k / 32 * 64 + k % 32 }, true);",
+    ),
+    slip(
+        "a pool of 16-byte blocks holds 252",
+        Some("W-211: fill with 16"),
+        "nextoffset <= self.read(self.pool(pool, MAXNEXTOFFSET))",
+        "nextoffset + usize::from(self.edition == Edition::Sixteen) <= self.read(self.pool(pool, MAXNEXTOFFSET))",
+    ),
+];
+
+/// Those of a place that still goes by eight.
+const BY_EIGHT: &[Slip] = &[
+    slip(
+        "a live block has eight's size",
+        Some("W-211: write, view"),
+        "let size = self.edition.block_size(class);
+        match",
+        "let size = 8 * (class + 1);
+        match",
+    ),
+    slip(
+        "view's companion gives eight's size",
+        Some("W-211: write, view"),
+        "Ok(heap.live(offset)?.size)",
+        "Ok(8 * (heap.live(offset)?.class + 1))",
+    ),
+    slip(
+        "view hands back eight's block",
+        Some("W-211: write, view"),
+        "Ok(block) => (offset, block.size),",
+        "Ok(block) => (offset, 8 * (block.class + 1)),",
+    ),
+    slip(
+        "stand-in hands back eight's block",
+        Some("W-211: a stand-in"),
+        "Ok(block) => Place::Memory(offset, block.size),",
+        "Ok(block) => Place::Memory(offset, 8 * (block.class + 1)),",
+    ),
+    slip(
+        "write holds its text against eight's block",
+        Some("W-211: write, view"),
+        "text.len() > block.size",
+        "text.len() > 8 * (block.class + 1)",
+    ),
+    slip("resize goes by eight's block", Some("W-211: K8 in"), "let s = block.size;", "let s = 8 * (block.class + 1);"),
+    slip(
+        "resize keeps by eight's block",
+        Some("W-211: K9 in"),
+        "if n <= s && 4 * n > 3 * s {",
+        "if n <= 8 * (block.class + 1) && 4 * n > 24 * (block.class + 1) {",
+    ),
+    slip(
+        "resize copies no more than eight's block",
+        Some("W-211: resize of 112"),
+        "offset + n.min(s), new",
+        "offset + n.min(8 * (block.class + 1)), new",
+    ),
+    slip(
+        "roll call looks for eight's blocks",
+        Some("W-211: write, view"),
+        "let size = self.edition.block_size(class);
+            for k",
+        "let size = 8 * (class + 1);
+            for k",
+    ),
+    slip(
+        "roll call writes eight's sizes",
+        Some("W-211: write, view"),
+        "block.size as u32;",
+        "8 * (block.class as u32 + 1);",
+    ),
+    slip(
+        "roll call takes classes up to 63",
+        Some("W-211: a class above"),
+        "if class > self.edition.last_class() {
+                continue;",
+        "if class > 63 {
+                continue;",
+    ),
+    slip(
+        "the live test takes classes up to 63",
+        Some("W-211: a class above"),
+        "if class > self.edition.last_class() {
+            return refuse(5);",
+        "if class > 63 {
+            return refuse(5);",
+    ),
+    slip(
+        "an ask sets eight's bit",
+        Some("W-211: K2 in"),
+        "(start - HEADER) / self.edition.block_size(class), true",
+        "(start - HEADER) / (8 * (class + 1)), true",
+    ),
+    slip(
+        "a pool set to a class has eight's maxnextoffset",
+        Some("W-211: K1 in"),
+        "self.put(self.pool(pool, MAXNEXTOFFSET), POOL - size);",
+        "self.put(self.pool(pool, MAXNEXTOFFSET), POOL - 8 * (class + 1));",
+    ),
+    slip(
+        "a pool set to a class has eight's nextoffset",
+        Some("W-211: K1 in"),
+        "HEADER + 2 * size",
+        "HEADER + 16 * (class + 1)",
+    ),
+    slip(
+        "a pool set to a class has eight's second block",
+        Some("W-211: K1 in"),
+        "self.put(self.pool(pool, FREEBLOCK), HEADER + size);",
+        "self.put(self.pool(pool, FREEBLOCK), HEADER + 8 * (class + 1));",
+    ),
+    slip(
+        "the second block's link is written at eight's",
+        Some("W-211: a link"),
+        "self.write_link(pool, HEADER + size, 0);",
+        "self.write_link(pool, HEADER + 8 * (class + 1), 0);",
+    ),
+    slip(
+        "nextoffset rises by eight's size",
+        Some("W-211: K2 in"),
+        "nextoffset + size);",
+        "nextoffset + 8 * (class + 1));",
+    ),
+    slip(
+        "an ask holds maxnextoffset against eight's",
+        Some("W-211: K2 in"),
+        "== POOL - size, Rule::FrontMaximum",
+        "== POOL - 8 * (class + 1), Rule::FrontMaximum",
+    ),
+    slip(
+        "eight's starts are starts",
+        Some("W-211: K10 in"),
+        "let size = self.block_size(class);
+        let k",
+        "let size = 8 * (class + 1);
+        let k",
+    ),
+    slip(
+        "a start may be at 4,096 less eight's size",
+        Some("W-211: where eight's"),
+        "start <= POOL - size",
+        "start <= POOL - 8 * (class + 1)",
+    ),
+    slip(
+        "an ask takes eight's starts",
+        Some("W-211: where eight's"),
+        "match self.edition.block_at(class, start) {
+            Some(k) => self.rule",
+        "match Edition::Eight.block_at(class, start) {
+            Some(k) => self.rule",
+    ),
+    slip(
+        "a give-back takes eight's starts for freeblock",
+        Some("W-211: where eight's"),
+        "old == 0 || self.edition.block_at(class, old).is_some()",
+        "old == 0 || Edition::Eight.block_at(class, old).is_some()",
+    ),
+    slip(
+        "the live test takes eight's starts",
+        Some("W-211: where eight's"),
+        "match self.edition.block_at(class, start) {
+            Some(k) if",
+        "match Edition::Eight.block_at(class, start) {
+            Some(k) if",
+    ),
+];
+
 /// The slips of W-214.
 const STAND_IN: &[Slip] = &[
     slip(
@@ -651,22 +1192,23 @@ const STAND_IN: &[Slip] = &[
         match self.heap(lent).and_then(|heap| {
             let pool = offset / POOL;
             let class = heap.lent.books.get(heap.pool(pool, CLASS)).map_or(64, |class| *class as usize);
-            let k = if class > 63 { None } else { block_at(class, offset % POOL) };
-            k.map_or(refuse(5), |k| Ok(Block { pool, class, k }))
+            let none = class > heap.edition.last_class();
+            let k = if none { None } else { heap.edition.block_at(class, offset % POOL) };
+            k.map_or(refuse(5), |k| Ok(Block { pool, class, k, size: heap.edition.block_size(class) }))
         }) {",
     ),
     slip(
         "the phrase stands in for a live block",
         Some("W-214: a live"),
-        "Ok(block) => Place::Memory(offset, block.size()),",
+        "Ok(block) => Place::Memory(offset, block.size),",
         "Ok(_) => phrase.itself(),",
     ),
     slip(
         "a live block is cut to the phrase's length",
         Some("W-214: a live"),
-        "Ok(block) => Place::Memory(offset, block.size()),",
+        "Ok(block) => Place::Memory(offset, block.size),",
         "Ok(block) => match phrase.itself() {
-             Place::Memory(_, length) | Place::Phrase(_, length) => Place::Memory(offset, block.size().min(length)),
+             Place::Memory(_, length) | Place::Phrase(_, length) => Place::Memory(offset, block.size.min(length)),
              Place::Elsewhere => Place::Elsewhere,
          },",
     ),
@@ -682,9 +1224,9 @@ const STAND_IN: &[Slip] = &[
     slip(
         "an empty phrase is a refusal of its own",
         Some("W-214: an empty"),
-        "Ok(block) => Place::Memory(offset, block.size()),",
+        "Ok(block) => Place::Memory(offset, block.size),",
         "Ok(_) if matches!(phrase, LentPhrase::Text([])) => phrase.itself(),
-         Ok(block) => Place::Memory(offset, block.size()),",
+         Ok(block) => Place::Memory(offset, block.size),",
     ),
     slip(
         "an empty phrase is handed back as the empty part",
@@ -708,19 +1250,19 @@ const STAND_IN: &[Slip] = &[
         "-> Place {
         let there = lent.memory.get(offset..).unwrap_or(&[]).to_vec();
         match self.heap(lent).and_then(|heap| heap.live(offset)) {
-            Ok(block) if matches!(&phrase, LentPhrase::Text(text) if **text == there[..block.size()]) => {
+            Ok(block) if matches!(&phrase, LentPhrase::Text(text) if **text == there[..block.size]) => {
                 phrase.itself()
             }",
     ),
     slip(
         "a phrase over a live block stands in for it",
         Some("W-214: a phrase in"),
-        "Ok(block) => Place::Memory(offset, block.size()),",
+        "Ok(block) => Place::Memory(offset, block.size),",
         "Ok(block) => match phrase {
-             LentPhrase::Part(start, length) if start < offset + block.size() && offset < start + length => {
+             LentPhrase::Part(start, length) if start < offset + block.size && offset < start + length => {
                  phrase.itself()
              }
-             _ => Place::Memory(offset, block.size()),
+             _ => Place::Memory(offset, block.size),
          },",
     ),
     slip(
@@ -733,7 +1275,7 @@ const STAND_IN: &[Slip] = &[
     slip(
         "the block's bytes are copied",
         Some("W-214: a live"),
-        "Ok(block) => Place::Memory(offset, block.size()),",
+        "Ok(block) => Place::Memory(offset, block.size),",
         "Ok(_) => Place::Elsewhere,",
     ),
     slip("the phrase is copied", Some("W-214: a dead"), "Err(_) => phrase.itself(),", "Err(_) => Place::Elsewhere,"),

@@ -1,8 +1,9 @@
-//! 01's cases, W-206's and W-214's, for any program behind the calls. Each number is 01's, or follows from the sentence
-//! that its case names.
+//! 01's cases, W-206's, W-211's and W-214's, for any program behind the calls. Each number is 01's, or follows from the
+//! sentence that its case names.
 
 use crate::desk::*;
 use crate::readings;
+use crate::sixteen;
 use crate::steps::Call::*;
 use crate::steps::Phrase::*;
 use crate::{Answer, Calls, Place};
@@ -10,9 +11,9 @@ use crate::{Answer, Calls, Place};
 /// A case by its name. It panics where the program answers otherwise.
 pub type Case = (&'static str, fn(&mut dyn Calls));
 
-/// Every case: 01's own, W-206's, W-214's and those of the readings.
+/// Every case: 01's own, W-206's, W-214's, W-211's and those of the readings.
 pub fn all() -> Vec<Case> {
-    [PAPER, SPLIT, STAND_IN, readings::CASES].concat()
+    [PAPER, SPLIT, STAND_IN, sixteen::CASES, readings::CASES].concat()
 }
 
 const PAPER: &[Case] = &[
@@ -217,9 +218,9 @@ fn format(calls: &mut dyn Calls) {
     desk.heap.memory.fill(7);
     desk.heap.books.fill(7);
     desk.heap.map.fill(7);
-    desk.refused(Format { arenas: 3, pools: 3 }, 2);
-    desk.refused(Format { arenas: 17, pools: 3 }, 1);
-    desk.done(Format { arenas: 3, pools: 2 }, 0);
+    desk.refused(Format { arenas: 3, pools: 3, edition: 0 }, 2);
+    desk.refused(Format { arenas: 17, pools: 3, edition: 0 }, 1);
+    desk.done(Format { arenas: 3, pools: 2, edition: 0 }, 0);
     let mut books = [0; 144];
     books[..4].copy_from_slice(&[3, 2, 0, 1]);
     (books[76], books[84], books[85], books[93]) = (2, 3, 1, 2);

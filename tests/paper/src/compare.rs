@@ -5,6 +5,7 @@ use std::fmt;
 use std::time::{Duration, Instant};
 
 use crate::damage::Source;
+use crate::editions::{self, edition_met, Met};
 use crate::sides::{Seen, SIDES};
 use crate::steps::{in_words, word_name, Buffers, Call, Outcome, Step};
 use crate::{Calls, Path, Rule, Trail};
@@ -12,27 +13,24 @@ use crate::{Calls, Path, Rule, Trail};
 /// The numbers that a call can give; 8 and 9 are the replay's.
 const NUMBERS: [usize; 9] = [0, 1, 2, 3, 4, 5, 6, 7, 10];
 
-/// How often each call gave each number, and each path, rule and side of the split was met.
-pub struct Tally {
-    pub calls: u64,
-    pub heaps: u64,
+/// The editions by what word 68 says.
+const EDITIONS: [&str; 2] = ["eight", "sixteen"];
+
+/// In one edition: how often each call gave each number, and each path, rule and side of the split was met.
+struct Counts {
     numbers: [[u64; 11]; Call::KINDS.len()],
     paths: Vec<u64>,
     rules: Vec<u64>,
     sides: Vec<u64>,
 }
 
-impl Tally {
-    pub fn new() -> Tally {
+impl Counts {
+    fn new() -> Counts {
         let (paths, rules) = (vec![0; Path::ALL.len()], vec![0; Rule::ALL.len()]);
-        let (numbers, sides) = (Default::default(), vec![0; SIDES.len()]);
-        Tally { calls: 0, heaps: 0, numbers, paths, rules, sides }
+        Counts { numbers: Default::default(), paths, rules, sides: vec![0; SIDES.len()] }
     }
 
-    /// A call's outcome, and the heap that it left.
-    fn note(&mut self, call: &Call, outcome: &Outcome, heap: &Buffers, trail: Option<&Trail>) {
-        self.calls += 1;
-        let number = outcome.answer.number;
+    fn note(&mut self, call: &Call, number: u32, heap: &Buffers, trail: Option<&Trail>) {
         if let Some(count) = self.numbers[call.kind()].get_mut(number as usize) {
             *count += 1;
         }
@@ -54,28 +52,20 @@ impl Tally {
         }
     }
 
-    /// The numbers that a call can give, and the paths, rules and sides, that were met fewer times than this, in words.
-    pub fn rarer_than(&self, least: u64) -> Vec<String> {
+    /// All that is counted, in words, each with how often it was met.
+    fn all(&self) -> Vec<(String, u64)> {
         let numbers = Call::KINDS.iter().zip(&self.numbers).flat_map(|((name, can), met)| {
             can.iter().map(move |number| (format!("{name}: number {number}"), met[*number]))
         });
         let paths = Path::ALL.iter().zip(&self.paths).map(|(path, n)| (path.words().to_string(), *n));
         let rules = Rule::ALL.iter().zip(&self.rules).map(|(rule, n)| (rule.words().to_string(), *n));
         let sides = SIDES.iter().zip(&self.sides).map(|((words, ..), n)| (words.to_string(), *n));
-        let rare = numbers.chain(paths).chain(rules).chain(sides).filter(|(_, n)| *n < least);
-        rare.map(|(words, n)| format!("{words}: {n} times")).collect()
+        numbers.chain(paths).chain(rules).chain(sides).collect()
     }
 }
 
-impl Default for Tally {
-    fn default() -> Tally {
-        Tally::new()
-    }
-}
-
-impl fmt::Display for Tally {
+impl fmt::Display for Counts {
     fn fmt(&self, f: &mut fmt::Formatter) -> fmt::Result {
-        writeln!(f, "calls by number, over {} heaps:", self.heaps)?;
         writeln!(f, "{:34}{}", "", NUMBERS.map(|number| format!("{number:>9}")).concat())?;
         for ((name, can), met) in Call::KINDS.iter().zip(&self.numbers) {
             if !can.is_empty() {
@@ -92,6 +82,67 @@ impl fmt::Display for Tally {
         }
         writeln!(f, "sides of the split of 5:")?;
         for ((words, ..), n) in SIDES.iter().zip(&self.sides) {
+            writeln!(f, "{n:>10}  {words}")?;
+        }
+        Ok(())
+    }
+}
+
+/// What a run met: in each edition, and of the sides of W-211's clauses.
+pub struct Tally {
+    pub calls: u64,
+    /// The heaps that were made in each edition.
+    pub heaps: [u64; 2],
+    /// By whether word 68, or the edition given to a format, is 1: a value above 1 is counted with eight.
+    met: [Counts; 2],
+    editions: Vec<u64>,
+}
+
+impl Tally {
+    pub fn new() -> Tally {
+        let met = [Counts::new(), Counts::new()];
+        Tally { calls: 0, heaps: [0, 0], met, editions: vec![0; editions::SIDES.len()] }
+    }
+
+    /// A call's outcome, and the heap that it left.
+    fn note(&mut self, call: &Call, outcome: &Outcome, heap: &Buffers, trail: Option<&Trail>) {
+        self.calls += 1;
+        let sixteen = edition_met(call, heap) == 1;
+        self.met[usize::from(sixteen)].note(call, outcome.answer.number, heap, trail);
+        // view has no number
+        if !matches!(call, Call::View { .. }) {
+            let seen = Met::new(*call, outcome.answer, heap);
+            for (count, (_, met)) in self.editions.iter_mut().zip(editions::SIDES) {
+                *count += u64::from(met(&seen));
+            }
+        }
+    }
+
+    /// What was met fewer times than this, in words: in either edition the numbers that a call can give, the paths,
+    /// rules and sides; and W-211's sides.
+    pub fn rarer_than(&self, least: u64) -> Vec<String> {
+        let met = EDITIONS.iter().zip(&self.met).flat_map(|(edition, counts)| {
+            counts.all().into_iter().map(move |(words, n)| (format!("in {edition}, {words}"), n))
+        });
+        let sides = editions::SIDES.iter().zip(&self.editions).map(|((words, _), n)| (words.to_string(), *n));
+        met.chain(sides).filter(|(_, n)| *n < least).map(|(words, n)| format!("{words}: {n} times")).collect()
+    }
+}
+
+impl Default for Tally {
+    fn default() -> Tally {
+        Tally::new()
+    }
+}
+
+impl fmt::Display for Tally {
+    fn fmt(&self, f: &mut fmt::Formatter) -> fmt::Result {
+        for ((edition, heaps), counts) in EDITIONS.iter().zip(self.heaps).zip(&self.met) {
+            writeln!(f, "edition {edition}, {heaps} heaps made in it, calls by number:")?;
+            write!(f, "{counts}")?;
+        }
+        writeln!(f, "sides of W-211:")?;
+        for ((words, _), n) in editions::SIDES.iter().zip(&self.editions) {
             writeln!(f, "{n:>10}  {words}")?;
         }
         Ok(())
@@ -149,7 +200,7 @@ pub fn compare(
     let mut steps = Vec::new();
     while tally.calls < end {
         let mut source = Source::new(seed);
-        let (arenas, pools) = (source.arenas, source.pools);
+        let (arenas, pools, edition) = (source.arenas, source.pools, source.edition);
         let mut pair = Pair::new(left, right, arenas, pools);
         steps.clear();
         while let Some(step) = source.next(&pair.left.buffers) {
@@ -163,7 +214,7 @@ pub fn compare(
                 return Err(Difference { seed, call: tally.calls, arenas, pools, steps });
             }
         }
-        tally.heaps += 1;
+        tally.heaps[edition] += 1;
         seed = seed.wrapping_add(1);
     }
     Ok(())

@@ -1,4 +1,5 @@
-//! Seeded sequences of steps: heaps reached by calls, heaps that are spoilt on the way, and heaps made up at random.
+//! Seeded sequences of steps: heaps reached by calls, heaps that are spoilt on the way, and heaps made up at random, of
+//! one edition or the other.
 
 use std::collections::VecDeque;
 
@@ -38,7 +39,7 @@ impl Rng {
 
     /// A link that a freed block could hold: often 0, or a block start of one of a few sizes.
     pub fn link(&mut self) -> u32 {
-        let size = self.pick(&[8, 8, 16, 24, 256, 512]);
+        let size = self.pick(&[8, 8, 16, 16, 24, 32, 256, 512]);
         if self.one_in(3) {
             0
         } else {
@@ -49,6 +50,18 @@ impl Rng {
 
 fn block_start(size: usize, k: usize) -> usize {
     48 + k * size
+}
+
+/// The word of the books that says the edition.
+const EDITION: usize = 68;
+
+/// What the books align to, as far as they tell.
+fn alignment(heap: &Buffers) -> usize {
+    if heap.books[EDITION] == 1 {
+        16
+    } else {
+        8
+    }
 }
 
 /// How a heap comes to be.
@@ -68,6 +81,8 @@ pub struct Source {
     kind: Kind,
     pub arenas: usize,
     pub pools: usize,
+    /// The edition that format was last told, or that the heap was made up in.
+    pub edition: usize,
     /// The block sizes that are asked for; few of them, so that pools fill and empty.
     sizes: Vec<usize>,
     /// The offsets that were handed out and not given back, as far as the answers tell.
@@ -104,11 +119,12 @@ impl Source {
             Kind::Spoilt => rng.between(40, 400),
             Kind::MadeUp => rng.between(8, 64),
         };
-        let sizes = sizes(&mut rng, kind);
+        let edition = rng.below(2);
+        let sizes = sizes(&mut rng, kind, 8 + 8 * edition);
         let (held, gone, waiting, mends) = (Vec::new(), VecDeque::new(), VecDeque::new(), Vec::new());
         let (rise, stuck) = (80, 0);
         let mut source =
-            Source { rng, kind, arenas, pools, sizes, held, gone, rise, calls_left, stuck, waiting, mends };
+            Source { rng, kind, arenas, pools, edition, sizes, held, gone, rise, calls_left, stuck, waiting, mends };
         source.begin();
         source
     }
@@ -141,7 +157,10 @@ impl Source {
                 self.held.push(answer.value as usize);
             }
             (Call::Resize { .. }, 6) if answer.value != 0 => self.held.push(answer.value as usize),
-            (Call::Format { .. }, 0) => self.held.clear(),
+            (Call::Format { edition, .. }, 0) => {
+                self.held.clear();
+                self.edition = *edition;
+            }
             _ => {}
         }
     }
@@ -161,7 +180,8 @@ impl Source {
         }
         // format must write every word, whatever stood there
         self.waiting.push_back(if self.rng.one_in(2) { Step::Noise(seed) } else { Step::Links(seed) });
-        self.waiting.push_back(Step::Call(Call::Format { arenas: self.arenas, pools: self.pools }));
+        let (arenas, pools, edition) = (self.arenas, self.pools, self.edition);
+        self.waiting.push_back(Step::Call(Call::Format { arenas, pools, edition }));
     }
 
     fn prepare(&mut self, heap: &Buffers) {
@@ -189,13 +209,20 @@ impl Source {
             self.take_again(heap);
         } else if self.kind != Kind::Sound && self.rng.one_in(60) {
             self.go_to_the_split(heap);
+        } else if self.kind != Kind::Sound && self.rng.one_in(60) {
+            self.go_to_the_shape(heap);
+        } else if self.kind != Kind::Sound && self.rng.one_in(60) {
+            self.go_to_the_last_class(heap);
+        } else if self.kind != Kind::Sound && self.rng.one_in(60) {
+            self.go_to_the_count(heap);
         } else {
             let call = self.call(heap, exact[0]);
             self.waiting.push_back(Step::Call(call));
         }
     }
 
-    /// Lengths of which one or more are one short, one long or 0, or books that are cut at their first words.
+    /// Lengths of which one or more are one short, one long or 0, or books that are cut at their first words or about
+    /// word 68.
     fn wrong_lengths(&mut self) -> [usize; 3] {
         let mut lent = lengths(self.arenas, self.pools);
         for _ in 0..self.rng.pick(&[1, 1, 1, 2, 3]) {
@@ -203,6 +230,7 @@ impl Source {
             lent[which] = match self.rng.below(5) {
                 0 | 1 => lent[which] - lent[which].min(1),
                 2 | 3 => lengths(self.arenas, self.pools)[which] + 1,
+                _ if which == 1 => self.rng.pick(&[0, 1, 2, 3, 68, 69]),
                 _ => self.rng.below(4),
             };
         }
@@ -211,12 +239,14 @@ impl Source {
 }
 
 /// One to four block sizes: of small blocks, of large ones, or of any.
-fn sizes(rng: &mut Rng, kind: Kind) -> Vec<usize> {
+fn sizes(rng: &mut Rng, kind: Kind, alignment: usize) -> Vec<usize> {
     if kind == Kind::MadeUp {
-        return vec![8, 16, rng.pick(&[24, 256, 512])];
+        return vec![alignment, 2 * alignment, rng.pick(&[3 * alignment, 256, 512])];
     }
-    let (least, most) = rng.pick(&[(1, 4), (33, 64), (33, 64), (60, 64), (1, 64), (64, 64), (1, 1)]);
-    (0..rng.between(1, 4)).map(|_| 8 * rng.between(least, most)).collect()
+    let (half, all) = (256 / alignment, 512 / alignment);
+    let large = (half + 1, all);
+    let (least, most) = rng.pick(&[(1, 4), large, large, (all - 4, all), (1, all), (all, all), (1, 1)]);
+    (0..rng.between(1, 4)).map(|_| alignment * rng.between(least, most)).collect()
 }
 
 // Calls
@@ -251,12 +281,21 @@ impl Source {
     /// A format with good or bad numbers; on the heap itself it is rare, for it ends what was reached.
     fn format(&mut self) -> Call {
         let odd = [0, 1, 2, 16, 17, 64, 65, usize::MAX, (1 << 32) + self.arenas, (1 << 32) + self.pools];
+        let (mut arenas, mut pools) = (self.arenas, self.pools);
         match self.rng.below(8) {
-            0 => Call::Format { arenas: self.arenas, pools: self.pools },
-            1 | 2 => Call::Format { arenas: self.rng.pick(&odd), pools: self.pools },
-            3 | 4 => Call::Format { arenas: self.arenas, pools: self.rng.pick(&odd) },
-            _ => Call::Format { arenas: self.rng.pick(&odd), pools: self.rng.pick(&odd) },
+            0 | 1 => {}
+            2 | 3 => arenas = self.rng.pick(&odd),
+            4 | 5 => pools = self.rng.pick(&odd),
+            _ => (arenas, pools) = (self.rng.pick(&odd), self.rng.pick(&odd)),
         }
+        let none = [2, 2, 2, 3, 8, 16, 255, 256, 257, 1 << 31, 1 << 32, (1 << 32) + 1, (1 << 63) + 1, usize::MAX];
+        let edition = if self.rng.one_in(3) { self.rng.pick(&none) } else { self.rng.below(2) };
+        Call::Format { arenas, pools, edition }
+    }
+
+    /// What the heap was made to align to.
+    fn alignment(&self) -> usize {
+        8 + 8 * self.edition
     }
 
     fn size(&mut self) -> usize {
@@ -265,7 +304,8 @@ impl Source {
             0 => self.rng.pick(&[0, 1, 512, 513, 514, 1 << 31, (1 << 32) + block, usize::MAX, usize::MAX - 7]),
             1 => self.rng.between(1, 512),
             2 => self.rng.draw() as usize >> self.rng.below(64),
-            _ => block - self.rng.below(8),
+            // a format may have brought the other edition
+            _ => block - self.rng.below(self.alignment().min(block)),
         }
     }
 
@@ -341,7 +381,7 @@ impl Source {
         let memory = all * 4096;
         match self.rng.below(40) {
             0 => self.rng.pick(&[0, 47, memory - 1, memory, memory + 48, usize::MAX, usize::MAX - 4047]),
-            1 => held.wrapping_add(self.rng.pick(&[1, 4, 8, 4096, usize::MAX, usize::MAX - 7])),
+            1 => held.wrapping_add(self.rng.pick(&[1, 4, 8, 16, 4096, usize::MAX, usize::MAX - 7])),
             2 => held + self.rng.pick(&[1 << 32, 1 << 63, memory]),
             3 => self.rng.draw() as usize >> self.rng.below(64),
             4 | 5 => {
@@ -377,10 +417,10 @@ impl Source {
 
     /// The block size of the pool that an offset lies in, as far as the books tell.
     fn block_size(&mut self, heap: &Buffers, offset: usize) -> usize {
-        let pool = offset / 4096;
+        let (pool, alignment) = (offset / 4096, alignment(heap));
         let class = if pool < self.arenas * self.pools { heap.books[self.pool_word(pool, 4)] as usize } else { 64 };
-        if class < 64 {
-            8 * (class + 1)
+        if class < 512 / alignment {
+            alignment * (class + 1)
         } else {
             self.rng.pick(&self.sizes)
         }
@@ -407,8 +447,9 @@ impl Source {
             _ => self.spoil_word(heap),
         };
         self.waiting.push_back(spoilt);
-        // a heap with a wrong A or P takes no step, so it isn't left so for long; a stand-in has its answer there too
-        let shape = matches!(spoilt, Step::Word(0 | 1, _));
+        // a heap with a wrong A, P or edition takes no step, so it isn't left so for long; a stand-in has its answer
+        // there too
+        let shape = matches!(spoilt, Step::Word(0 | 1, _) | Step::Word(EDITION, 2..));
         if shape {
             let offset = self.offset(heap);
             let phrase = self.phrase(heap, offset, lengths(self.arenas, self.pools)[0]);
@@ -427,16 +468,18 @@ impl Source {
         let all = self.arenas * self.pools;
         let offset = self.offset(heap);
         let pool = (offset / 4096).min(all - 1);
-        let second = (offset % 4096).saturating_sub(48) / 8 * 8;
-        let size = match self.rng.pick(&[8, 16, 24, 32, 256, 512, second, second, second]) {
+        let alignment = alignment(heap);
+        let second = (offset % 4096).saturating_sub(48) / alignment * alignment;
+        let of = |blocks: usize| blocks * alignment;
+        let size = match self.rng.pick(&[of(1), of(2), of(3), of(4), 256, 512, second, second, second]) {
             size @ 8..=512 => size,
-            _ => 16,
+            _ => of(2),
         };
         let arena = (heap.books[2] as usize).clamp(1, self.arenas) - 1;
         let free = self.rng.between(1, self.pools) as u32;
         let words = [
             (2, arena as u32 + 1),
-            (3 + size / 8, 0),
+            (3 + size / alignment, 0),
             (self.arena_word(arena, 2), free),
             (self.arena_word(arena, 3), pool as u32 + 1),
             (self.pool_word(pool, 2), 0),
@@ -444,7 +487,7 @@ impl Source {
         self.waiting.extend(words.map(|(at, word)| Step::Word(at, word)));
         // a pool is set to a class only where its first two bits are clear
         self.waiting.push_back(Step::Bits(8 * pool, heap.map[8 * pool] & !3));
-        self.waiting.push_back(Step::Call(Call::Resize { offset, size: size - self.rng.below(8) }));
+        self.waiting.push_back(Step::Call(Call::Resize { offset, size: size - self.rng.below(alignment) }));
     }
 
     /// The words that W-206's split reads come to make a dead block of an offset, but for one of them, or the offset,
@@ -465,9 +508,10 @@ impl Source {
             1 => mark = self.rng.pick(&[0, number, number, number.saturating_sub(1)]),
             2 => nextoffset = place.saturating_sub(self.rng.pick(&[0, 0, 1, size, place])),
             3 => {
-                class = self.rng.pick(&[63, 64, 64, 64, 65, 66, 511, 65_535, (1 << 16) + 1, u32::MAX]);
+                class = self.late_class(heap);
                 // what would be a start of such a class
-                let size = self.rng.pick(&[512, 520, 520, 528]);
+                let larger = 512 + alignment(heap);
+                let size = self.rng.pick(&[512, larger, larger, larger + alignment(heap)]);
                 offset = 4096 * pool + block_start(size, self.rng.below(4048 / size));
                 nextoffset = 4096;
             }
@@ -488,22 +532,99 @@ impl Source {
         self.waiting.extend(words.map(|(at, _)| Step::Word(at, heap.books[at])));
     }
 
+    /// The last class of the heap's edition, or one after it: near, or in the other edition's place, or far.
+    fn late_class(&mut self, heap: &Buffers) -> u32 {
+        let above = 512 / alignment(heap) as u32;
+        let near = [above - 1, above, above, above, above + 1, above + 2];
+        let far = [63, 64, 511, 65_535, (1 << 16) + 1, u32::MAX];
+        if self.rng.one_in(3) {
+            self.rng.pick(&far)
+        } else {
+            self.rng.pick(&near)
+        }
+    }
+
+    /// The shape's tests meet each other: A, P, word 68 and the lengths are each on one side or the other of their
+    /// test, a call meets them, and then they are as they were.
+    fn go_to_the_shape(&mut self, heap: &Buffers) {
+        let exact = lengths(self.arenas, self.pools);
+        let (mut arenas, mut pools) = (self.arenas as u32, self.pools as u32);
+        match self.rng.below(8) {
+            0 => arenas = self.rng.pick(&[0, 17, u32::MAX]),
+            1 => pools = self.rng.pick(&[0, 1, 65, u32::MAX]),
+            _ => {}
+        }
+        let edition = self.rng.pick(&[0, 1, 2, 2, 3, 1 << 8, (1 << 16) + 1, (1 << 31) + 1, u32::MAX]);
+        let mut lent = exact;
+        match self.rng.below(8) {
+            0 | 1 => {}
+            2 => lent[1] = 68,
+            3 => lent[1] = 69,
+            4 => lent[1] = self.rng.below(2),
+            5 => lent[1] = self.rng.pick(&[2, 3, 36, 67, 70, 71, 72]),
+            _ => lent = self.wrong_lengths(),
+        }
+        let words = [(0, arenas), (1, pools), (EDITION, edition)];
+        self.waiting.extend(words.map(|(at, word)| Step::Word(at, word)));
+        let call = if self.rng.one_in(3) { self.format() } else { self.call(heap, lent[0]) };
+        self.waiting.extend([Step::Lend(lent), Step::Call(call), Step::Lend(exact)]);
+        self.waiting.extend(words.map(|(at, _)| Step::Word(at, heap.books[at])));
+    }
+
+    /// A pool comes to have the last class or one after it, and its first bit set; a call meets the block there, or all
+    /// blocks, and then class and bits are as they were.
+    fn go_to_the_last_class(&mut self, heap: &Buffers) {
+        let pool = self.rng.below(self.arenas * self.pools);
+        let class = self.late_class(heap);
+        let (at, bits) = (self.pool_word(pool, 4), heap.map[8 * pool]);
+        self.waiting.extend([Step::Word(at, class), Step::Bits(8 * pool, bits | 1)]);
+        let (offset, memory) = (4096 * pool + 48, lengths(self.arenas, self.pools)[0]);
+        let call = match self.rng.below(4) {
+            0 => Call::RollCall { words: self.roll_words(heap) },
+            1 => Call::GiveBack { offset },
+            _ => self.call_on(heap, offset, memory),
+        };
+        self.waiting.push_back(Step::Call(call));
+        self.waiting.extend([Step::Word(at, heap.books[at]), Step::Bits(8 * pool, bits)]);
+    }
+
+    /// The count of a listed pool comes to one side or the other of the blocks that a pool can hold, in this edition
+    /// and the other; an ask or a give-back meets it, and then it is as it was.
+    fn go_to_the_count(&mut self, heap: &Buffers) {
+        let size = self.rng.pick(&self.sizes);
+        let front = heap.books[4 + (size - 1) / alignment(heap)] as usize;
+        let pool = front.clamp(1, self.arenas * self.pools) - 1;
+        let at = self.pool_word(pool, 0);
+        let count = self.rng.pick(&[252, 253, 254, 400, 504, 505, 505, 506, 507]);
+        let held = self.held.iter().rev().find(|offset| **offset / 4096 == pool);
+        let call = match held {
+            Some(offset) if self.rng.one_in(2) => Call::GiveBack { offset: *offset },
+            _ => Call::Ask { size },
+        };
+        self.waiting.extend([Step::Word(at, count), Step::Call(call), Step::Word(at, heap.books[at])]);
+    }
+
     fn spoil_word(&mut self, heap: &Buffers) -> (Step, Step) {
         let arena = self.rng.below(self.arenas);
         let pool = self.rng.below(self.arenas * self.pools);
         let word = self.rng.below(8);
-        let at = match self.rng.below(32) {
+        let at = match self.rng.below(33) {
             0 => self.rng.below(2),
+            32 => EDITION,
             1 | 2 => 2,
             3..=5 => 3,
-            6..=8 => 3 + self.rng.pick(&self.sizes) / 8,
+            6..=8 => 4 + (self.rng.pick(&self.sizes) - 1) / alignment(heap),
             9..=15 => self.arena_word(arena, word),
             16..=29 => self.pool_word(pool, word),
             _ => self.rng.below(lengths(self.arenas, self.pools)[1]),
         };
         let old = heap.books[at];
         let limits = [0, 1, 2, 16, 17, 64, 65, u32::MAX];
-        let new = if at < 2 { self.rng.pick(&limits) } else { self.edge(old) };
+        let new = match at {
+            0 | 1 => self.rng.pick(&limits),
+            EDITION => self.rng.pick(&[0, 1, 2, 3, 1 << 8, (1 << 16) + 1, 1 << 31, u32::MAX]),
+            _ => self.edge(old),
+        };
         (Step::Word(at, new), Step::Word(at, old))
     }
 
@@ -569,8 +690,8 @@ impl Source {
             3 => self.rng.pick(&[arenas, arenas + 1, arenas + 1]),
             4 => self.rng.pick(&[all, all + 1, all + 1]),
             5 => self.rng.pick(&[pools - 1, pools, pools + 1]),
-            6 => self.rng.pick(&[505, 506, 507]),
-            7 => self.rng.pick(&[63, 64, 65_535, size / 8 - 1]),
+            6 => self.rng.pick(&[252, 253, 254, 505, 506, 507]),
+            7 => self.rng.pick(&[31, 32, 63, 64, 65_535, (size - 1) / self.alignment() as u32]),
             8 => block_start(size as usize, self.rng.below(4)) as u32,
             9 => self.rng.pick(&[4096 - size, 4097 - size, 4095 - size, 4096, 48 + 4048 / size * size]),
             10 => old.wrapping_add(self.rng.pick(&[1, 8, size])),
@@ -602,8 +723,10 @@ impl Source {
         for (at, word) in words.into_iter().enumerate() {
             self.waiting.push_back(Step::Word(at, word));
         }
+        self.waiting.push_back(Step::Word(EDITION, self.edition as u32));
+        // in sixteen the heads of the classes from 32 on are read by no step
         for class in 0..64 {
-            let asked = self.sizes.contains(&(8 * (class + 1)));
+            let asked = self.sizes.contains(&(self.alignment() * (class + 1)));
             if asked || self.rng.one_in(16) {
                 let link = self.pool_link();
                 self.set(4 + class, link);
@@ -625,13 +748,16 @@ impl Source {
     fn make_up_pool(&mut self, pool: usize) {
         let size = self.rng.pick(&self.sizes);
         let blocks = 4048 / size;
-        let class = if self.rng.one_in(6) { 65_535 } else { size / 8 - 1 };
-        let count = if self.rng.one_in(6) { self.rng.between(504, 507) } else { self.rng.below(4) };
-        let near = self.rng.below(blocks.min(6));
+        let class = if self.rng.one_in(6) { 65_535 } else { size / self.alignment() - 1 };
+        let full = self.rng.pick(&[253, 506, 506]);
+        let count = if self.rng.one_in(6) { self.rng.between(full - 2, full + 1) } else { self.rng.below(4) };
+        let near = if self.rng.one_in(8) { blocks - 1 } else { self.rng.below(blocks.min(6)) };
         let freeblock = if self.rng.one_in(4) { 0 } else { block_start(size, near) };
         let nextoffset = block_start(size, self.rng.pick(&[near + 1, near + 2, blocks, blocks - 1]));
-        let (next, previous) = (self.pool_link(), self.pool_link());
-        let words = [count, freeblock, next as usize, previous as usize, class, nextoffset, 4096 - size];
+        // a full pool uses both on leaving its list, which few do
+        let above = self.arenas * self.pools + 1;
+        let [next, previous] = [0; 2].map(|_| if self.rng.one_in(24) { above } else { self.pool_link() as usize });
+        let words = [count, freeblock, next, previous, class, nextoffset, 4096 - size];
         for (word, value) in words.into_iter().enumerate() {
             self.set(self.pool_word(pool, word), value as u32);
         }

@@ -6,9 +6,17 @@ use crate::{Answer, Calls, Place};
 pub const USABLE: usize = 2;
 pub const UNUSED: usize = 3;
 
-/// The word of the books that is the head of the list of this block size.
+/// The word of the books that says the edition.
+pub const EDITION: usize = 68;
+
+/// The word of the books that is the head of the list of this block size, in edition eight.
 pub fn head(size: usize) -> usize {
     3 + size / 8
+}
+
+/// The same in edition sixteen.
+pub fn head_in_sixteen(size: usize) -> usize {
+    3 + size / 16
 }
 
 /// Words of an arena's record.
@@ -33,10 +41,19 @@ pub struct Desk<'a> {
 }
 
 impl<'a> Desk<'a> {
-    /// A fresh heap of this many arenas and pools.
+    /// A fresh heap of this many arenas and pools, of edition eight.
     pub fn fresh(calls: &'a mut dyn Calls, arenas: usize, pools: usize) -> Desk<'a> {
+        Desk::formatted(calls, arenas, pools, 0)
+    }
+
+    /// A fresh heap of edition sixteen.
+    pub fn sixteen(calls: &'a mut dyn Calls, arenas: usize, pools: usize) -> Desk<'a> {
+        Desk::formatted(calls, arenas, pools, 1)
+    }
+
+    fn formatted(calls: &'a mut dyn Calls, arenas: usize, pools: usize, edition: usize) -> Desk<'a> {
         let mut desk = Desk { calls, heap: Buffers::new(arenas, pools), arenas };
-        desk.done(Call::Format { arenas, pools }, 0);
+        desk.done(Call::Format { arenas, pools, edition }, 0);
         desk
     }
 

@@ -1,15 +1,17 @@
-//! 01, and W-206 and W-214 of 02, read a second time: the calls as a trait, one program that keeps them, and what tells
-//! any other program from it.
+//! 01, and W-206, W-211 and W-214 of 02, read a second time: the calls as a trait, one program that keeps them, and
+//! what tells any other program from it.
 
 pub mod cases;
 pub mod compare;
 pub mod damage;
 pub mod desk;
+pub mod editions;
 #[cfg(feature = "library")]
 pub mod library;
 pub mod paper;
 pub mod readings;
 pub mod sides;
+pub mod sixteen;
 pub mod steps;
 pub mod trail;
 
@@ -60,7 +62,8 @@ pub enum Place {
 
 /// 01's seven calls, view's companion and 02's stand-in, over buffers of any length and with any contents.
 pub trait Calls {
-    fn format(&mut self, lent: Lent, arenas: usize, pools: usize) -> Answer;
+    /// The edition is 0 for eight and 1 for sixteen.
+    fn format(&mut self, lent: Lent, arenas: usize, pools: usize, edition: usize) -> Answer;
     fn ask(&mut self, lent: Lent, size: usize) -> Answer;
     fn give_back(&mut self, lent: Lent, offset: usize) -> Answer;
     fn resize(&mut self, lent: Lent, offset: usize, size: usize) -> Answer;

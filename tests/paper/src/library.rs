@@ -19,8 +19,8 @@ fn start_in(part: &[u8], whole: &[u8]) -> Option<usize> {
 }
 
 impl Calls for Library {
-    fn format(&mut self, lent: Lent, arenas: usize, pools: usize) -> Answer {
-        calls::format(lent.memory, lent.books, lent.map, arenas, pools).into()
+    fn format(&mut self, lent: Lent, arenas: usize, pools: usize, edition: usize) -> Answer {
+        calls::format(lent.memory, lent.books, lent.map, arenas, pools, edition).into()
     }
 
     fn ask(&mut self, lent: Lent, size: usize) -> Answer {

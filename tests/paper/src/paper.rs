@@ -1,5 +1,6 @@
 //! 01 as a program: its calls over lent buffers, in its order and its words, on any lengths and any contents. The split
-//! of 5 that W-206 of 02 makes stands at the live test, the call of W-214 beside view.
+//! of 5 that W-206 of 02 makes stands at the live test, the two editions of W-211 where 01 says classes and blocks, the
+//! call of W-214 beside view.
 //!
 //! A step writes as it goes, in the order that 01 gives, and notes what stood there before. Where a used word breaks
 //! its rule, the notes are walked back and the answer is 6. So 01 can be laid beside this file sentence by sentence.
@@ -16,6 +17,8 @@ const HEADER: usize = 48;
 const USABLE: usize = 2;
 const UNUSED: usize = 3;
 const CLASSES: usize = 4;
+/// The spare word that says the edition (W-211).
+const EDITION: usize = 68;
 const ARENAS: usize = 72;
 const RECORD: usize = 8;
 
@@ -45,11 +48,17 @@ fn refuse<T>(number: u32) -> Refused<T> {
     Err(Answer { number, value: 0 })
 }
 
-/// A or P out of range is 1; then a lent length that is not exact is 2.
-fn fits(lent: &Lent, arenas: usize, pools: usize) -> Refused<()> {
-    if !(1..=16).contains(&arenas) || !(2..=64).contains(&pools) {
-        return refuse(1);
+/// A or P out of range is 1.
+fn in_range(arenas: usize, pools: usize) -> Refused<()> {
+    if (1..=16).contains(&arenas) && (2..=64).contains(&pools) {
+        Ok(())
+    } else {
+        refuse(1)
     }
+}
+
+/// A lent length that is not exact is 2. The lengths are the same in both editions.
+fn exact(lent: &Lent, arenas: usize, pools: usize) -> Refused<()> {
     let all = arenas * pools;
     let memory = lent.memory.len() == all * POOL;
     let books = lent.books.len() == ARENAS + RECORD * arenas + RECORD * all;
@@ -66,11 +75,12 @@ fn link_to(member: Option<usize>) -> usize {
     member.map_or(0, |n| n + 1)
 }
 
-/// A heap whose A, P and lengths are right. Nothing else about it is known.
+/// A heap whose A, P, edition and lengths are right. Nothing else about it is known.
 struct Heap<'a> {
     lent: Lent<'a>,
     arenas: usize,
     pools: usize,
+    edition: Edition,
     notes: &'a mut Vec<Was>,
     trail: &'a mut Trail,
 }
@@ -123,32 +133,60 @@ impl Heap<'_> {
 
 // Classes and blocks
 
-fn class_of(size: usize) -> usize {
-    (size - 1) / 8
+/// Which edition a heap is of (W-211): 01's own, aligned to eight, or the one that is aligned to sixteen.
+#[derive(Clone, Copy, PartialEq, Eq)]
+enum Edition {
+    Eight,
+    Sixteen,
 }
 
-fn block_size(class: usize) -> usize {
-    8 * (class + 1)
+impl Edition {
+    /// 0 for eight, 1 for sixteen, another value is 1.
+    fn said_by(value: usize) -> Refused<Edition> {
+        match value {
+            0 => Ok(Edition::Eight),
+            1 => Ok(Edition::Sixteen),
+            _ => refuse(1),
+        }
+    }
+
+    fn alignment(self) -> usize {
+        match self {
+            Edition::Eight => 8,
+            Edition::Sixteen => 16,
+        }
+    }
+
+    /// Wherever 01 or a request says 63 it reads 31 in sixteen.
+    fn last_class(self) -> usize {
+        match self {
+            Edition::Eight => 63,
+            Edition::Sixteen => 31,
+        }
+    }
+
+    fn class_of(self, size: usize) -> usize {
+        (size - 1) / self.alignment()
+    }
+
+    fn block_size(self, class: usize) -> usize {
+        self.alignment() * (class + 1)
+    }
+
+    /// Which block of its pool starts at this in-pool offset, if one does. The first is at 48 in both editions.
+    fn block_at(self, class: usize, start: usize) -> Option<usize> {
+        let size = self.block_size(class);
+        let k = start.checked_sub(HEADER)? / size;
+        (start == HEADER + k * size && start <= POOL - size).then_some(k)
+    }
 }
 
-/// Which block of its pool starts at this in-pool offset, if one does.
-fn block_at(class: usize, start: usize) -> Option<usize> {
-    let size = block_size(class);
-    let k = start.checked_sub(HEADER)? / size;
-    (start == HEADER + k * size && start <= POOL - size).then_some(k)
-}
-
-/// A live block: its pool, the pool's class, and which block of the pool it is.
+/// A live block: its pool, the pool's class, which block of the pool it is, and its size.
 struct Block {
     pool: usize,
     class: usize,
     k: usize,
-}
-
-impl Block {
-    fn size(&self) -> usize {
-        block_size(self.class)
-    }
+    size: usize,
 }
 
 impl Heap<'_> {
@@ -167,20 +205,21 @@ impl Heap<'_> {
         }
     }
 
-    /// An offset is live if it lies in memory, its pool's class is at most 63, it is a block start of that class and
-    /// its map bit is set. Otherwise (W-206) it is 10 where it is a block start, below nextoffset, of a carved pool of
-    /// class at most 63, but not live; 5 otherwise.
+    /// An offset is live if it lies in memory, its pool's class is at most 63 (31), it is a block start of that class
+    /// and its map bit is set. Otherwise (W-206) it is 10 where it is a block start, below nextoffset, of a carved pool
+    /// of class at most 63 (31), but not live; 5 otherwise.
     fn live(&self, offset: usize) -> Refused<Block> {
         if offset >= self.lent.memory.len() {
             return refuse(5);
         }
         let (pool, start) = (offset / POOL, offset % POOL);
         let class = self.read(self.pool(pool, CLASS));
-        if class > 63 {
+        if class > self.edition.last_class() {
             return refuse(5);
         }
-        match block_at(class, start) {
-            Some(k) if self.bit(pool, k) => Ok(Block { pool, class, k }),
+        let size = self.edition.block_size(class);
+        match self.edition.block_at(class, start) {
+            Some(k) if self.bit(pool, k) => Ok(Block { pool, class, k, size }),
             Some(_) if start < self.read(self.pool(pool, NEXTOFFSET)) && self.carved(pool) => refuse(10),
             _ => refuse(5),
         }
@@ -197,12 +236,12 @@ impl Heap<'_> {
         let mut blocks = Vec::new();
         for pool in 0..self.all_pools() {
             let class = self.read(self.pool(pool, CLASS));
-            if class > 63 {
+            if class > self.edition.last_class() {
                 continue;
             }
-            let size = block_size(class);
+            let size = self.edition.block_size(class);
             for k in (0..(POOL - HEADER) / size).filter(|&k| self.bit(pool, k)) {
-                blocks.push((pool * POOL + HEADER + k * size, Block { pool, class, k }));
+                blocks.push((pool * POOL + HEADER + k * size, Block { pool, class, k, size }));
             }
         }
         blocks
@@ -309,14 +348,17 @@ impl Heap<'_> {
     }
 }
 
-/// **Format** writes all books and map and no memory.
-fn format(lent: Lent, arenas: usize, pools: usize) -> Refused<usize> {
-    fits(&lent, arenas, pools)?;
+/// **Format** writes all books and map and no memory. It is told the edition and tests it after A and P.
+fn format(lent: Lent, arenas: usize, pools: usize, edition: usize) -> Refused<usize> {
+    in_range(arenas, pools)?;
+    Edition::said_by(edition)?;
+    exact(&lent, arenas, pools)?;
     lent.map.fill(0);
     lent.books.fill(0);
     lent.books[0] = arenas as u32;
     lent.books[1] = pools as u32;
     lent.books[UNUSED] = 1;
+    lent.books[EDITION] = edition as u32;
     for arena in 0..arenas {
         let next = ARENAS + RECORD * arena + ARENA_NEXT;
         let following = if arena + 1 < arenas { Some(arena + 1) } else { None };
@@ -338,7 +380,7 @@ const FROM_FREED: [Rule; 5] =
 impl Heap<'_> {
     /// **Ask.**
     fn ask(&mut self, size: usize) -> Refused<usize> {
-        let class = class_of(size);
+        let class = self.edition.class_of(size);
         let list = self.class_list(class);
         let (pool, start) = match self.follow(list.head, list.most, Rule::FrontHead)? {
             Some(front) => (front, self.take_from_front(class, front)?),
@@ -348,13 +390,13 @@ impl Heap<'_> {
             }
         };
         // Last, the map bit is set.
-        self.put_bit(pool, (start - HEADER) / block_size(class), true);
+        self.put_bit(pool, (start - HEADER) / self.edition.block_size(class), true);
         Ok(pool * POOL + start)
     }
 
     /// If the class list has a pool, take the front one.
     fn take_from_front(&mut self, class: usize, pool: usize) -> Refused<usize> {
-        let size = block_size(class);
+        let size = self.edition.block_size(class);
         self.rule(self.read(self.pool(pool, CLASS)) == class, Rule::FrontClass)?;
         self.rule(self.read(self.pool(pool, MAXNEXTOFFSET)) == POOL - size, Rule::FrontMaximum)?;
 
@@ -396,7 +438,7 @@ impl Heap<'_> {
 
     /// A block to be handed out or to become freeblock is a block start, and its bit, by the wanted class, is clear.
     fn free_to_be(&mut self, class: usize, pool: usize, start: usize, rules: [Rule; 2]) -> Refused<()> {
-        match block_at(class, start) {
+        match self.edition.block_at(class, start) {
             Some(k) => self.rule(!self.bit(pool, k), rules[1]),
             None => self.rule(false, rules[0]),
         }
@@ -476,7 +518,7 @@ impl Heap<'_> {
 
     /// Otherwise class is set and the answer is 48.
     fn set_class(&mut self, class: usize, pool: usize) -> Refused<usize> {
-        let size = block_size(class);
+        let size = self.edition.block_size(class);
         self.put(self.pool(pool, CLASS), class);
         self.put(self.pool(pool, NEXTOFFSET), HEADER + 2 * size);
         self.put(self.pool(pool, MAXNEXTOFFSET), POOL - size);
@@ -489,12 +531,12 @@ impl Heap<'_> {
 
     /// **Give back.**
     fn give_back(&mut self, offset: usize, block: Block) -> Refused<usize> {
-        let Block { pool, class, k } = block;
+        let Block { pool, class, k, .. } = block;
         let start = offset % POOL;
         self.put_bit(pool, k, false);
 
         let old = self.read(self.pool(pool, FREEBLOCK));
-        self.rule(old == 0 || block_at(class, old).is_some(), Rule::BackNoStart)?;
+        self.rule(old == 0 || self.edition.block_at(class, old).is_some(), Rule::BackNoStart)?;
         self.write_link(pool, start, old);
         self.put(self.pool(pool, FREEBLOCK), start);
 
@@ -553,7 +595,7 @@ impl Heap<'_> {
     /// **Resize** of a live block to n. If the ask is done and the give-back would then meet 5 or 6, or 10 as well, the
     /// answer is 6 with the new offset, and the ask and copy stand.
     fn resize(&mut self, offset: usize, block: Block, n: usize) -> Refused<usize> {
-        let s = block.size();
+        let s = block.size;
         if n <= s && 4 * n > 3 * s {
             self.walk(Path::Kept);
             return Ok(offset);
@@ -578,7 +620,7 @@ impl Heap<'_> {
 
     /// **Write** copies a lent text to the start of a block; a text longer than its block is 7.
     fn write(&mut self, offset: usize, block: Block, text: &[u8]) -> Refused<usize> {
-        if text.len() > block.size() {
+        if text.len() > block.size {
             return refuse(7);
         }
         self.lent.memory[offset..offset + text.len()].copy_from_slice(text);
@@ -593,7 +635,7 @@ impl Heap<'_> {
         }
         for (i, (offset, block)) in blocks.iter().enumerate() {
             roll[2 * i] = *offset as u32;
-            roll[2 * i + 1] = block.size() as u32;
+            roll[2 * i + 1] = block.size as u32;
         }
         Ok(blocks.len())
     }
@@ -609,15 +651,21 @@ pub struct Paper {
 }
 
 impl Paper {
-    /// The heap that is lent: books under two words is 2; then 1, 2.
+    /// The heap that is lent: books under two words is 2; A or P 1; books that do not reach word 68 2; word 68 above 1
+    /// 1; lengths 2.
     fn heap<'a>(&'a mut self, lent: Lent<'a>) -> Refused<Heap<'a>> {
         self.trail.clear();
         if lent.books.len() < 2 {
             return refuse(2);
         }
         let (arenas, pools) = (lent.books[0] as usize, lent.books[1] as usize);
-        fits(&lent, arenas, pools)?;
-        Ok(Heap { lent, arenas, pools, notes: &mut self.notes, trail: &mut self.trail })
+        in_range(arenas, pools)?;
+        if lent.books.len() <= EDITION {
+            return refuse(2);
+        }
+        let edition = Edition::said_by(lent.books[EDITION] as usize)?;
+        exact(&lent, arenas, pools)?;
+        Ok(Heap { lent, arenas, pools, edition, notes: &mut self.notes, trail: &mut self.trail })
     }
 }
 
@@ -639,9 +687,9 @@ fn answer(outcome: Refused<usize>) -> Answer {
 
 /// Each call tests in the order 1, 2, 3, 5 or 10, 7, and then comes the step, which gives 4 or 6.
 impl Calls for Paper {
-    fn format(&mut self, lent: Lent, arenas: usize, pools: usize) -> Answer {
+    fn format(&mut self, lent: Lent, arenas: usize, pools: usize, edition: usize) -> Answer {
         self.trail.clear();
-        answer(format(lent, arenas, pools))
+        answer(format(lent, arenas, pools, edition))
     }
 
     fn ask(&mut self, lent: Lent, size: usize) -> Answer {
@@ -669,21 +717,21 @@ impl Calls for Paper {
     /// **View** hands back the whole block; a refusal hands back the empty part.
     fn view(&mut self, lent: Lent, offset: usize) -> (usize, usize) {
         match self.heap(lent).and_then(|heap| heap.live(offset)) {
-            Ok(block) => (offset, block.size()),
+            Ok(block) => (offset, block.size),
             Err(_) => (0, 0),
         }
     }
 
     /// View's companion gives its number and, when done, the block size, otherwise 0.
     fn view_size(&mut self, lent: Lent, offset: usize) -> Answer {
-        answer(self.heap(lent).and_then(|heap| Ok(heap.live(offset)?.size())))
+        answer(self.heap(lent).and_then(|heap| Ok(heap.live(offset)?.size)))
     }
 
     /// **A stand-in phrase** (W-214) hands back either the live block's own bytes or the lent phrase itself, and the
     /// phrase exactly when view would refuse. Neither buffer is copied or changed: the answer is a place in one.
     fn stand_in(&mut self, lent: Lent, offset: usize, phrase: LentPhrase) -> Place {
         match self.heap(lent).and_then(|heap| heap.live(offset)) {
-            Ok(block) => Place::Memory(offset, block.size()),
+            Ok(block) => Place::Memory(offset, block.size),
             Err(_) => phrase.itself(),
         }
     }

@@ -35,6 +35,17 @@ pub const CASES: &[Case] = &[
     ("W-206: where no block starts there is no dead one", w206_start),
     ("W-206: 10 for a block never handed out", w206_ready),
     ("W-206: the half-done resize meets 10", w206_half_done),
+    ("W-211: the order of the shape's tests", w211_order),
+    ("W-211: format tests A and P, then the edition, then the lengths", w211_format),
+    ("W-211: any word 68 above 1 is 1 in each call", w211_above),
+    ("W-211: word 68 says which at each call", w211_word),
+    ("W-211: no edition of a caller is cut to fit", w211_cut),
+    ("W-211: format reads no edition from the books", w211_format_over),
+    ("W-211: the lengths are the same in both editions", w211_lengths),
+    ("W-211: 505 and 506 in both editions", w211_counts),
+    ("W-211: a class above 31 has no blocks in sixteen", w211_class),
+    ("W-211: heads 36 to 67 are of no class in sixteen", w211_heads),
+    ("W-211: where eight's blocks start and sixteen's don't", w211_starts),
     ("W-214: 1 and 2 are refusals of view too, so the phrase", w214),
 ];
 
@@ -42,9 +53,9 @@ fn r1(calls: &mut dyn Calls) {
     let mut desk = Desk::fresh(calls, 1, 2);
     for books in [0, 1] {
         desk.lend(0, books, 0);
-        desk.refused(Format { arenas: 0, pools: 2 }, 1);
-        desk.refused(Format { arenas: 1, pools: 65 }, 1);
-        desk.refused(Format { arenas: 1, pools: 2 }, 2);
+        desk.refused(Format { arenas: 0, pools: 2, edition: 0 }, 1);
+        desk.refused(Format { arenas: 1, pools: 65, edition: 0 }, 1);
+        desk.refused(Format { arenas: 1, pools: 2, edition: 0 }, 2);
     }
 }
 
@@ -179,16 +190,18 @@ fn r11(calls: &mut dyn Calls) {
     desk.refused(GiveBack { offset: 48 }, 6);
 }
 
-/// A freed pool of another arena, never carved, is taken; `open`, spare words and a pool's eighth word are not read.
+/// A freed pool of another arena, never carved, is taken; `open`, spare words (but for 68, which is W-211's) and a
+/// pool's eighth word are not read.
 fn r12(calls: &mut dyn Calls) {
     let mut desk = Desk::fresh(calls, 2, 2);
     desk.done(Ask { size: 8 }, 48);
     *desk.arena(0, FREED_HEAD) = 4;
     *desk.arena(0, OPEN) = 0;
-    *desk.books(68) = 5;
+    desk.heap.books[69..72].fill(5);
     *desk.pool(3, 7) = 6;
     desk.done(Ask { size: 16 }, 12_336);
-    assert_eq!([*desk.arena(0, OPEN), *desk.books(68), *desk.pool(3, 7)], [0, 5, 6]);
+    assert_eq!([*desk.arena(0, OPEN), *desk.pool(3, 7)], [0, 6]);
+    assert_eq!(desk.heap.books[69..72], [5; 3]);
 }
 
 /// Count, nextoffset and maxnextoffset are not tested; with link 0 freeblock becomes 0 and the pool stays listed.
@@ -401,6 +414,263 @@ fn w206_half_done(calls: &mut dyn Calls) {
     desk.refused(GiveBack { offset: 72 }, 5);
 }
 
+/// Every call but format gives this number, and view the empty part.
+fn all_refuse(desk: &mut Desk, number: u32) {
+    let (offset, length, first) = (48, 1, 0);
+    for size in [0, 8] {
+        desk.refused(Ask { size }, number);
+        desk.refused(Resize { offset, size }, number);
+    }
+    desk.refused(GiveBack { offset }, number);
+    desk.refused(ViewSize { offset }, number);
+    desk.refused(Write { offset, length, first }, number);
+    desk.refused(RollCall { words: 0 }, number);
+    assert_eq!(desk.view(offset), (0, 0));
+    desk.stand_in(offset, Text(6, b'z'), Place::Phrase(0, 6));
+}
+
+/// Each row: how many words of the books are lent, A, P, word 68, the number.
+const ORDER: [(usize, u32, u32, u32, u32); 19] = [
+    (0, 0, 2, 2, 2),
+    (1, 0, 2, 2, 2),
+    (2, 0, 2, 2, 1),
+    (2, 1, 65, 0, 1),
+    (2, 1, 2, 2, 2),
+    (68, 0, 2, 2, 1),
+    (68, 17, 2, 0, 1),
+    (68, 1, 1, 1, 1),
+    (68, 1, 2, 0, 2),
+    (68, 1, 2, 1, 2),
+    (68, 1, 2, 2, 2),
+    (69, 0, 2, 0, 1),
+    (69, 1, 2, 2, 1),
+    (69, 1, 2, 1, 2),
+    (69, 1, 2, 0, 2),
+    (95, 1, 2, 2, 1),
+    (95, 1, 2, 1, 2),
+    (97, 1, 2, 2, 1),
+    (96, 1, 65, 2, 1),
+];
+
+/// Read with word 68 before A and P, the rows of 68 words with a bad A or P would be 2; with the lengths before word
+/// 68, all 1 of a good A and P would be 2; with the word taken for a bad one where it is not there, the 2 of 68 words
+/// would be 1.
+fn w211_order(calls: &mut dyn Calls) {
+    let mut desk = Desk::fresh(calls, 1, 2);
+    desk.done(Ask { size: 8 }, 48);
+    for (books, arenas, pools, edition, number) in ORDER {
+        desk.lend(8192, books, 16);
+        for (at, word) in [(0, arenas), (1, pools), (EDITION, edition)] {
+            *desk.books(at) = word;
+        }
+        all_refuse(&mut desk, number);
+    }
+    (*desk.books(0), *desk.books(1)) = (1, 2);
+    for (memory, map) in [(8191, 16), (8193, 16), (8192, 15), (8192, 17), (0, 0)] {
+        desk.lend(memory, 96, map);
+        for (edition, number) in [(0, 2), (1, 2), (2, 1)] {
+            *desk.books(EDITION) = edition;
+            all_refuse(&mut desk, number);
+        }
+    }
+}
+
+/// Read with the lengths before the edition, 2 for the edition over wrong lengths.
+fn w211_format(calls: &mut dyn Calls) {
+    let mut desk = Desk::fresh(calls, 1, 2);
+    for (memory, books, map) in
+        [(8192, 0, 16), (8192, 1, 16), (8192, 68, 16), (8192, 69, 16), (8191, 96, 16), (0, 0, 0)]
+    {
+        desk.lend(memory, books, map);
+        desk.refused(Format { arenas: 1, pools: 2, edition: 2 }, 1);
+        for edition in [0, 1] {
+            desk.refused(Format { arenas: 1, pools: 2, edition }, 2);
+            desk.refused(Format { arenas: 17, pools: 2, edition }, 1);
+            desk.refused(Format { arenas: 1, pools: 65, edition }, 1);
+        }
+    }
+    desk.lend(8192, 96, 16);
+    for edition in [2, 3, 8, 16] {
+        desk.refused(Format { arenas: 1, pools: 2, edition }, 1);
+        desk.refused(Format { arenas: 0, pools: 2, edition }, 1);
+    }
+    for edition in [0, 1] {
+        desk.done(Format { arenas: 1, pools: 2, edition }, 0);
+        assert_eq!(*desk.books(EDITION), edition as u32);
+    }
+}
+
+/// Read by its low bit, byte or half, or as 'not 0', these words would say eight or sixteen.
+fn w211_above(calls: &mut dyn Calls) {
+    let mut desk = Desk::sixteen(calls, 1, 2);
+    desk.done(Ask { size: 8 }, 48);
+    for word in [2, 3, 8, 16, 256, 257, 1 << 16, (1 << 16) + 1, 1 << 31, (1 << 31) + 1, u32::MAX] {
+        *desk.books(EDITION) = word;
+        all_refuse(&mut desk, 1);
+    }
+    *desk.books(EDITION) = 1;
+    desk.done(Ask { size: 8 }, 64);
+}
+
+/// A heap made before has 0 there, and so is of edition eight; the same words but for this one are a heap of sixteen.
+fn w211_word(calls: &mut dyn Calls) {
+    let mut desk = Desk::fresh(calls, 1, 2);
+    desk.done(Ask { size: 8 }, 48);
+    desk.done(Ask { size: 8 }, 56);
+    assert_eq!(*desk.books(EDITION), 0);
+    *desk.books(EDITION) = 1;
+    assert_eq!(desk.roll(4), (Answer { number: 0, value: 2 }, vec![48, 16, 64, 16]));
+    desk.refused(ViewSize { offset: 56 }, 5);
+    // maxnextoffset is eight's
+    desk.refused(Ask { size: 8 }, 6);
+    *desk.books(EDITION) = 0;
+    desk.done(Ask { size: 8 }, 64);
+
+    let mut desk = Desk::sixteen(calls, 1, 2);
+    desk.done(Ask { size: 8 }, 48);
+    desk.done(Ask { size: 8 }, 64);
+    *desk.books(EDITION) = 0;
+    assert_eq!(desk.roll(4), (Answer { number: 0, value: 2 }, vec![48, 8, 56, 8]));
+    desk.refused(ViewSize { offset: 64 }, 10);
+    desk.refused(Ask { size: 8 }, 6);
+    *desk.books(EDITION) = 1;
+    desk.done(Ask { size: 8 }, 80);
+}
+
+/// Read by their low 32 bits or fewer, these would be 0 or 1.
+fn w211_cut(calls: &mut dyn Calls) {
+    let mut desk = Desk::fresh(calls, 1, 2);
+    for edition in [256, 257, 1 << 16, (1 << 16) + 1, 1 << 32, (1 << 32) + 1, 1 << 63, (1 << 63) + 1, usize::MAX] {
+        desk.refused(Format { arenas: 1, pools: 2, edition }, 1);
+    }
+}
+
+/// As in R1 it reads no shape from them: whatever word 68 says, it is overwritten.
+fn w211_format_over(calls: &mut dyn Calls) {
+    let mut desk = Desk::fresh(calls, 1, 2);
+    for word in [0, 1, 2, 7, u32::MAX] {
+        for edition in [0, 1] {
+            *desk.books(EDITION) = word;
+            desk.done(Format { arenas: 1, pools: 2, edition }, 0);
+            assert_eq!(*desk.books(EDITION), edition as u32);
+        }
+    }
+}
+
+/// Read with 32 words of heads or four of map for a pool, (8192, 64, 16) or (8192, 96, 8) would be right.
+fn w211_lengths(calls: &mut dyn Calls) {
+    let mut desk = Desk::sixteen(calls, 1, 2);
+    desk.done(Ask { size: 8 }, 48);
+    for (memory, books, map) in [(8192, 64, 16), (8192, 96, 8), (8192, 64, 8)] {
+        desk.lend(memory, books, map);
+        all_refuse(&mut desk, 2);
+        desk.refused(Format { arenas: 1, pools: 2, edition: 1 }, 2);
+    }
+    desk.lend(8192, 96, 16);
+    desk.done(Ask { size: 8 }, 64);
+}
+
+/// Read as 252 and 253, the blocks of 16 that a pool holds, a count of 400 would be 6.
+fn w211_counts(calls: &mut dyn Calls) {
+    let mut desk = Desk::sixteen(calls, 1, 2);
+    (0..3).for_each(|k| desk.done(Ask { size: 16 }, 48 + 16 * k));
+    *desk.pool(0, COUNT) = 400;
+    desk.done(Ask { size: 16 }, 96);
+    desk.done(GiveBack { offset: 96 }, 96);
+    for (count, asked) in [(253, 0), (254, 0), (505, 0), (506, 6), (507, 6)] {
+        let mut desk = Desk::sixteen(calls, 1, 2);
+        desk.done(Ask { size: 16 }, 48);
+        *desk.pool(0, COUNT) = count;
+        assert_eq!(desk.answer(Ask { size: 16 }).number, asked, "count {count}");
+    }
+    for (count, given) in [(0, 6), (253, 0), (254, 0), (506, 0), (507, 6)] {
+        let mut desk = Desk::sixteen(calls, 1, 2);
+        desk.done(Ask { size: 16 }, 48);
+        *desk.pool(0, COUNT) = count;
+        assert_eq!(desk.answer(GiveBack { offset: 48 }).number, given, "count {count}");
+    }
+}
+
+/// Read as 63, class 32 would have a live block of 528 bytes at 48 and a dead one at 576. In eight it has its blocks.
+fn w211_class(calls: &mut dyn Calls) {
+    let mut desk = Desk::sixteen(calls, 1, 2);
+    desk.done(Ask { size: 512 }, 48);
+    assert_eq!(desk.roll(2), (Answer { number: 0, value: 1 }, vec![48, 512]));
+    desk.refused(GiveBack { offset: 560 }, 10);
+    for class in [32, 33, 62, 63, 64, 65_535, u32::MAX] {
+        *desk.pool(0, CLASS) = class;
+        all_refuse_5(&mut desk);
+        desk.refused(GiveBack { offset: 576 }, 5);
+    }
+    *desk.pool(0, CLASS) = 30;
+    desk.done(ViewSize { offset: 48 }, 496);
+
+    let mut desk = Desk::fresh(calls, 1, 2);
+    desk.done(Ask { size: 257 }, 48);
+    assert_eq!(*desk.pool(0, CLASS), 32);
+    desk.done(ViewSize { offset: 48 }, 264);
+    desk.refused(GiveBack { offset: 312 }, 10);
+}
+
+/// Offset 48 is 5 for each call that takes one, and no roll has it.
+fn all_refuse_5(desk: &mut Desk) {
+    let offset = 48;
+    desk.refused(GiveBack { offset }, 5);
+    desk.refused(Resize { offset, size: 500 }, 5);
+    desk.refused(ViewSize { offset }, 5);
+    desk.refused(Write { offset, length: 0, first: 0 }, 5);
+    assert_eq!(desk.view(offset), (0, 0));
+    desk.stand_in(offset, Text(6, b'z'), Place::Phrase(0, 6));
+    desk.done(RollCall { words: 0 }, 0);
+}
+
+/// No step reads or writes them, so that a bad one is no 6 and stays. In eight word 36 is the head of class 32.
+fn w211_heads(calls: &mut dyn Calls) {
+    for word in [0, u32::MAX] {
+        let mut desk = Desk::sixteen(calls, 1, 4);
+        desk.heap.books[36..68].fill(word);
+        for (size, offset) in [(512, 48), (512, 560), (16, 4144), (264, 8240), (272, 8512)] {
+            desk.done(Ask { size }, offset);
+        }
+        desk.done(Resize { offset: 48, size: 500 }, 48);
+        desk.done(Resize { offset: 48, size: 300 }, 12_336);
+        desk.done(GiveBack { offset: 560 }, 560);
+        desk.done(Ask { size: 505 }, 560);
+        assert_eq!(desk.heap.books[36..68], [word; 32]);
+    }
+    let mut desk = Desk::fresh(calls, 1, 4);
+    *desk.books(36) = u32::MAX;
+    desk.done(Ask { size: 256 }, 48);
+    desk.refused(Ask { size: 257 }, 6);
+}
+
+/// 56, 72 and 88 are starts of blocks of 8 alone: neither live nor freeblock, link or nextoffset. 3,632 would be the
+/// eighth start of 512, but its block would run past the pool.
+fn w211_starts(calls: &mut dyn Calls) {
+    let mut desk = Desk::sixteen(calls, 1, 2);
+    desk.done(Ask { size: 16 }, 48);
+    desk.done(Ask { size: 16 }, 64);
+    for freeblock in [56, 72, 88, 4088] {
+        *desk.pool(0, FREEBLOCK) = freeblock;
+        desk.refused(GiveBack { offset: 48 }, 6);
+        desk.refused(Ask { size: 16 }, 6);
+    }
+    *desk.pool(0, FREEBLOCK) = 80;
+    desk.set_link(80, 88);
+    desk.refused(Ask { size: 16 }, 6);
+    desk.set_link(80, 0);
+    *desk.pool(0, NEXTOFFSET) = 104;
+    desk.refused(Ask { size: 16 }, 6);
+    *desk.pool(0, NEXTOFFSET) = 96;
+    desk.done(Ask { size: 16 }, 80);
+
+    desk.done(Ask { size: 512 }, 4144);
+    desk.all_bits(u64::MAX);
+    for offset in [56, 72, 88, 4088, 4096 + 3632] {
+        desk.refused(GiveBack { offset }, 5);
+    }
+}
+
 /// The block would be live but for A and P, or for the lengths.
 fn w214(calls: &mut dyn Calls) {
     fn stands_in(desk: &mut Desk, number: u32) {
@@ -442,8 +712,8 @@ fn r22(calls: &mut dyn Calls) {
 fn r23(calls: &mut dyn Calls) {
     let mut desk = Desk::fresh(calls, 1, 2);
     let far = 1 << 32;
-    desk.refused(Format { arenas: far + 1, pools: 2 }, 1);
-    desk.refused(Format { arenas: 1, pools: far + 2 }, 1);
+    desk.refused(Format { arenas: far + 1, pools: 2, edition: 0 }, 1);
+    desk.refused(Format { arenas: 1, pools: far + 2, edition: 0 }, 1);
     desk.refused(Ask { size: far + 8 }, 3);
     desk.done(Ask { size: 8 }, 48);
     desk.refused(GiveBack { offset: far + 48 }, 5);

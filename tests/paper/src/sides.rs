@@ -1,5 +1,5 @@
-//! The two sides of each clause of W-206's split of 5, by name, so that a run can say how often it met each of them.
-//! They are told from the buffers alone, beside the number that a program gave there.
+//! The two sides of each clause of W-206's split of 5, by name, so that a run can say how often it met each of them, in
+//! each edition. They are told from the buffers alone, beside the number that a program gave there.
 
 use crate::steps::Buffers;
 
@@ -10,6 +10,7 @@ pub struct Seen {
     pool: usize,
     number: usize,
     pools: usize,
+    alignment: usize,
     /// Where in the pool it lies.
     place: usize,
     class: usize,
@@ -19,7 +20,7 @@ pub struct Seen {
 }
 
 impl Seen {
-    /// In a heap whose A, P and lengths are right.
+    /// In a heap whose A, P, edition and lengths are right.
     pub fn new(heap: &Buffers, offset: usize) -> Option<Seen> {
         let word = |at: usize| heap.books[at] as usize;
         let (arenas, pools, pool) = (word(0), word(1), offset / 4096);
@@ -30,11 +31,17 @@ impl Seen {
         let (class, nextoffset) = (word(pool_record + 4), word(pool_record + 5));
         let (open, mark) = (word(arena_record), word(arena_record + 1));
         let (number, place) = (pool % pools, offset % 4096);
-        Some(Seen { offset, pool, number, pools, place, class, open, mark, nextoffset })
+        let alignment = if word(68) == 1 { 16 } else { 8 };
+        Some(Seen { offset, pool, number, pools, alignment, place, class, open, mark, nextoffset })
     }
 
     fn size(&self) -> usize {
-        8 * (self.class + 1)
+        self.alignment * (self.class + 1)
+    }
+
+    /// 63, or 31 in sixteen.
+    fn last_class(&self) -> usize {
+        512 / self.alignment - 1
     }
 
     /// Whether the place is a whole number of blocks from the first one, in the pool or past it.
@@ -42,12 +49,12 @@ impl Seen {
         self.place >= 48 && (self.place - 48) % self.size() == 0
     }
 
-    /// The clauses of 10, in this order: class, block start, open word, mark, nextoffset. Above class 64, where blocks
-    /// would soon be larger than a pool, only 48 is taken for a start.
+    /// The clauses of 10, in this order: class, block start, open word, mark, nextoffset. Further above the last class,
+    /// where blocks would soon be larger than a pool, only 48 is taken for a start.
     fn kept(&self) -> [bool; 5] {
-        let fits = self.place + self.size() <= 4096;
-        let start = if self.class <= 64 { self.on_grid() && fits } else { self.place == 48 };
-        [self.class <= 63, start, self.open == 1, self.number < self.mark, self.place < self.nextoffset]
+        let (fits, last) = (self.place + self.size() <= 4096, self.last_class());
+        let start = if self.class <= last + 1 { self.on_grid() && fits } else { self.place == 48 };
+        [self.class <= last, start, self.open == 1, self.number < self.mark, self.place < self.nextoffset]
     }
 
     /// Whether this clause is the only one that is broken.
@@ -67,9 +74,9 @@ pub type Side = (&'static str, u32, fn(&Seen) -> bool);
 
 /// Where 5 is given, one clause alone is broken.
 pub const SIDES: &[Side] = &[
-    ("10: class 63", 10, |seen| seen.class == 63),
-    ("5: but for class 64", 5, |seen| seen.but_for(CLASS) && seen.class == 64),
-    ("5: but for a class above 64", 5, |seen| seen.but_for(CLASS) && seen.class > 64),
+    ("10: the last class", 10, |seen| seen.class == seen.last_class()),
+    ("5: but for the class after the last", 5, |seen| seen.but_for(CLASS) && seen.class == seen.last_class() + 1),
+    ("5: but for a class further on", 5, |seen| seen.but_for(CLASS) && seen.class > seen.last_class() + 1),
     ("10: the pool's first block", 10, |seen| seen.place == 48),
     ("10: the pool's last block", 10, |seen| seen.place + 2 * seen.size() > 4096),
     ("5: but for a place in the first 48 bytes", 5, |seen| seen.but_for(START) && seen.place < 48),

@@ -8,7 +8,7 @@ use crate::{Answer, Calls, Lent, LentPhrase, Place};
 /// A call with its arguments. A text is said by its length and first byte; a roll by how many words it has.
 #[derive(Clone, Copy, Debug, PartialEq, Eq)]
 pub enum Call {
-    Format { arenas: usize, pools: usize },
+    Format { arenas: usize, pools: usize, edition: usize },
     Ask { size: usize },
     GiveBack { offset: usize },
     Resize { offset: usize, size: usize },
@@ -147,6 +147,11 @@ impl Buffers {
         Buffers { memory, books, map, roll: Vec::new(), phrase: Vec::new(), lent }
     }
 
+    /// How many elements of memory, books and map are lent.
+    pub fn lent(&self) -> [usize; 3] {
+        self.lent
+    }
+
     pub fn lend(&mut self) -> Lent<'_> {
         let [memory, books, map] = self.lent;
         Lent { memory: &mut self.memory[..memory], books: &mut self.books[..books], map: &mut self.map[..map] }
@@ -168,7 +173,7 @@ impl Buffers {
 
     fn call(&mut self, calls: &mut dyn Calls, call: Call) -> Outcome {
         let answer = match call {
-            Call::Format { arenas, pools } => calls.format(self.lend(), arenas, pools),
+            Call::Format { arenas, pools, edition } => calls.format(self.lend(), arenas, pools, edition),
             Call::Ask { size } => calls.ask(self.lend(), size),
             Call::GiveBack { offset } => calls.give_back(self.lend(), offset),
             Call::Resize { offset, size } => calls.resize(self.lend(), offset, size),
@@ -249,7 +254,8 @@ pub fn word_name(at: usize, arenas: usize) -> String {
         2 => "usable head".into(),
         3 => "unused head".into(),
         4..=67 => format!("head of class {}", at - 4),
-        68..=71 => "spare".into(),
+        68 => "edition".into(),
+        69..=71 => "spare".into(),
         _ if at < 72 + 8 * arenas => format!("arena {}: {}", (at - 72) / 8, ARENA[at % 8]),
         _ => format!("pool {}: {}", (at - 72) / 8 - arenas, POOL[at % 8]),
     }
@@ -258,7 +264,9 @@ pub fn word_name(at: usize, arenas: usize) -> String {
 impl fmt::Display for Call {
     fn fmt(&self, f: &mut fmt::Formatter) -> fmt::Result {
         match self {
-            Call::Format { arenas, pools } => write!(f, "format, A = {arenas}, P = {pools}"),
+            Call::Format { arenas, pools, edition } => {
+                write!(f, "format, A = {arenas}, P = {pools}, edition {edition}")
+            }
             Call::Ask { size } => write!(f, "ask {size}"),
             Call::GiveBack { offset } => write!(f, "give back {offset}"),
             Call::Resize { offset, size } => write!(f, "resize {offset} to {size}"),

@@ -72,8 +72,9 @@ fn against(other: &mut dyn Calls, wanted: &Wanted) -> ExitCode {
         Ok(()) => {
             let seconds = begun.elapsed().as_secs_f32();
             println!(
-                "the library and the paper agree on {} calls over {} heaps ({seconds:.0} s)",
-                tally.calls, tally.heaps
+                "the library and the paper agree on {} calls over {} heaps of edition eight and {} of sixteen \
+                 ({seconds:.0} s)",
+                tally.calls, tally.heaps[0], tally.heaps[1]
             );
             ExitCode::SUCCESS
         }
