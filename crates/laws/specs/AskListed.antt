@@ -18,13 +18,13 @@ use Rattle.rules.specs.Books.{Heap, at, putMapBit, classHead, pool, none?, offs
 use Rattle.rules.specs.Blocks.{sizeOf, lastClass, startOf, lastStart, blockNo, capacity, linkAt}
 use Rattle.rules.specs.Ask.{frontOf, planAsk, spare, fromListed, fromFreeblock, noLink, afterAsk, askAnswer}
 use Rattle.books.specs.Starts.{start-is, number-is}
+use Rattle.books.specs.Sizes.{Aligned, size-low, size-high, capacity-high}
 use Rattle.laws.specs.Update.{to, to-other, to-cong}
 use Rattle.laws.specs.Sequences.{erase}
 use Rattle.laws.specs.Families.{At}
 use Rattle.laws.specs.Books.{View, Books, put-pool, pool-may-leave, pool-leaves, poolTo, homeTo, listedTo}
 use Rattle.laws.specs.Plain.{Plain, count, carved, setChain, setLive, setVirgin, setListed}
 use Rattle.laws.specs.Counting.{many-has}
-use Rattle.laws.specs.Sizes.{Aligned, size-low, size-high, capacity-high}
 use Rattle.laws.specs.Chains.{Blocks, room, taken, extended, block-ends}
 use Rattle.laws.specs.Sound.{home, Sound}
 use Rattle.laws.specs.Held.{Says, Held, held, sound, listed-is, home-listed, home-full, InClassOf, classed}

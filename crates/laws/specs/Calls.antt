@@ -10,13 +10,13 @@ use native.Mathlib.Decide.{ℕ-discrete}
 use native.Mathlib.Omega.{arith}
 use lib.Dec.{leb, ltb, eqb}
 use lib.ListN.{length}
-use borrow.Author.Tests.{eq-eqb, ne-eqb, le-leb, le-ltb, leb-true}
+use borrow.Author.Tests.{eq-eqb, ne-eqb, le-leb, lt-ltb, leb-true}
 use Rattle.rules.specs.declared.AskPlan.{AskPlan}
 use Rattle.rules.specs.declared.AskPlan.the-variants.{NoRoom}
 use Rattle.rules.specs.declared.BackPlan.{BackPlan}
 use Rattle.rules.specs.declared.BackPlan.the-variants.{Joins, Stays, Empties, Returns, Releases}
 use Rattle.rules.specs.Say.{if_then_else_}
-use Rattle.rules.specs.Books.{Heap}
+use Rattle.rules.specs.Books.{Heap, editionWord}
 use Rattle.rules.specs.Blocks.{
   classOf,
   sizeOf,
@@ -33,7 +33,10 @@ use Rattle.rules.specs.Ask.{askStep, askAnswer, afterAsk}
 use Rattle.rules.specs.GiveBack.{backStep, backAnswer, afterBack}
 use Rattle.rules.specs.View.{part}
 use Rattle.rules.specs.Numbers.{
-  fitNumber,
+  rangeNumber,
+  editionNumber,
+  lengthNumber,
+  reachNumber,
   shapeNumber,
   sizeNumber,
   inOrder,
@@ -47,6 +50,7 @@ use Rattle.rules.specs.Numbers.{
 }
 use Rattle.books.specs.Known.{shaped}
 use Rattle.books.specs.Tests.{either}
+use Rattle.books.specs.Sizes.{Aligned, has-class}
 use Rattle.laws.specs.Update.{to}
 use Rattle.laws.specs.Plain.{
   Plain,
@@ -62,7 +66,6 @@ use Rattle.laws.specs.Plain.{
   askPlain,
   backPlain,
 }
-use Rattle.laws.specs.Sizes.{Aligned, has-class}
 use Rattle.laws.specs.Sound.{Sound}
 use Rattle.laws.specs.Paths.{Asked, Backed}
 use Rattle.laws.specs.Emptied.{back-any}
@@ -84,10 +87,18 @@ use Rattle.laws.specs.Holding.{
 
 -- rule 1: no 1 or 2
 pub shape-zero : {al A P : ℕ} {h : Heap} {r : Plain} → Sound al A P h r → shapeNumber h ≡ 0
-unfolding shapeNumber fitNumber
+unfolding shapeNumber rangeNumber editionNumber lengthNumber reachNumber
 shape-zero {al} {A} {P} {h} S =
     let K = shaped h A P (S .rule1 .range) (S .rule1 .lengths) in
-    rw (le-ltb (length (h .books)) 2 (omega (arith, K .books)), S .rule1 .arenas-are, S .rule1 .pools-are, S .rule1 .range, S .rule1 .lengths)
+    rw (
+      lt-ltb 1 (length (h .books)) (omega (arith, K .books)),
+      lt-ltb editionWord (length (h .books)) (omega (arith, K .books)),
+      S .rule1 .arenas-are,
+      S .rule1 .pools-are,
+      S .rule1 .range,
+      S .rule1 .an-edition,
+      S .rule1 .lengths,
+    )
 
 -- ---- the live test: 0 lets the call go on, and an offset that is not live gets 5 or 10
 module _ (al A P : ℕ) (b : List ℕ) (o : ℕ) where
@@ -118,20 +129,20 @@ module _ (al A P : ℕ) (b : List ℕ) (o : ℕ) where
 module _ {al A P : ℕ} {h : Heap} {r : Plain} (S : Sound al A P h r) (o : ℕ) where
   -- the tests of a call on an offset come to the live test
   pub by-live : {X : Type 0} (refusal : ℕ → X) (rest : X)
-      → passing (offsetTests al h o) refusal rest
+      → passing (offsetTests h o) refusal rest
       ≡ (if live al A P (h .books) (h .map) o then rest else refusal (deadNumber al A P (h .books) o))
   by-live refusal rest =
-      rw (shape-zero S, S .rule1 .arenas-are, S .rule1 .pools-are) (live-test al A P (h .books) o (h .map) refusal rest)
+      rw (shape-zero S, S .rule1 .alignment-is, S .rule1 .arenas-are, S .rule1 .pools-are) (live-test al A P (h .books) o (h .map) refusal rest)
 
-  pub view-is : view al h o ≡ holding al A P h o
+  pub view-is : view h o ≡ holding al A P h o
   unfolding view holding
-  view-is = by-live (λ k. []) (part o (blockSize al h o) (h .memory)) ∙ rw (S .rule1 .arenas-are)
+  view-is = by-live (λ k. []) (part o (blockSize h o) (h .memory)) ∙ rw (S .rule1 .alignment-is, S .rule1 .arenas-are)
 
-  pub view-size-is : viewSize al h o
+  pub view-size-is : viewSize h o
       ≡ (if live al A P (h .books) (h .map) o then sizedOf 0 (sizeAt al A (h .books) o)
       else sizedOf (deadNumber al A P (h .books) o) 0)
   unfolding viewSize
-  view-size-is = by-live (λ k. sizedOf k 0) (sizedOf 0 (blockSize al h o)) ∙ rw (S .rule1 .arenas-are)
+  view-size-is = by-live (λ k. sizedOf k 0) (sizedOf 0 (blockSize h o)) ∙ rw (S .rule1 .alignment-is, S .rule1 .arenas-are)
 
 -- ---- the plain heap's ask is done, or finds no room
 -- it finds none only with its three lists empty
@@ -175,7 +186,7 @@ done-or-not al P r c = by-class (r .listed c) refl
 
 -- ---- ask
 module _ {al A P : ℕ} {h : Heap} {r : Plain} (L : Aligned al) (S : Sound al A P h r) (n : ℕ) where
-  pub ask-size : sizeNumber n ≡ 3 → ask al h n ≡ refused 3 h
+  pub ask-size : sizeNumber n ≡ 3 → ask h n ≡ refused 3 h
   unfolding ask
   ask-size e = rw (shape-zero S, e)
 
@@ -184,17 +195,26 @@ module _ {al A P : ℕ} {h : Heap} {r : Plain} (L : Aligned al) (S : Sound al A 
     ask-done = ask-any L S (classOf al n) (has-class L n high)
 
     -- an ask answers number and offset as the plain heap does
-    pub ask-is : ask al h n
+    pub ask-is : ask h n
         ≡ outcome (askAnswer (plainAsk al P r (classOf al n)))
         (afterAsk al A P (classOf al n) (plainAsk al P r (classOf al n)) h)
     unfolding ask askStep sizeNumber
-    ask-is = rw (shape-zero S, le-leb 1 n low, le-leb n 512 high, S .rule1 .arenas-are, S .rule1 .pools-are, ask-done .plan-is)
+    ask-is =
+        rw (
+          shape-zero S,
+          le-leb 1 n low,
+          le-leb n 512 high,
+          S .rule1 .alignment-is,
+          S .rule1 .arenas-are,
+          S .rule1 .pools-are,
+          ask-done .plan-is,
+        )
 
     -- an ask that is done adds the block at its offset, with the bytes that stand there
     pub ask-leaves : askAnswer (plainAsk al P r (classOf al n)) .number ≡ 0
-        → Leaves al A P h (ask al h n .heap) (askPlain al P r n)
-        (to (ask al h n .answer .offset)
-        (part (ask al h n .answer .offset) (sizeOf al (classOf al n)) (ask al h n .heap .memory)) (holding al A P h))
+        → Leaves al A P h (ask h n .heap) (askPlain al P r n)
+        (to (ask h n .answer .offset)
+        (part (ask h n .answer .offset) (sizeOf al (classOf al n)) (ask h n .heap .memory)) (holding al A P h))
     ask-leaves z = rw ask-is (record { sound = ask-done .sound; holds = λ o. go o (ℕ-discrete o new); first = ask-done .quiet .first-bytes })
       where
         new : ℕ
@@ -221,15 +241,15 @@ size-number n = go (leb 1 n) (leb n 512) refl refl
 -- what holds of an ask that is refused for its size, of one that finds no room and of one that is done
 pub ask-cases : {al A P : ℕ} {h : Heap} {r : Plain} (L : Aligned al) (S : Sound al A P h r) (n : ℕ)
     (F : Outcome → Type 0) → F (refused 3 h) → F (refused 4 h)
-    → (1 ≤ n → n ≤ 512 → askAnswer (plainAsk al P r (classOf al n)) .number ≡ 0 → F (ask al h n)) → F (ask al h n)
+    → (1 ≤ n → n ≤ 512 → askAnswer (plainAsk al P r (classOf al n)) .number ≡ 0 → F (ask h n)) → F (ask h n)
 unfolding askAnswer afterAsk
 ask-cases {al} {A} {P} {h} {r} L S n F small none asked = go (size-number n)
   where
-    served : 1 ≤ n → n ≤ 512 → DoneOrNot al P r (classOf al n) → F (ask al h n)
+    served : 1 ≤ n → n ≤ 512 → DoneOrNot al P r (classOf al n) → F (ask h n)
     served lo hi (inl z) = asked lo hi z
     served lo hi (inr z) = rw (ask-is L S n lo hi, z .plan-is) none
 
-    go : ((1 ≤ n) × (n ≤ 512)) ⊎ (sizeNumber n ≡ 3) → F (ask al h n)
+    go : ((1 ≤ n) × (n ≤ 512)) ⊎ (sizeNumber n ≡ 3) → F (ask h n)
     go (inr e) = rw (ask-size L S n e) small
     go (inl t) = served (t .0) (t .1) (done-or-not al P r (classOf al n))
 
@@ -263,7 +283,7 @@ plain-back P r p j o = go (none (r .chain p)) (eqb (count r p) 1) (eqb (free P r
 
 module _ {al A P : ℕ} {h : Heap} {r : Plain} (L : Aligned al) (S : Sound al A P h r) (o : ℕ) where
   pub back-dead : live al A P (h .books) (h .map) o ≡ false
-      → giveBack al h o ≡ refused (deadNumber al A P (h .books) o) h
+      → giveBack h o ≡ refused (deadNumber al A P (h .books) o) h
   unfolding giveBack
   back-dead e = by-live S o (λ k. refused k h) _ ∙ rw e
 
@@ -280,11 +300,12 @@ module _ {al A P : ℕ} {h : Heap} {r : Plain} (L : Aligned al) (S : Sound al A 
         afterBack al A P (r .class (block-of .pool)) (block-of .pool)
         (startOf (liveSize block-of) (block-of .block)) (plainBack P r (block-of .pool) (block-of .block)) h
 
-    pub back-is : giveBack al h o ≡ outcome (answerOf 0 o) backHeap
+    pub back-is : giveBack h o ≡ outcome (answerOf 0 o) backHeap
     unfolding giveBack backStep liveNumber
     back-is =
         rw (
           shape-zero S,
+          S .rule1 .alignment-is,
           S .rule1 .arenas-are,
           S .rule1 .pools-are,
           e,
@@ -296,7 +317,7 @@ module _ {al A P : ℕ} {h : Heap} {r : Plain} (L : Aligned al) (S : Sound al A 
         )
 
     -- a give-back takes the block at its offset away
-    pub back-leaves : Leaves al A P h (giveBack al h o .heap)
+    pub back-leaves : Leaves al A P h (giveBack h o .heap)
         (backPlain P r (block-of .pool) (block-of .block)) (to o [] (holding al A P h))
     back-leaves = rw back-is (record { sound = back-done .sound; holds = λ x. go x (ℕ-discrete x o); first = back-done .quiet .first-bytes })
       where

@@ -10,7 +10,7 @@ use native.Mathlib.Nat.{mul-le-mul-right, suc-mul}
 use native.Mathlib.Decide.{ℕ-discrete}
 use native.Mathlib.Omega.{arith}
 use lib.Dec.{ltb, eqb, eqb·suc-zero}
-use lib.ListN.{length, set, replicate}
+use lib.ListN.{length, set}
 use lib.Seq.{sets}
 use borrow.Author.Tests.{ne-eqb, lt-ltb, ltb-true, eqb-true, not-false}
 use Rattle.rules.specs.Say.{if_then_else_}
@@ -18,10 +18,12 @@ use Rattle.rules.specs.Books.{
   Heap,
   inRange,
   exact,
-  mapLength,
   isSet,
   arenas,
   pools,
+  isEdition,
+  alignmentOf,
+  alignment,
   class,
   nextoffset,
   pool,
@@ -41,11 +43,9 @@ use Rattle.rules.specs.Blocks.{
   deadNumber,
   liveNumber,
 }
-use Rattle.rules.specs.Outcome.{Outcome, heapOf, refused, done, passing}
-use Rattle.rules.specs.Format.{freshBooks}
+use Rattle.rules.specs.Outcome.{Outcome, heapOf, refused, done}
 use Rattle.rules.specs.Ask.{askAnswer}
 use Rattle.rules.specs.Numbers.{
-  fitNumber,
   shapeNumber,
   roomNumber,
   inOrder,
@@ -59,14 +59,14 @@ use Rattle.rules.specs.Numbers.{
 }
 use Rattle.books.specs.Known.{shaped, at-start-is, live-is}
 use Rattle.books.specs.Tests.{both, neither, either}
+use Rattle.books.specs.Sizes.{Aligned, aligned, size-low, class-low}
 use Rattle.laws.specs.Update.{is-false, to, to-same, to-other}
 use Rattle.laws.specs.Plain.{Plain, carved, planAsk as plainAsk, askPlain, backPlain}
-use Rattle.laws.specs.Sizes.{Aligned, size-low, class-low}
 use Rattle.laws.specs.Chains.{live-below}
 use Rattle.laws.specs.Sound.{Sound}
 use Rattle.laws.specs.Held.{held, arena-low, opened, open-word, carved-word, classed}
 use Rattle.laws.specs.Holding.{holding}
-use Rattle.laws.specs.Fresh.{fresh-sound}
+use Rattle.laws.specs.Fresh.{freshHeap, fresh-sound, format-cases}
 use Rattle.laws.specs.Calls.{
   live-zero,
   ask-done,
@@ -164,7 +164,7 @@ module _ {al A P : ℕ} {h : Heap} {r : Plain} (L : Aligned al) (S : Sound al A 
       let p = o / 4096 in
       let s = sizeAt al A (h .books) o in
       let k = blockNo s (o % 4096) in
-      let t = live-is al A P (h .books) (h .map) o (L .low) (L .high) e in
+      let t = live-is L A P (h .books) (h .map) o e in
       let cut = S .rule5 p k (t .pool) (omega (arith, t .start .few)) (t .set) .in-carved in
       let on : r .live p k ≡ true = sym (S .bits p k (t .pool) (omega (arith, t .start .few))) ∙ t .set in
       let B = classed (S .rule8 p (t .pool) cut) (class-low L (classAt A (h .books) o) (t .class)) .blocks in
@@ -212,23 +212,24 @@ module _ {al A P : ℕ} {h h′ : Heap} {r r′ : Plain} (L : Aligned al) (S : S
       )
 
 -- ---- from the heap h to the heap h′ the block at o stays one, if its pool has the same class and its arena is open
-abbrev Stays : ℕ → ℕ → Heap → Heap → Type 0
-Stays al o h h′ =
-    poolClass h′ o ≡ poolClass h o → inOpenArena h′ o ≡ true → isBlock al (arenas h′) (pools h′) (h′ .books) o ≡ true
+abbrev Stays : ℕ → Heap → Heap → Type 0
+Stays o h h′ =
+    poolClass h′ o ≡ poolClass h o → inOpenArena h′ o ≡ true
+    → isBlock (alignment h′) (arenas h′) (pools h′) (h′ .books) o ≡ true
 
 -- by the shape that both heaps have
 module _ {al A P : ℕ} {h h′ : Heap} {r r′ : Plain} (S : Sound al A P h r) (S′ : Sound al A P h′ r′) (o : ℕ) where
   stays : (classAt A (h′ .books) o ≡ classAt A (h .books) o → inOpenArena h′ o ≡ true
       → isBlock al A P (h′ .books) o ≡ true)
-      → Stays al o h h′
+      → Stays o h h′
   stays f =
       λ same opens.
-      rw (S′ .rule1 .arenas-are, S′ .rule1 .pools-are) (f (rw (S .rule1 .arenas-are, S′ .rule1 .arenas-are) at same) opens)
+      rw (S′ .rule1 .alignment-is, S′ .rule1 .arenas-are, S′ .rule1 .pools-are) (f (rw (S .rule1 .arenas-are, S′ .rule1 .arenas-are) at same) opens)
 
 -- a give-back of a live block leaves every class
 back-class : {al A P : ℕ} {h : Heap} {r : Plain} (L : Aligned al) (S : Sound al A P h r) (o : ℕ) → o / 4096 < A * P
     → (x : ℕ) → live al A P (h .books) (h .map) x ≡ true
-    → classAt A (giveBack al h x .heap .books) o ≡ classAt A (h .books) o
+    → classAt A (giveBack h x .heap .books) o ≡ classAt A (h .books) o
 back-class {P = P} {r = r} L S o l x on =
     let t = block-of L S x on in
     back-leaves L S x on .sound .classes (o / 4096) l
@@ -242,7 +243,7 @@ module _ {al A P : ℕ} {h : Heap} {r : Plain} (L : Aligned al) (S : Sound al A 
   inside = block-is al A P (h .books) o e .inside
 
   -- a refusal changes nothing
-  same-stays : Stays al o h h
+  same-stays : Stays o h h
   same-stays = stays S S o (λ _ _. e)
 
   -- an ask lowers no mark, and no nextoffset but where it sets a pool to another class
@@ -253,9 +254,9 @@ module _ {al A P : ℕ} {h : Heap} {r : Plain} (L : Aligned al) (S : Sound al A 
       block-stays L S S′ o e same (G .ready-still (o / 4096) (in-carved L S o e) (plain-class L S S′ o e same))
       (G .carved-still (o / 4096) inside (in-carved L S o e))
 
-  ask-stays : (n : ℕ) → Stays al o h (ask al h n .heap)
+  ask-stays : (n : ℕ) → Stays o h (ask h n .heap)
   ask-stays n =
-      ask-cases L S n (λ (y : Outcome). Stays al o h (y .heap)) same-stays same-stays
+      ask-cases L S n (λ (y : Outcome). Stays o h (y .heap)) same-stays same-stays
       (λ lo hi z. let S′ = ask-leaves L S n lo hi z .sound in stays S S′ o (λ same _. ask-block n lo hi S′ same))
 
   -- a give-back of the live block at x leaves every nextoffset, and every mark but that of the arena that it releases
@@ -266,11 +267,11 @@ module _ {al A P : ℕ} {h : Heap} {r : Plain} (L : Aligned al) (S : Sound al A 
     abbrev k : ℕ
     k = block-of L S x on .block
 
-    S₁ : Sound al A P (giveBack al h x .heap) (backPlain P r p k)
+    S₁ : Sound al A P (giveBack h x .heap) (backPlain P r p k)
     S₁ = back-leaves L S x on .sound
 
-    back-block : inOpenArena (giveBack al h x .heap) o ≡ true
-        → isBlock al A P (giveBack al h x .heap .books) o ≡ true
+    back-block : inOpenArena (giveBack h x .heap) o ≡ true
+        → isBlock al A P (giveBack h x .heap .books) o ≡ true
     back-block opens =
         let z = plain-back P r p k x in
         block-stays L S S₁ o e (back-class L S o inside x on) (omega (arith, ap (λ (f : ℕ → ℕ). f (o / 4096)) (z .3))) (cut (z .4))
@@ -293,27 +294,27 @@ module _ {al A P : ℕ} {h : Heap} {r : Plain} (L : Aligned al) (S : Sound al A 
         cut (inl q) = same-mark (ap (λ (f : ℕ → ℕ). f a) q)
         cut (inr q) = same-mark (other (ℕ-discrete a (p / P)) (sym (ap (λ (f : ℕ → ℕ). f a) q)))
 
-  back-stays : (x : ℕ) → Stays al o h (giveBack al h x .heap)
+  back-stays : (x : ℕ) → Stays o h (giveBack h x .heap)
   back-stays x = go (live al A P (h .books) (h .map) x) refl
     where
-      go : (t : Bool) → live al A P (h .books) (h .map) x ≡ t → Stays al o h (giveBack al h x .heap)
+      go : (t : Bool) → live al A P (h .books) (h .map) x ≡ t → Stays o h (giveBack h x .heap)
       go true on = stays S (back-leaves L S x on .sound) o (λ _. back-block x on)
       go false off = rw (back-dead L S x off) same-stays
 
 -- a resize is an ask, a copy, which leaves the books, and a give-back, which leaves the classes
 module _ {al A P : ℕ} {h : Heap} {r : Plain} (L : Aligned al) (S : Sound al A P h r)
     (o : ℕ) (e : isBlock al A P (h .books) o ≡ true) (x n : ℕ) where
-  resize-stays : Stays al o h (resize al h x n .heap)
+  resize-stays : Stays o h (resize h x n .heap)
   resize-stays =
-      resize-cases L S x n (λ (y : Outcome). Stays al o h (y .heap)) here here here here
+      resize-cases L S x n (λ (y : Outcome). Stays o h (y .heap)) here here here here
       (λ lo hi on q z. rw (resize-moves L S x n lo hi on z q) (moves lo hi on z))
     where
-      here : Stays al o h h
+      here : Stays o h h
       here = same-stays L S o e
 
       moves : (lo : 1 ≤ n) (hi : n ≤ 512) (on : live al A P (h .books) (h .map) x ≡ true)
           (z : askAnswer (plainAsk al P r (classOf al n)) .number ≡ 0)
-          → Stays al o h (giveBack al (copied L S x n lo hi on z) x .heap)
+          → Stays o h (giveBack (copied L S x n lo hi on z) x .heap)
       moves lo hi on z = stays S (back-leaves L C x on₁ .sound) o go
         where
           C : Sound al A P (copied L S x n lo hi on z) (askPlain al P r n)
@@ -322,55 +323,51 @@ module _ {al A P : ℕ} {h : Heap} {r : Plain} (L : Aligned al) (S : Sound al A 
           on₁ : live al A P (copied L S x n lo hi on z .books) (copied L S x n lo hi on z .map) x ≡ true
           on₁ = still-live L S x n lo hi on z
 
-          go : classAt A (giveBack al (copied L S x n lo hi on z) x .heap .books) o ≡ classAt A (h .books) o
-              → inOpenArena (giveBack al (copied L S x n lo hi on z) x .heap) o ≡ true
-              → isBlock al A P (giveBack al (copied L S x n lo hi on z) x .heap .books) o ≡ true
+          go : classAt A (giveBack (copied L S x n lo hi on z) x .heap .books) o ≡ classAt A (h .books) o
+              → inOpenArena (giveBack (copied L S x n lo hi on z) x .heap) o ≡ true
+              → isBlock al A P (giveBack (copied L S x n lo hi on z) x .heap .books) o ≡ true
           go same opens =
               let l = block-is al A P (h .books) o e .inside in
               back-block L C o (ask-block L S o e n lo hi C (sym (back-class L C o l x on₁) ∙ same)) x on₁ opens
 
 -- ---- every event
-module _ {al : ℕ} (L : Aligned al) (m₀ : List ℕ) {x : State} (T : Tied al m₀ x)
-    (o : ℕ) (b : isBlock al (T .A) (T .P) (x .heap .books) o ≡ true) where
-  here : Stays al o (x .heap) (x .heap)
+module _ (m₀ : List ℕ) {x : State} (T : Tied m₀ x)
+    (o : ℕ) (b : isBlock (alignmentOf (x .told)) (T .A) (T .P) (x .heap .books) o ≡ true) where
+  L : Aligned (alignmentOf (x .told))
+  L = aligned (x .told)
+
+  here : Stays o (x .heap) (x .heap)
   here = same-stays L (T .sound) o b
 
   -- a format that is done closes every arena
-  format-stays : (A P : ℕ) → Stays al o (x .heap) (format (x .heap) A P .heap)
-  unfolding format fitNumber
-  format-stays A P = go (inRange A P) (exact A P (x .heap)) refl refl
+  format-stays : (A P e : ℕ) → Stays o (x .heap) (format (x .heap) A P e .heap)
+  format-stays A P e =
+      format-cases (x .heap) A P e (λ (y : Outcome). Stays o (x .heap) (y .heap)) here here
+      (λ range known f _ opens. absurd (true≢false (sym opens ∙ shut range known f)))
     where
-      made : Heap
-      made = heapOf (x .heap .memory) (freshBooks A P) (replicate (mapLength A P) 0)
-
-      shut : inRange A P ≡ true → exact A P (x .heap) ≡ true → inOpenArena made o ≡ false
-      shut e f =
-          let long = shaped (x .heap) A P e f .memory in
-          let l = block-is al (T .A) (T .P) (x .heap .books) o b .inside in
-          open-is L (fresh-sound al A P L (x .heap .memory) e long) o (omega (arith, long, l, held (T .sound) .says .bytes))
-
-      go : (t u : Bool) → inRange A P ≡ t → exact A P (x .heap) ≡ u
-          → Stays al o (x .heap)
-          (passing (if not t then 1 else if not u then 2 else 0) (λ k. refused k (x .heap)) (done 0 made) .heap)
-      go false u e f = here
-      go true false e f = here
-      go true true e f = λ _ opens. absurd (true≢false (sym opens ∙ shut e f))
+      shut : inRange A P ≡ true → isEdition e ≡ true → exact A P (x .heap) ≡ true
+          → inOpenArena (freshHeap (x .heap .memory) A P e) o ≡ false
+      shut range known f =
+          let long = shaped (x .heap) A P range f .memory in
+          let l = block-is (alignmentOf (x .told)) (T .A) (T .P) (x .heap .books) o b .inside in
+          open-is (aligned e) (fresh-sound A P e (x .heap .memory) range known long) o
+          (omega (arith, long, l, held (T .sound) .says .bytes))
 
   -- a write and a holder's byte change memory alone
-  memory-stays : (m : List ℕ) → Stays al o (x .heap) (heapOf m (x .heap .books) (x .heap .map))
-  memory-stays m = λ _ _. rw (T .sound .rule1 .arenas-are, T .sound .rule1 .pools-are) b
+  memory-stays : (m : List ℕ) → Stays o (x .heap) (heapOf m (x .heap .books) (x .heap .map))
+  memory-stays m = λ _ _. let shape = T .sound .rule1 in rw (shape .alignment-is, shape .arenas-are, shape .pools-are) b
 
-  write-stays : (y : ℕ) (text : List ℕ) → Stays al o (x .heap) (write al (x .heap) y text .heap)
+  write-stays : (y : ℕ) (text : List ℕ) → Stays o (x .heap) (write (x .heap) y text .heap)
   unfolding write
   write-stays y text =
-      tested (λ (z : Outcome). Stays al o (x .heap) (z .heap)) (x .heap)
-      (inOrder (shapeNumber (x .heap)) 0 (offsetNumber al (x .heap) y) (roomNumber (length text) (blockSize al (x .heap) y)))
+      tested (λ (z : Outcome). Stays o (x .heap) (z .heap)) (x .heap)
+      (inOrder (shapeNumber (x .heap)) 0 (offsetNumber (x .heap) y) (roomNumber (length text) (blockSize (x .heap) y)))
       (done y (heapOf (sets (x .heap .memory) y text) (x .heap .books) (x .heap .map)))
       (λ j. here) (λ _. memory-stays (sets (x .heap .memory) y text))
 
-  pub event-stays : (e : Event) → Stays al o (x .heap) (after al x e .heap)
+  pub event-stays : (e : Event) → Stays o (x .heap) (after x e .heap)
   unfolding after
-  event-stays (formats A P) = format-stays A P
+  event-stays (formats A P e) = format-stays A P e
   event-stays (asks n) = ask-stays L (T .sound) o b n
   event-stays (gives y) = back-stays L (T .sound) o b y
   event-stays (resizes y n) = resize-stays L (T .sound) o b y n
@@ -380,12 +377,12 @@ module _ {al : ℕ} (L : Aligned al) (m₀ : List ℕ) {x : State} (T : Tied al 
   event-stays (writes y text) = write-stays y text
   event-stays (rolls words) = here
   event-stays (pokes y d v) =
-      either (λ (s : State). Stays al o (x .heap) (s .heap)) (ltb d (length (x .ledger y))) _ _
+      either (λ (s : State). Stays o (x .heap) (s .heap)) (ltb d (length (x .ledger y))) _ _
       (λ _. memory-stays (set (x .heap .memory) (y + d) v)) (λ _. here)
 
 -- ---- which number an offset gets
 module _ {al A P : ℕ} {h : Heap} {r : Plain} (L : Aligned al) (S : Sound al A P h r) (o : ℕ) where
-  number-is : (k : ℕ) → giveBack al h o .answer .number ≡ k → liveNumber al A P (h .books) (h .map) o ≡ k
+  number-is : (k : ℕ) → giveBack h o .answer .number ≡ k → liveNumber al A P (h .books) (h .map) o ≡ k
   unfolding liveNumber
   number-is k z = go (live al A P (h .books) (h .map) o) refl
     where
@@ -394,10 +391,10 @@ module _ {al A P : ℕ} {h : Heap} {r : Plain} (L : Aligned al) (S : Sound al A 
       go false e = sym (ap (λ (y : Outcome). y .answer .number) (back-dead L S o e)) ∙ z
 
   -- 0: it is live. 10: it is not live, and there is a block
-  pub done-live : giveBack al h o .answer .number ≡ 0 → live al A P (h .books) (h .map) o ≡ true
+  pub done-live : giveBack h o .answer .number ≡ 0 → live al A P (h .books) (h .map) o ≡ true
   done-live z = live-zero al A P (h .books) o (h .map) (number-is 0 z)
 
-  pub ten-block : giveBack al h o .answer .number ≡ 10 → isBlock al A P (h .books) o ≡ true
+  pub ten-block : giveBack h o .answer .number ≡ 10 → isBlock al A P (h .books) o ≡ true
   unfolding liveNumber
   ten-block z = go (live al A P (h .books) (h .map) o) (isBlock al A P (h .books) o) (number-is 10 z)
     where
@@ -407,17 +404,17 @@ module _ {al A P : ℕ} {h : Heap} {r : Plain} (L : Aligned al) (S : Sound al A 
       go false false q = absurd (omega arith)
 
   pub block-ten : live al A P (h .books) (h .map) o ≡ false → isBlock al A P (h .books) o ≡ true
-      → giveBack al h o .answer .number ≡ 10
+      → giveBack h o .answer .number ≡ 10
   block-ten e b = ap (λ (y : Outcome). y .answer .number) (back-dead L S o e) ∙ rw b
 
   -- a second give-back, right after the first
   pub twice : live al A P (h .books) (h .map) o ≡ true
-      → giveBack al (giveBack al h o .heap) o
-      ≡ refused (if released h (giveBack al h o .heap) o then 5 else 10) (giveBack al h o .heap)
+      → giveBack (giveBack h o .heap) o
+      ≡ refused (if released h (giveBack h o .heap) o then 5 else 10) (giveBack h o .heap)
   twice on = back-dead L S₁ o off ∙ ap (λ (k : ℕ). refused k once) (by-arena (inOpenArena once o) refl)
     where
       once : Heap
-      once = giveBack al h o .heap
+      once = giveBack h o .heap
 
       S₁ : Sound al A P once (backPlain P r (block-of L S o on .pool) (block-of L S o on .block))
       S₁ = back-leaves L S o on .sound
@@ -447,10 +444,10 @@ pub record NotEnded (x y : State) (o : ℕ) : Type 0 where
   pub class : poolClass (y .heap) o ≡ poolClass (x .heap) o
   pub arena : inOpenArena (x .heap) o ≡ true → inOpenArena (y .heap) o ≡ true
 
-pub not-ended : (al : ℕ) (x : State) (e : Event) (o : ℕ) → ended al x e o ≡ false → NotEnded x (after al x e) o
+pub not-ended : (x : State) (e : Event) (o : ℕ) → ended x e o ≡ false → NotEnded x (after x e) o
 unfolding ended
-not-ended al x e o n =
-    let y = after al x e in
+not-ended x e o n =
+    let y = after x e in
     let t = neither (not (eqb (length (y .ledger o)) 0) || not (eqb (poolClass (y .heap) o) (poolClass (x .heap) o))) _ n in
     let u = neither (not (eqb (length (y .ledger o)) 0)) _ (t .0) in
     record {

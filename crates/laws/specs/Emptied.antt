@@ -22,6 +22,7 @@ use Rattle.rules.specs.Lists.{leave, join, mayLeave, mayJoin, arenaLinks, poolL
 use Rattle.rules.specs.GiveBack.{_⇛_, planBack, emptying, afterBack}
 use Rattle.books.specs.Starts.{start-is, number-is}
 use Rattle.books.specs.Known.{in-range}
+use Rattle.books.specs.Sizes.{Aligned, capacity-high, capacity-low}
 use Rattle.laws.specs.Update.{to, to-same, to-other, to-cong}
 use Rattle.laws.specs.Sequences.{erase}
 use Rattle.laws.specs.Families.{head-link, stack-link}
@@ -46,7 +47,6 @@ use Rattle.laws.specs.Books.{
 }
 use Rattle.laws.specs.Plain.{Plain, count, inUse, carved, free, setChain, setLive, setListed, setFreed, setUsable, setUnused, setMark}
 use Rattle.laws.specs.Counting.{many-more, many-le, all-many, none-many}
-use Rattle.laws.specs.Sizes.{Aligned, capacity-high, capacity-low}
 use Rattle.laws.specs.Chains.{Blocks, live-below}
 use Rattle.laws.specs.Sound.{home, Sound}
 use Rattle.laws.specs.Held.{

@@ -4,7 +4,7 @@
 -- Assumes nothing.
 use mathlib.Core.Path.{_≡_, refl, ap, _∙_}
 use mathlib.Core.Logic.{_⊎_, inl, inr}
-use mathlib.Core.Bool.{Bool, true, false, not}
+use mathlib.Core.Bool.{Bool, true, false}
 use mathlib.Core.List.{List}
 use Prim.Native.Nat.{ℕ, zero, suc, _+_, _/_, _%_, _≤_, _<_, min}
 use native.Mathlib.Nat.{min-le-left}
@@ -20,13 +20,15 @@ use Rattle.rules.specs.declared.AskPlan.the-variants.{NoRoom, Damaged, Follow, 
 use Rattle.rules.specs.declared.BackPlan.{BackPlan}
 use Rattle.rules.specs.declared.BackPlan.the-variants.{Damaged as Broken, Joins, Stays, Empties, Returns, Releases}
 use Rattle.rules.specs.Say.{if_then_else_}
-use Rattle.rules.specs.Books.{Heap, at, inRange, exact, arenas, pools, offsetOf}
+use Rattle.rules.specs.Books.{Heap, at, inRange, arenas, pools, edition, alignment, offsetOf}
 use Rattle.rules.specs.Blocks.{classOf, sizeOf, lastClass, putLink, classAt, sizeAt, live, liveNumber}
 use Rattle.rules.specs.Outcome.{Outcome, heapOf, outcome, answerOf, done, refused, passing}
 use Rattle.rules.specs.Ask.{planAsk, takeFrom, arenaOf, spend, afterAsk, askAnswer, askStep}
 use Rattle.rules.specs.GiveBack.{afterBack, backStep}
 use Rattle.rules.specs.Resize.{keeps, copy, giveOld, halfDone, moved, resizeStep}
 use Rattle.rules.specs.Numbers.{
+  rangeNumber,
+  reachNumber,
   fitNumber,
   shapeNumber,
   sizeNumber,
@@ -43,10 +45,10 @@ use Rattle.rules.specs.Numbers.{
   write,
 }
 use Rattle.books.specs.Known.{in-range, live-is}
+use Rattle.books.specs.Sizes.{Aligned, aligned, size-low, size-high, has-class, class-fits}
 use Rattle.plans.specs.Fits.{FitsAsk, fits-ask}
 use Rattle.laws.specs.Bytes.{sets-off}
 use Rattle.laws.specs.Chains.{first-outside, put-link-other}
-use Rattle.laws.specs.Sizes.{Aligned, size-low, size-high, has-class, class-fits}
 use Rattle.laws.specs.Taken.{spend-is}
 use Rattle.laws.specs.Calls.{live-zero, size-number}
 use Rattle.laws.specs.Refused.{tested}
@@ -116,15 +118,19 @@ before-zero : (j k : ℕ) → (j before k) ≡ 0 → (j ≡ 0) × (k ≡ 0)
 before-zero zero k e = (refl, e)
 before-zero (suc j) k e = absurd (omega arith)
 
-pools-some : (h : Heap) → shapeNumber h ≡ 0 → 1 ≤ pools h
-unfolding shapeNumber fitNumber
-pools-some h = go (ltb (length (h .books)) 2) (inRange (arenas h) (pools h)) refl (not (exact (arenas h) (pools h) h))
+range-some : (A P : ℕ) → rangeNumber A P ≡ 0 → 1 ≤ P
+unfolding rangeNumber
+range-some A P = go (inRange A P) refl
   where
-    go : (t u : Bool) → inRange (arenas h) (pools h) ≡ u → (v : Bool)
-        → _≡_ {A = ℕ} (if t then 2 else if not u then 1 else if v then 2 else 0) 0 → 1 ≤ pools h
-    go true u e v z = absurd (omega arith)
-    go false false e v z = absurd (omega arith)
-    go false true e v z = omega (arith, in-range (arenas h) (pools h) e .2)
+    go : (t : Bool) → inRange A P ≡ t → _≡_ {A = ℕ} (if t then 0 else 1) 0 → 1 ≤ P
+    go true e z = omega (arith, in-range A P e .2)
+    go false e z = absurd (omega arith)
+
+pools-some : (h : Heap) → shapeNumber h ≡ 0 → 1 ≤ pools h
+unfolding shapeNumber
+pools-some h z =
+    let t = before-zero (reachNumber h 1) _ z in
+    range-some (arenas h) (pools h) (before-zero (rangeNumber (arenas h) (pools h)) _ (t .1) .0)
 
 room-zero : (wanted room : ℕ) → roomNumber wanted room ≡ 0 → wanted ≤ room
 unfolding roomNumber
@@ -156,7 +162,7 @@ module _ {al : ℕ} (L : Aligned al) (A P : ℕ) (h : Heap) (o : ℕ) where
   back-live : live al A P (h .books) (h .map) o ≡ true → First (h .memory) (backStep al A P h o .heap .memory)
   unfolding backStep
   back-live e =
-      let t = live-is al A P (h .books) (h .map) o (L .low) (L .high) e in
+      let t = live-is L A P (h .books) (h .map) o e in
       back-path (classAt A (h .books) o) _ (t .start .low) (omega (arith, t .start .ends, size-low L (classAt A (h .books) o) (t .class)))
 
   give-old-first : First (h .memory) (giveOld al A P h o .heap .memory)
@@ -227,57 +233,60 @@ module _ {al : ℕ} (L : Aligned al) (A P : ℕ) (some : 1 ≤ P) (h : Heap) (n 
       go false = move-first o (min n (sizeAt al A (h .books) o)) (min-le-left n (sizeAt al A (h .books) o))
 
 -- ---- the calls, on any heap
-pub format-first : (h : Heap) (A P : ℕ) → First (h .memory) (format h A P .heap .memory)
+pub format-first : (h : Heap) (A P e : ℕ) → First (h .memory) (format h A P e .heap .memory)
 unfolding format
-format-first h A P = go (fitNumber h A P) _ _
+format-first h A P e = go (fitNumber h A P e) _ _
   where
     go : (k : ℕ) (b m : List ℕ)
         → First (h .memory) (passing k (λ j. refused j h) (done 0 (heapOf (h .memory) b m)) .heap .memory)
     go zero b m = λ i l. refl
     go (suc k) b m = λ i l. refl
 
-module _ {al : ℕ} (L : Aligned al) (h : Heap) where
+module _ (h : Heap) where
+  L : Aligned (alignment h)
+  L = aligned (edition h)
+
   -- a refusal, or what comes after the tests
   after-tests : (k : ℕ) (x : Outcome) → (k ≡ 0 → First (h .memory) (x .heap .memory))
       → First (h .memory) (passing k (λ j. refused j h) x .heap .memory)
   after-tests k x = tested (λ (y : Outcome). First (h .memory) (y .heap .memory)) h k x (λ j i l. refl)
 
-  pub ask-first : (n : ℕ) → First (h .memory) (ask al h n .heap .memory)
+  pub ask-first : (n : ℕ) → First (h .memory) (ask h n .heap .memory)
   unfolding ask
   ask-first n =
-      after-tests (inOrder (shapeNumber h) (sizeNumber n) 0 0) (askStep al (arenas h) (pools h) h n)
+      after-tests (inOrder (shapeNumber h) (sizeNumber n) 0 0) (askStep (alignment h) (arenas h) (pools h) h n)
       (λ e.
       let t = before-zero (shapeNumber h) (sizeNumber n before 0 before 0) e in
       let u = before-zero (sizeNumber n) (0 before 0) (t .1) in
       step-first L (arenas h) (pools h) (pools-some h (t .0)) h n (size-zero n (u .0) .1))
 
-  pub back-first : (o : ℕ) → First (h .memory) (giveBack al h o .heap .memory)
+  pub back-first : (o : ℕ) → First (h .memory) (giveBack h o .heap .memory)
   unfolding giveBack
   back-first o =
-      after-tests (offsetTests al h o) (backStep al (arenas h) (pools h) h o)
+      after-tests (offsetTests h o) (backStep (alignment h) (arenas h) (pools h) h o)
       (λ e.
-      let t = before-zero (shapeNumber h) (0 before offsetNumber al h o before 0) e in
-      let u = before-zero (offsetNumber al h o) 0 (t .1) in
-      back-live L (arenas h) (pools h) h o (live-zero al (arenas h) (pools h) (h .books) o (h .map) (u .0)))
+      let t = before-zero (shapeNumber h) (0 before offsetNumber h o before 0) e in
+      let u = before-zero (offsetNumber h o) 0 (t .1) in
+      back-live L (arenas h) (pools h) h o (live-zero (alignment h) (arenas h) (pools h) (h .books) o (h .map) (u .0)))
 
-  pub resize-first : (o n : ℕ) → First (h .memory) (resize al h o n .heap .memory)
+  pub resize-first : (o n : ℕ) → First (h .memory) (resize h o n .heap .memory)
   unfolding resize
   resize-first o n =
-      after-tests (inOrder (shapeNumber h) (sizeNumber n) (offsetNumber al h o) 0) (resizeStep al (arenas h) (pools h) h o n)
+      after-tests (inOrder (shapeNumber h) (sizeNumber n) (offsetNumber h o) 0) (resizeStep (alignment h) (arenas h) (pools h) h o n)
       (λ e.
-      let t = before-zero (shapeNumber h) (sizeNumber n before offsetNumber al h o before 0) e in
-      let u = before-zero (sizeNumber n) (offsetNumber al h o before 0) (t .1) in
+      let t = before-zero (shapeNumber h) (sizeNumber n before offsetNumber h o before 0) e in
+      let u = before-zero (sizeNumber n) (offsetNumber h o before 0) (t .1) in
       resize-step-first L (arenas h) (pools h) (pools-some h (t .0)) h n (size-zero n (u .0) .1) o)
 
-  pub write-first : (o : ℕ) (text : List ℕ) → First (h .memory) (write al h o text .heap .memory)
+  pub write-first : (o : ℕ) (text : List ℕ) → First (h .memory) (write h o text .heap .memory)
   unfolding write
   write-first o text =
-      after-tests (inOrder (shapeNumber h) 0 (offsetNumber al h o) (roomNumber (length text) (blockSize al h o))) _
+      after-tests (inOrder (shapeNumber h) 0 (offsetNumber h o) (roomNumber (length text) (blockSize h o))) _
       (λ e.
-      let t = before-zero (shapeNumber h) (0 before offsetNumber al h o before roomNumber (length text) (blockSize al h o)) e in
-      let u = before-zero (offsetNumber al h o) (roomNumber (length text) (blockSize al h o)) (t .1) in
-      let b = live-is al (arenas h) (pools h) (h .books) (h .map) o (L .low) (L .high) (live-zero al (arenas h) (pools h) (h .books) o (h .map) (u .0)) in
+      let t = before-zero (shapeNumber h) (0 before offsetNumber h o before roomNumber (length text) (blockSize h o)) e in
+      let u = before-zero (offsetNumber h o) (roomNumber (length text) (blockSize h o)) (t .1) in
+      let b = live-is L (arenas h) (pools h) (h .books) (h .map) o (live-zero (alignment h) (arenas h) (pools h) (h .books) o (h .map) (u .0)) in
       let place : o ≡ offsetOf (o / 4096) (o % 4096) = omega arith in
       λ i l. ap (λ (x : ℕ). at (sets (h .memory) x text) i) place
       ∙ text-first (h .memory) text (o / 4096) (o % 4096) (b .start .low)
-      (omega (arith, b .start .ends, room-zero (length text) (blockSize al h o) (u .1))) i l)
+      (omega (arith, b .start .ends, room-zero (length text) (blockSize h o) (u .1))) i l)

@@ -17,12 +17,12 @@ use Rattle.rules.specs.Blocks.{sizeOf, startOf, isStart, blockNo, capacity, put
 use Rattle.rules.specs.Lists.{mayJoin}
 use Rattle.rules.specs.GiveBack.{_⇛_, planBack, emptying, afterBack}
 use Rattle.books.specs.Starts.{start-is, number-is}
+use Rattle.books.specs.Sizes.{Aligned, size-low, capacity-high, capacity-low, class-low}
 use Rattle.laws.specs.Update.{to, to-cong}
 use Rattle.laws.specs.Families.{head-link}
 use Rattle.laws.specs.Books.{View, Books, put-pool, pool-joins, poolTo, homeTo, listedTo}
 use Rattle.laws.specs.Plain.{Plain, count, setChain, setLive, setListed}
 use Rattle.laws.specs.Counting.{many-some}
-use Rattle.laws.specs.Sizes.{Aligned, size-low, capacity-high, capacity-low, class-low}
 use Rattle.laws.specs.Chains.{Blocks, room, given, live-below, block-ends}
 use Rattle.laws.specs.Held.{Says, Held, sound, home-listed, home-full, InClassOf, in-class}
 use Rattle.laws.specs.Step.{BytesAfter, link-after}

@@ -22,6 +22,10 @@ use Rattle.rules.specs.Books.{
   booksLength,
   mapLength,
   isSet,
+  editionWord,
+  edition,
+  isEdition,
+  alignmentOf,
   usableHead,
   unusedHead,
   classHead,
@@ -36,13 +40,13 @@ use Rattle.rules.specs.Books.{
 }
 use Rattle.rules.specs.Blocks.{sizeOf, lastClass, capacity}
 use Rattle.books.specs.Known.{Shaped, shaped, in-range}
+use Rattle.books.specs.Sizes.{Aligned, capacity-high, class-low}
 use Rattle.laws.specs.Update.{is-false}
 use Rattle.laws.specs.Sequences.{All, all-map}
 use Rattle.laws.specs.Families.{At, Family}
 use Rattle.laws.specs.Books.{View, Books, ArenaHead}
 use Rattle.laws.specs.Plain.{Plain, count, inUse, carved, free}
 use Rattle.laws.specs.Counting.{many-has}
-use Rattle.laws.specs.Sizes.{Aligned, capacity-high, class-low}
 use Rattle.laws.specs.Chains.{Blocks, live-below}
 use Rattle.laws.specs.Sound.{home, base, arenaRows, Shape, BitSet, Lists, InClass, PoolRule, Sound}
 
@@ -187,7 +191,9 @@ pub record Says (al A P : ℕ) (U : View) (m k : List ℕ) (r : Plain) : Type 0 
   pub maps : length k ≡ mapLength A P
   pub arenas-are : U .head 0 ≡ A
   pub pools-are : U .head 1 ≡ P
-  pub head-zeros : (i : ℕ) → 68 ≤ i → i < 72 → U .head i ≡ 0
+  pub alignment-is : alignmentOf (U .head editionWord) ≡ al
+  pub an-edition : isEdition (U .head editionWord) ≡ true
+  pub head-zeros : (i : ℕ) → editionWord < i → i < 72 → U .head i ≡ 0
   pub arena-zeros : (w a : ℕ) → 6 ≤ w → w < 8 → a < A → U .arena w a ≡ 0
   pub pool-zeros : (n : ℕ) → n < A * P → U .pool 7 n ≡ 0
   pub arenas : (a : ℕ) → a < A → ArenaSays P U r a
@@ -240,6 +246,8 @@ held {al} {A} {P} {h} {r} S =
         maps = K .map;
         arenas-are = S .rule1 .arenas-are;
         pools-are = S .rule1 .pools-are;
+        alignment-is = S .rule1 .alignment-is;
+        an-edition = S .rule1 .an-edition;
         head-zeros = S .rule2 .heads;
         arena-zeros = S .rule2 .arenas;
         pool-zeros = S .rule2 .pools;
@@ -326,19 +334,24 @@ open-mark mark e z = omega (arith, rw z at e)
 
 module _ {al A P : ℕ} {h : Heap} {U : View} {r : Plain} (L : Aligned al)
     (K : Books A (A * P) (h .books) U) (F : Says al A P U (h .memory) (h .map) r) where
-  shape : Shape A P h
+  shape : Shape al A P h
   unfolding exact
   shape =
       record {
         arenas-are = K .first 0 (omega arith) ∙ F .arenas-are;
         pools-are = K .first 1 (omega arith) ∙ F .pools-are;
+        alignment-is = ap alignmentOf edition-word ∙ F .alignment-is;
         range = F .range;
+        an-edition = ap isEdition edition-word ∙ F .an-edition;
         lengths = rw (
           eq-eqb (length (h .memory)) (memoryLength A P) (F .bytes),
           eq-eqb (length (h .books)) (booksLength A P) (K .words ∙ omega arith),
           eq-eqb (length (h .map)) (mapLength A P) (F .maps),
         );
       }
+    where
+      edition-word : edition h ≡ U .head editionWord
+      edition-word = K .spare editionWord (omega arith) (omega arith)
 
   pools-low : 2 ≤ P
   pools-low = in-range A P (F .range) .2
@@ -362,9 +375,22 @@ module _ {al A P : ℕ} {h : Heap} {U : View} {r : Plain} (L : Aligned al)
   count-word : (n : ℕ) → n < A * P → pool A (h .books) 0 n ≡ count r n
   count-word n l = K .pools 0 n (omega arith) l ∙ F .pools n l .count-is
 
-  -- a pool in use is of a class below 64
+  -- a pool in use is of a class, and so of one below 64
+  used-class : (n : ℕ) → n < A * P → 1 ≤ count r n → r .class n ≤ lastClass al
+  used-class n l some = let t = many-has (r .live n) 512 some in F .pools n l .used (t .number) (t .yes) .1
+
   pub use-class : (n : ℕ) → n < A * P → 1 ≤ count r n → r .class n < 64
-  use-class n l some = let t = many-has (r .live n) 512 some in class-low L (r .class n) (F .pools n l .used (t .number) (t .yes) .1)
+  use-class n l some = class-low L (r .class n) (used-class n l some)
+
+  -- so no pool is listed above the last class, and the heads there are 0
+  pub head-zero : (c : ℕ) → lastClass al < c → c < 64 → at (h .books) (classHead c) ≡ 0
+  head-zero c above low = rw (none (U .listed c) (K .listed .members c low)) at (K .listed .row c low .row .walk)
+    where
+      none : (xs : List ℕ) → All (At (A * P) (U .home) (classHead c)) xs → xs ≡ []
+      none [] t = refl
+      none (x ∷ xs) t =
+          let u = listed-is al P r x c (sym (F .pools x (t .0 .low) .home-is) ∙ t .0 .is) low in
+          absurd (omega (arith, above, u .2, used-class x (t .0 .low) (u .0)))
 
   -- a closed arena has no freed pools
   pub no-freed : (a : ℕ) → a < A → r .mark a ≡ 0 → U .freed a ≡ []
@@ -425,7 +451,7 @@ module _ {al A P : ℕ} {h : Heap} {U : View} {r : Plain} (L : Aligned al)
         rule1 = shape;
         rule2 = record {
           opens = λ a l. rw (open-word a l) (opened-cases (r .mark a));
-          heads = λ i u v. K .spare i u v ∙ F .head-zeros i u v;
+          heads = λ i u v. K .spare i (omega arith) v ∙ F .head-zeros i u v;
           arenas = λ w a u v l. K .arenas w a (omega arith) l ∙ F .arena-zeros w a u v l;
           pools = λ n l. K .pools 7 n (omega arith) l ∙ F .pool-zeros n l;
         };

@@ -1,5 +1,5 @@
 -- What the theorems speak of: histories of calls, run by the rules;
--- their ledgers, made from the calls and their answers; and a heap with no room.
+-- their ledgers and editions, made from the calls and their answers; and a heap with no room.
 -- Assumes nothing.
 use mathlib.Core.Logic.{_≢_}
 use mathlib.Core.Path.{_≡_}
@@ -9,7 +9,7 @@ use Prim.Native.Nat.{ℕ, zero, suc, _+_, _*_, _/_, _<_, min}
 use lib.Dec.{ltb, eqb}
 use lib.ListN.{length, set, take, drop}
 use Rattle.rules.specs.Say.{if_then_else_}
-use Rattle.rules.specs.Books.{Heap, arenas, pools, openWord, arena, class, pool, offsetOf}
+use Rattle.rules.specs.Books.{Heap, arenas, pools, alignmentOf, openWord, arena, class, pool, offsetOf}
 use Rattle.rules.specs.Blocks.{classOf, sizeOf, startOf, capacity, classAt, live}
 use Rattle.rules.specs.Outcome.{heapOf}
 use Rattle.rules.specs.View.{part}
@@ -19,7 +19,7 @@ use Rattle.laws.specs.Plain.{howMany}
 
 -- ---- a history's events: the calls, with any arguments, and a holder's write of one byte of a block
 pub data Event : Type 0 where
-  formats : ℕ → ℕ → Event  -- A, P
+  formats : ℕ → ℕ → ℕ → Event  -- A, P, edition
   asks : ℕ → Event  -- size
   gives : ℕ → Event  -- offset
   resizes : ℕ → ℕ → Event  -- offset, size
@@ -37,11 +37,12 @@ Ledger = ℕ → List ℕ
 pub record State : Type 0 where
   pub heap : Heap
   pub ledger : Ledger
+  pub told : ℕ  -- the edition that the last format which was done was told
 
--- the heap after a call, and the ledger: the new one if the call's number is 0. (So a half-done resize, which answers
--- 6 and changes the heap, would leave the old one; but no history meets one: `no-six`)
-abbrev pub noted : ℕ → Heap → Ledger → Ledger → State
-noted number h old new = record { heap = h; ledger = if eqb number 0 then new else old }
+-- the heap h after a call in the state x, and the ledger: the new one if the call's number is 0. (So a half-done
+-- resize, which answers 6 and changes the heap, would leave the old one; but no history meets one: `no-six`)
+abbrev pub noted : ℕ → Heap → State → Ledger → State
+noted number h x new = record { heap = h; ledger = if eqb number 0 then new else x .ledger; told = x .told }
 
 -- ---- of an offset o: the class of its pool; whether its arena is open; whether that is released from the heap h to
 -- the heap h′, being open before and not after
@@ -54,78 +55,87 @@ inOpenArena h o = eqb (arena (h .books) openWord (o / 4096 / pools h)) 1
 abbrev pub released : Heap → Heap → ℕ → Bool
 released h h′ o = inOpenArena h o && not (inOpenArena h′ o)
 
-module _ (al : ℕ) where
-  -- the number that an event's call answers; view and the stand-in answer a part and no number, and a holder's byte is
-  -- no call: 0
-  unfoldable pub numberOf : State → Event → ℕ
-  numberOf x (formats A P) = format (x .heap) A P .answer .number
-  numberOf x (asks n) = ask al (x .heap) n .answer .number
-  numberOf x (gives o) = giveBack al (x .heap) o .answer .number
-  numberOf x (resizes o n) = resize al (x .heap) o n .answer .number
-  numberOf x (views o) = 0
-  numberOf x (sizes o) = viewSize al (x .heap) o .number
-  numberOf x (standsIn o phrase) = 0
-  numberOf x (writes o text) = write al (x .heap) o text .answer .number
-  numberOf x (rolls words) = rollCall al (x .heap) words .answer .number
-  numberOf x (pokes o d v) = 0
+-- the number that an event's call answers; view and the stand-in answer a part and no number, and a holder's byte is
+-- no call: 0
+unfoldable pub numberOf : State → Event → ℕ
+numberOf x (formats A P e) = format (x .heap) A P e .answer .number
+numberOf x (asks n) = ask (x .heap) n .answer .number
+numberOf x (gives o) = giveBack (x .heap) o .answer .number
+numberOf x (resizes o n) = resize (x .heap) o n .answer .number
+numberOf x (views o) = 0
+numberOf x (sizes o) = viewSize (x .heap) o .number
+numberOf x (standsIn o phrase) = 0
+numberOf x (writes o text) = write (x .heap) o text .answer .number
+numberOf x (rolls words) = rollCall (x .heap) words .answer .number
+numberOf x (pokes o d v) = 0
 
-  -- a resize to n that moves the block at o to new: its first bytes go along; the others are as they were when the new
-  -- block was handed out, m being memory as the ask left it
-  abbrev pub carried : ℕ → ℕ → ℕ → List ℕ → Ledger → Ledger
-  carried n o new m g =
-      to new
-      (take (min n (length (g o))) (g o) ++ drop (min n (length (g o))) (part new (sizeOf al (classOf al n)) m))
-      (to o [] g)
+-- the size of the block that is handed out for n bytes in the edition e
+abbrev pub sizeFor : ℕ → ℕ → ℕ
+sizeFor e n = sizeOf (alignmentOf e) (classOf (alignmentOf e) n)
 
-  -- the state after an event. A done ask adds an entry, a done give-back removes it, a done resize moves it and a
-  -- done format empties the ledger; an entry has the bytes as they were when the block was handed out, and as its
-  -- holder wrote since
-  unfoldable pub after : State → Event → State
-  after x (formats A P) = let y = format (x .heap) A P in noted (y .answer .number) (y .heap) (x .ledger) (λ o. [])
-  after x (asks n) =
-      let y = ask al (x .heap) n in
-      noted (y .answer .number) (y .heap) (x .ledger)
-      (to (y .answer .offset) (part (y .answer .offset) (sizeOf al (classOf al n)) (y .heap .memory)) (x .ledger))
-  after x (gives o) =
-      let y = giveBack al (x .heap) o in
-      noted (y .answer .number) (y .heap) (x .ledger) (to o [] (x .ledger))
-  after x (resizes o n) =
-      let y = resize al (x .heap) o n in
-      noted (y .answer .number) (y .heap) (x .ledger)
-      (if eqb (y .answer .offset) o then x .ledger
-      else carried n o (y .answer .offset) (ask al (x .heap) n .heap .memory) (x .ledger))
-  after x (views o) = x
-  after x (sizes o) = x
-  after x (standsIn o phrase) = x
-  after x (writes o text) =
-      let y = write al (x .heap) o text in
-      noted (y .answer .number) (y .heap) (x .ledger) (to o (text ++ drop (length text) (x .ledger o)) (x .ledger))
-  after x (rolls words) = x
-  after x (pokes o d v) =
-      if ltb d (length (x .ledger o))
-      then record {
-        heap = heapOf (set (x .heap .memory) (o + d) v) (x .heap .books) (x .heap .map);
-        ledger = to o (set (x .ledger o) d v) (x .ledger);
-      }
-      else x
+-- a resize to n that moves the block at o to new, of the size s: its first bytes go along; the others are as they were
+-- when the new block was handed out, m being memory as the ask left it
+abbrev pub carried : ℕ → ℕ → ℕ → ℕ → List ℕ → Ledger → Ledger
+carried s n o new m g =
+    to new
+    (take (min n (length (g o))) (g o) ++ drop (min n (length (g o))) (part new s m))
+    (to o [] g)
 
-  -- what an event can do to the dead block at o: it is handed out again, its pool is set to another class, or its arena
-  -- is released. (A format that is done releases every open arena)
-  unfoldable pub ended : State → Event → ℕ → Bool
-  ended x e o =
-      not (eqb (length (after x e .ledger o)) 0)
-      || not (eqb (poolClass (after x e .heap) o) (poolClass (x .heap) o))
-      || released (x .heap) (after x e .heap) o
+-- the state after an event. A done ask adds an entry, a done give-back removes it, a done resize moves it and a
+-- done format empties the ledger and says the edition; an entry has the bytes as they were when the block was handed
+-- out, and as its holder wrote since
+unfoldable pub after : State → Event → State
+after x (formats A P e) =
+    let y = format (x .heap) A P e in record {
+      heap = y .heap;
+      ledger = if eqb (y .answer .number) 0 then (λ o. []) else x .ledger;
+      told = if eqb (y .answer .number) 0 then e else x .told;
+    }
+after x (asks n) =
+    let y = ask (x .heap) n in
+    noted (y .answer .number) (y .heap) x
+    (to (y .answer .offset) (part (y .answer .offset) (sizeFor (x .told) n) (y .heap .memory)) (x .ledger))
+after x (gives o) =
+    let y = giveBack (x .heap) o in
+    noted (y .answer .number) (y .heap) x (to o [] (x .ledger))
+after x (resizes o n) =
+    let y = resize (x .heap) o n in
+    noted (y .answer .number) (y .heap) x
+    (if eqb (y .answer .offset) o then x .ledger
+    else carried (sizeFor (x .told) n) n o (y .answer .offset) (ask (x .heap) n .heap .memory) (x .ledger))
+after x (views o) = x
+after x (sizes o) = x
+after x (standsIn o phrase) = x
+after x (writes o text) =
+    let y = write (x .heap) o text in
+    noted (y .answer .number) (y .heap) x (to o (text ++ drop (length text) (x .ledger o)) (x .ledger))
+after x (rolls words) = x
+after x (pokes o d v) =
+    if ltb d (length (x .ledger o))
+    then record {
+      heap = heapOf (set (x .heap .memory) (o + d) v) (x .heap .books) (x .heap .map);
+      ledger = to o (set (x .ledger o) d v) (x .ledger);
+      told = x .told;
+    }
+    else x
 
-  -- every event of a history, one after the other
-  unfoldable pub run : State → List Event → State
-  run x [] = x
-  run x (e ∷ es) = run (after x e) es
+-- what an event can do to the dead block at o: it is handed out again, its pool is set to another class, or its arena
+-- is released. (A format that is done releases every open arena)
+unfoldable pub ended : State → Event → ℕ → Bool
+ended x e o =
+    not (eqb (length (after x e .ledger o)) 0)
+    || not (eqb (poolClass (after x e .heap) o) (poolClass (x .heap) o))
+    || released (x .heap) (after x e .heap) o
 
-  -- no call of the history gives 6
-  abbrev pub NoSix : State → List Event → Type 0
-  NoSix x [] = Unit {0}
-  NoSix x (e ∷ es) = (numberOf x e ≢ 6) × NoSix (after x e) es
+-- every event of a history, one after the other
+unfoldable pub run : State → List Event → State
+run x [] = x
+run x (e ∷ es) = run (after x e) es
+
+-- no call of the history gives 6
+abbrev pub NoSix : State → List Event → Type 0
+NoSix x [] = Unit {0}
+NoSix x (e ∷ es) = (numberOf x e ≢ 6) × NoSix (after x e) es
 
 -- ---- a ledger as a list: offset and size of what is held at the n offsets from o on, rising,
 -- where g says the size held at each offset, 0 for none

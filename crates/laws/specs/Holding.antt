@@ -6,6 +6,7 @@ use mathlib.Core.Logic.{_≢_, _⊎_, inl, inr}
 use mathlib.Core.Bool.{Bool, true, false, true≢false}
 use mathlib.Core.List.{List, []}
 use Prim.Native.Nat.{ℕ, suc, _+_, _*_, _/_, _%_, _≤_, _<_}
+use native.Mathlib.Nat.{mul-assoc, mul-comm}
 use native.Mathlib.Decide.{ℕ-discrete}
 use native.Mathlib.Omega.{arith}
 use lib.ListN.{length}
@@ -16,9 +17,9 @@ use Rattle.rules.specs.Blocks.{sizeOf, lastClass, startOf, blockNo, capacity, c
 use Rattle.rules.specs.View.{part}
 use Rattle.books.specs.Starts.{start-is, number-is}
 use Rattle.books.specs.Known.{live-is}
+use Rattle.books.specs.Sizes.{Aligned, size-low, capacity-high}
 use Rattle.laws.specs.Update.{is-false, to}
 use Rattle.laws.specs.Plain.{Plain}
-use Rattle.laws.specs.Sizes.{Aligned, size-low, capacity-high}
 use Rattle.laws.specs.Chains.{block-ends, live-below}
 use Rattle.laws.specs.Sound.{Sound}
 use Rattle.laws.specs.Held.{held, in-class}
@@ -47,6 +48,24 @@ pub live-ends : {al A P : ℕ} {r : Plain} {o : ℕ} (t : LiveAt al A P r o)
     → startOf (liveSize t) (t .block) + liveSize t ≤ 4096
 live-ends t = block-ends (liveSize t) (t .block) (suc (t .block)) (omega arith) (t .fits)
 
+-- it begins at a multiple of the alignment, and is as long as one: so are pools, their first 48 bytes and block sizes
+place-aligned : {al : ℕ} → Aligned al → (p k c : ℕ)
+    → (offsetOf p (startOf (sizeOf al c) k) % al ≡ 0) × (sizeOf al c % al ≡ 0)
+place-aligned {al} L p k c = go (L .is)
+  where
+    place : startOf (sizeOf al c) k ≡ 48 + al * (k * (c + 1))
+    place = omega (arith, mul-assoc k al (c + 1), mul-comm k al, mul-assoc al k (c + 1))
+
+    go : (al ≡ 8) ⊎ (al ≡ 16) → (offsetOf p (startOf (sizeOf al c) k) % al ≡ 0) × (sizeOf al c % al ≡ 0)
+    go (inl q) = rw place (rw q (omega arith, omega arith))
+    go (inr q) = rw place (rw q (omega arith, omega arith))
+
+pub live-aligned : {al A P : ℕ} {r : Plain} → Aligned al → (o : ℕ) (t : LiveAt al A P r o)
+    → (o % al ≡ 0) × (liveSize t % al ≡ 0)
+live-aligned {al} {r = r} L o t =
+    let u = place-aligned L (t .pool) (t .block) (r .class (t .pool)) in
+    (ap (λ (i : ℕ). i % al) (t .place) ∙ u .0, u .1)
+
 -- a plain heap with the same class of its pool, and it live, has it too
 live-still : {al A P o : ℕ} {r r′ : Plain} (t : LiveAt al A P r o) → r′ .class (t .pool) ≡ r .class (t .pool)
     → r′ .live (t .pool) (t .block) ≡ true → LiveAt al A P r′ o
@@ -69,7 +88,7 @@ module _ {al A P : ℕ} {h : Heap} {r : Plain} (L : Aligned al) (S : Sound al A 
   -- what the live test says is what the plain heap has
   pub live-rows : (o : ℕ) → live al A P (h .books) (h .map) o ≡ true → LiveAt al A P r o
   live-rows o e =
-      let t = live-is al A P (h .books) (h .map) o (L .low) (L .high) e in
+      let t = live-is L A P (h .books) (h .map) o e in
       let c : classAt A (h .books) o ≡ r .class (o / 4096) = S .classes (o / 4096) (t .pool) in
       let z = rw c at (t .start) in
       record {

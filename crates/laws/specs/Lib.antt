@@ -3,10 +3,10 @@
 -- path of ask and give back (Step to Sources), the calls and what is held (Holding to NoRoom), and the theorems, of
 -- any heap (Refused to StandIn) and of every history (History to Code).
 --
--- Letters that mean one thing throughout. A arenas of P pools; al the alignment, and L that the laws hold at it. h
--- the heap: b its books, m its memory. r the plain heap that it holds, S that it does so soundly. U a view, K that
--- the books say it, F that it says the plain heap. p a pool, a its arena, c its class and s its block size; j and k
--- blocks. r′, U′, h′: after the step.
+-- Letters that mean one thing throughout. A arenas of P pools; al the alignment, and L that it is 8 or 16. h the heap:
+-- b its books, m its memory. r the plain heap that it holds, S that it does so soundly. U a view, K that the books say
+-- it, F that it says the plain heap. p a pool, a its arena, c its class and s its block size; j and k blocks. r′, U′,
+-- h′: after the step.
 pub mod Update
 pub mod Sequences
 pub mod Linked
@@ -16,7 +16,6 @@ pub mod Plain
 pub mod Counting
 pub mod Bytes
 pub mod Chains
-pub mod Sizes
 pub mod Sound
 pub mod Held
 pub mod Fresh

@@ -19,9 +19,9 @@ use Rattle.rules.specs.Ask.{askAnswer}
 use Rattle.rules.specs.Outcome.{Outcome}
 use Rattle.rules.specs.Numbers.{ask}
 use Rattle.books.specs.Known.{in-range}
+use Rattle.books.specs.Sizes.{Aligned, has-class, capacity-high, class-low}
 use Rattle.laws.specs.Plain.{Plain, count, inUse, free, planAsk as plainAsk, afterAsk as plainAfterAsk}
 use Rattle.laws.specs.Counting.{Passes, many-has, none-many}
-use Rattle.laws.specs.Sizes.{Aligned, has-class, capacity-high, class-low}
 use Rattle.laws.specs.Chains.{room, among}
 use Rattle.laws.specs.Sound.{Sound}
 use Rattle.laws.specs.Held.{held, Says, InClassOf, in-class, home-listed, base-unused, base-usable, arena-low}
@@ -127,7 +127,7 @@ module _ {al A P : ℕ} {h : Heap} {r : Plain} (L : Aligned al)
               true≢false (sym (u .on) ∙ ap (λ (p : ℕ). r .live p (u .block)) (sym (pool-is L S (t .offset) u) ∙ t .inside) ∙ d (u .block))
 
   -- ask n is refused with 4 exactly if the heap is full for its class
-  pub four-full : ask al h n .answer .number ≡ 4 → Full al A P h (classOf al n)
+  pub four-full : ask h n .answer .number ≡ 4 → Full al A P h (classOf al n)
   unfolding askAnswer
   four-full e = is-full (go (done-or-not al P r (classOf al n)))
     where
@@ -138,6 +138,6 @@ module _ {al A P : ℕ} {h : Heap} {r : Plain} (L : Aligned al)
       go (inl z) = absurd (omega (arith, number))
       go (inr z) = z
 
-  pub full-four : Full al A P h (classOf al n) → ask al h n .answer .number ≡ 4
+  pub full-four : Full al A P h (classOf al n) → ask h n .answer .number ≡ 4
   unfolding askAnswer
   full-four Z = ap (λ (y : Outcome). y .answer .number) (ask-is L S n low high) ∙ ap (λ (q : AskPlan). askAnswer q .number) (refuses Z)

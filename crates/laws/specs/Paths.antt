@@ -20,6 +20,7 @@ use Rattle.rules.specs.Blocks.{sizeOf, lastClass, startOf, capacity, putLink}
 use Rattle.rules.specs.Ask.{planAsk, afterAsk, askAnswer}
 use Rattle.rules.specs.GiveBack.{planBack, afterBack}
 use Rattle.books.specs.Known.{in-range}
+use Rattle.books.specs.Sizes.{Aligned, size-low}
 use Rattle.laws.specs.Update.{to, to-same, to-other}
 use Rattle.laws.specs.Plain.{
   Plain,
@@ -34,7 +35,6 @@ use Rattle.laws.specs.Plain.{
   afterBack as plainAfterBack,
 }
 use Rattle.laws.specs.Counting.{many-same, many-more}
-use Rattle.laws.specs.Sizes.{Aligned, size-low}
 use Rattle.laws.specs.Bytes.{outside-less}
 use Rattle.laws.specs.Chains.{block-ends, block-outside, first-outside, put-link-other, length-link, live-below}
 use Rattle.laws.specs.Books.{View}

@@ -1,19 +1,30 @@
--- Small histories, computed by `run` itself, that reach each path of ask and give back, a refusal with 4, a moved
--- resize and a second arena: the theorems are not empty.
+-- Small histories, computed by `run` itself at both editions, that reach each path of ask and give back, a refusal with
+-- 4, a moved resize and a second arena: the theorems are not empty.
 -- Assumes nothing.
 use mathlib.Core.Path.{_≡_}
 use mathlib.Core.Bool.{Bool, true, _&&_}
 use mathlib.Core.List.{List, [], _∷_}
-use Prim.Native.Nat.{ℕ, _/_}
+use Prim.Native.Nat.{ℕ, _+_, _*_, _-_, _/_}
 use lib.Dec.{T, eqb}
-use lib.ListN.{length}
+use lib.ListN.{length, replicate}
 use Rattle.rules.specs.declared.Source.{Source}
 use Rattle.rules.specs.declared.Source.the-variants.{Freed, Carved, Opened}
 use Rattle.rules.specs.declared.AskPlan.{AskPlan}
 use Rattle.rules.specs.declared.AskPlan.the-variants.{NoRoom, Damaged, Follow, Ready, Last, Again, Anew}
 use Rattle.rules.specs.declared.BackPlan.{BackPlan}
 use Rattle.rules.specs.declared.BackPlan.the-variants.{Damaged as Broken, Joins, Stays, Empties, Returns, Releases}
-use Rattle.rules.specs.Books.{Heap, memoryLength, booksLength, mapLength, bit, putBit, inRange, exact}
+use Rattle.rules.specs.Books.{
+  Heap,
+  memoryLength,
+  booksLength,
+  mapLength,
+  alignmentOf,
+  alignment,
+  bit,
+  putBit,
+  inRange,
+  exact,
+}
 use Rattle.rules.specs.Blocks.{classOf, classAt, isStart, linkAt, putLink, live, liveNumber}
 use Rattle.rules.specs.Lists.{leaveBy, joinBy}
 use Rattle.rules.specs.Format.{freshBooks}
@@ -39,6 +50,10 @@ use Rattle.rules.specs.Resize.{giveOld, moved, resizeStep}
 use Rattle.rules.specs.Outcome.{heapOf}
 use Rattle.rules.specs.View.{part, rollBlocks, rollPool, rollPools}
 use Rattle.rules.specs.Numbers.{
+  rangeNumber,
+  editionNumber,
+  lengthNumber,
+  reachNumber,
   fitNumber,
   shapeNumber,
   sizeNumber,
@@ -98,10 +113,10 @@ backNo Releases = 5
 -- the path that an event's call takes on a heap of A arenas with P pools; of a resize the offset that it answers, of
 -- the others nothing
 abbrev pathOf : ℕ → ℕ → Heap → Event → ℕ
-pathOf A P h (formats A′ P′) = 0
-pathOf A P h (asks n) = askNo (planAsk 8 A P h (classOf 8 n))
-pathOf A P h (gives o) = backNo (planBack 8 A P (h .books) (classAt A (h .books) o) (o / 4096))
-pathOf A P h (resizes o n) = resize 8 h o n .answer .offset
+pathOf A P h (formats A′ P′ e) = 0
+pathOf A P h (asks n) = askNo (planAsk (alignment h) A P h (classOf (alignment h) n))
+pathOf A P h (gives o) = backNo (planBack (alignment h) A P (h .books) (classAt A (h .books) o) (o / 4096))
+pathOf A P h (resizes o n) = resize h o n .answer .offset
 pathOf A P h (views o) = 0
 pathOf A P h (sizes o) = 0
 pathOf A P h (standsIn o phrase) = 0
@@ -119,23 +134,25 @@ events (t ∷ ts) = t .0 ∷ events ts
 
 -- every turn takes its path, each in the state that those before it leave
 unfoldable pub reaches : ℕ → ℕ → List Turn → State → Bool
-unfolding inRange exact bit putBit isStart linkAt putLink live liveNumber leaveBy joinBy freshBooks noLink
+unfolding inRange alignmentOf exact bit putBit isStart linkAt putLink live liveNumber leaveBy joinBy freshBooks noLink
     fromFreeblock fromListed setAnew sameClass takeAgain fromMark fromFreed fromUsable fromUnused planAsk takeFrom
-    afterAsk askAnswer askStep emptying planBack afterBack backAnswer backStep giveOld moved resizeStep fitNumber
-    shapeNumber sizeNumber roomNumber format ask giveBack resize write after
+    afterAsk askAnswer askStep emptying planBack afterBack backAnswer backStep giveOld moved resizeStep rangeNumber
+    editionNumber lengthNumber reachNumber fitNumber shapeNumber sizeNumber roomNumber format ask giveBack resize write
+    after
 reaches A P [] x = true
-reaches A P (t ∷ ts) x = eqb (pathOf A P (x .heap) (t .0)) (t .1) && reaches A P ts (after 8 x (t .0))
+reaches A P (t ∷ ts) x = eqb (pathOf A P (x .heap) (t .0)) (t .1) && reaches A P ts (after x (t .0))
 
 -- and the history's run ends with this roll, and with these bytes at this offset in memory and in the ledger
 unfoldable pub ends : List Event → State → List ℕ → ℕ → List ℕ → Bool
 unfolding reaches rollBlocks rollPool rollPools run
 ends es x listed o bytes =
-    let y = run 8 x es in
-    same (rollOf 8 (y .heap)) listed && same (y .ledger o) bytes && same (part o (length bytes) (y .heap .memory)) bytes
+    let y = run x es in
+    same (rollOf (y .heap)) listed && same (y .ledger o) bytes && same (part o (length bytes) (y .heap .memory)) bytes
 
--- a history of A arenas with P pools, by its turns and by its end, whatever memory, books and map of the right lengths
--- held before format
+-- a history of an edition, with A arenas of P pools, by its turns and by its end, whatever memory, books and map of the
+-- right lengths held before format
 pub record Story : Type 0 where
+  pub edition : ℕ
   pub A : ℕ
   pub P : ℕ
   pub turns : List Turn
@@ -145,7 +162,7 @@ pub record Story : Type 0 where
 
 abbrev pub Holds : Story → List ℕ → List ℕ → List ℕ → Type 0
 Holds s m b k =
-    let x = begun (heapOf m b k) (s .A) (s .P) in
+    let x = begun (heapOf m b k) (s .A) (s .P) (s .edition) in
     T (reaches (s .A) (s .P) (s .turns) x && ends (events (s .turns)) x (s .listed) (s .offset) (s .bytes))
 
 abbrev pub Reached : Story → Type 0
@@ -154,9 +171,21 @@ Reached s =
     → length m ≡ memoryLength (s .A) (s .P) → length b ≡ booksLength (s .A) (s .P) → length k ≡ mapLength (s .A) (s .P)
     → Holds s m b k
 
+reached : (s : Story)
+    → ((f g k : ℕ → ℕ)
+    → Holds s (tab (memoryLength (s .A) (s .P)) 0 f) (tab (booksLength (s .A) (s .P)) 0 g)
+    (tab (mapLength (s .A) (s .P)) 0 k))
+    → Reached s
+reached s = each-three (Holds s) (memoryLength (s .A) (s .P)) (booksLength (s .A) (s .P)) (mapLength (s .A) (s .P))
+
+-- a story for each edition e, reached at both
+abbrev pub BothReached : (ℕ → Story) → Type 0
+BothReached s = Reached (s 0) × Reached (s 1)
+
 -- two pools, and blocks of 512, seven to a pool: all paths but one, and a refusal with 4
-abbrev pub two-pools : Story
-two-pools = record {
+abbrev pub two-pools : ℕ → Story
+two-pools e = record {
+  edition = e;
   A = 1;
   P = 2;
   turns =
@@ -166,7 +195,7 @@ two-pools = record {
       ∷ (gives 48, 1) ∷ (gives 560, 2) ∷ (asks 512, 1) ∷ (gives 560, 2)
       ∷ (gives 1072, 2) ∷ (gives 1584, 2) ∷ (gives 2096, 2) ∷ (gives 2608, 2) ∷ (gives 3120, 4)
       ∷ (asks 512, 4) ∷ (gives 3120, 4)
-      ∷ (asks 8, 5) ∷ (resizes 48 6, 56) ∷ (gives 56, 4)
+      ∷ (asks 8, 5) ∷ (resizes 48 6, 48 + alignmentOf e) ∷ (gives (48 + alignmentOf e), 4)
       ∷ (gives 4144, 1) ∷ (gives 4656, 2) ∷ (gives 5168, 2) ∷ (gives 5680, 2) ∷ (gives 6192, 2) ∷ (gives 6704, 2)
       ∷ (gives 7216, 5)
       ∷ [];
@@ -176,8 +205,9 @@ two-pools = record {
 }
 
 -- with three pools an arena keeps its place when a pool comes free
-abbrev pub three-pools : Story
-three-pools = record {
+abbrev pub three-pools : ℕ → Story
+three-pools e = record {
+  edition = e;
   A = 1;
   P = 3;
   turns = (asks 512, 7) ∷ (asks 8, 6) ∷ (gives 4144, 3) ∷ [];
@@ -187,41 +217,31 @@ three-pools = record {
 }
 
 -- two arenas of two pools: the second is opened when the first is spent, the first is released and opened again, and
--- 'owed', in the second, moves to the first
-abbrev pub two-arenas : Story
-two-arenas = record {
+-- 'owed', in the second, moves to the first. A block of class c has the size s × (c + 1), s being the alignment
+abbrev pub two-arenas : ℕ → Story
+two-arenas e = let s = alignmentOf e in record {
+  edition = e;
   A = 2;
   P = 2;
   turns =
-      (asks 8, 7) ∷ (asks 16, 6) ∷ (asks 24, 7) ∷ (asks 32, 6)
-      ∷ (writes 8240 (111 ∷ 119 ∷ 101 ∷ 100 ∷ 0 ∷ 0 ∷ 0 ∷ 0 ∷ []), 0)
-      ∷ (gives 48, 4) ∷ (gives 4144, 5) ∷ (asks 40, 7) ∷ (resizes 8240 8, 4144) ∷ (pokes 4144 7 33, 0) ∷ (asks 48, 5)
+      (asks s, 7) ∷ (asks (2 * s), 6) ∷ (asks (3 * s), 7) ∷ (asks (4 * s), 6)
+      ∷ (writes 8240 (111 ∷ 119 ∷ 101 ∷ 100 ∷ replicate (s - 4) 0), 0)
+      ∷ (gives 48, 4) ∷ (gives 4144, 5) ∷ (asks (5 * s), 7) ∷ (resizes 8240 s, 4144) ∷ (pokes 4144 7 33, 0)
+      ∷ (asks (6 * s), 5)
       ∷ [];
-  listed = 48 ∷ 40 ∷ 4144 ∷ 8 ∷ 8240 ∷ 48 ∷ 12336 ∷ 32 ∷ [];
+  listed = 48 ∷ 5 * s ∷ 4144 ∷ s ∷ 8240 ∷ 6 * s ∷ 12336 ∷ 4 * s ∷ [];
   offset = 4144;
-  bytes = 111 ∷ 119 ∷ 101 ∷ 100 ∷ 0 ∷ 0 ∷ 0 ∷ 33 ∷ [];
+  bytes = 111 ∷ 119 ∷ 101 ∷ 100 ∷ 0 ∷ 0 ∷ 0 ∷ 33 ∷ replicate (s - 8) 0;
 }
 
-computed-two : (f g k : ℕ → ℕ)
-    → Holds two-pools (tab (memoryLength 1 2) 0 f) (tab (booksLength 1 2) 0 g) (tab (mapLength 1 2) 0 k)
+pub reached-two : BothReached two-pools
 unfolding ends events
-computed-two f g k = tt
+reached-two = (reached (two-pools 0) (λ f g k. tt), reached (two-pools 1) (λ f g k. tt))
 
-computed-three : (f g k : ℕ → ℕ)
-    → Holds three-pools (tab (memoryLength 1 3) 0 f) (tab (booksLength 1 3) 0 g) (tab (mapLength 1 3) 0 k)
+pub reached-three : BothReached three-pools
 unfolding ends events
-computed-three f g k = tt
+reached-three = (reached (three-pools 0) (λ f g k. tt), reached (three-pools 1) (λ f g k. tt))
 
-computed-arenas : (f g k : ℕ → ℕ)
-    → Holds two-arenas (tab (memoryLength 2 2) 0 f) (tab (booksLength 2 2) 0 g) (tab (mapLength 2 2) 0 k)
+pub reached-arenas : BothReached two-arenas
 unfolding ends events
-computed-arenas f g k = tt
-
-pub reached-two : Reached two-pools
-reached-two = each-three (Holds two-pools) (memoryLength 1 2) (booksLength 1 2) (mapLength 1 2) computed-two
-
-pub reached-three : Reached three-pools
-reached-three = each-three (Holds three-pools) (memoryLength 1 3) (booksLength 1 3) (mapLength 1 3) computed-three
-
-pub reached-arenas : Reached two-arenas
-reached-arenas = each-three (Holds two-arenas) (memoryLength 2 2) (booksLength 2 2) (mapLength 2 2) computed-arenas
+reached-arenas = (reached (two-arenas 0) (λ f g k. tt), reached (two-arenas 1) (λ f g k. tt))

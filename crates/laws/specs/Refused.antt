@@ -4,7 +4,7 @@
 -- Assumes nothing.
 use mathlib.Core.Path.{_≡_, refl, sym, ap, _∙_}
 use mathlib.Core.Logic.{_≢_, _⊎_, inl, inr}
-use mathlib.Core.Bool.{Bool, true, false, not}
+use mathlib.Core.Bool.{Bool, true, false}
 use mathlib.Core.List.{List}
 use Prim.Native.Nat.{ℕ, zero, suc, _/_, min}
 use native.Mathlib.Omega.{arith}
@@ -16,7 +16,7 @@ use Rattle.rules.specs.declared.AskPlan.the-variants.{NoRoom, Damaged, Follow, 
 use Rattle.rules.specs.declared.BackPlan.{BackPlan}
 use Rattle.rules.specs.declared.BackPlan.the-variants.{Damaged as Broken, Joins, Stays, Empties, Returns, Releases}
 use Rattle.rules.specs.Say.{if_then_else_}
-use Rattle.rules.specs.Books.{Heap, inRange, exact, arenas, pools}
+use Rattle.rules.specs.Books.{Heap, inRange, exact, arenas, pools, editionWord, edition, isEdition, alignment}
 use Rattle.rules.specs.Blocks.{sizeAt, live, isBlock, liveNumber}
 use Rattle.rules.specs.Outcome.{Outcome, outcome, answerOf, done, refused, passing}
 use Rattle.rules.specs.Ask.{askAnswer, afterAsk, asked, askStep}
@@ -24,6 +24,10 @@ use Rattle.rules.specs.GiveBack.{backAnswer, afterBack, givenBack, backStep}
 use Rattle.rules.specs.Resize.{keeps, copy, giveOld, halfDone, moved, resizeStep}
 use Rattle.rules.specs.Numbers.{
   RollOutcome,
+  rangeNumber,
+  editionNumber,
+  lengthNumber,
+  reachNumber,
   fitNumber,
   shapeNumber,
   sizeNumber,
@@ -117,39 +121,42 @@ old-meets al A P h o = go (live al A P (h .books) (h .map) o) (isBlock al A P (h
     go false true d = inr (inl refl)
     go true u d = inr (inr (path-six o _ d))
 
-pub format-refused : (h : Heap) (A P : ℕ) → Unchanged h (format h A P)
+pub format-refused : (h : Heap) (A P e : ℕ) → Unchanged h (format h A P e)
 unfolding format
-format-refused h A P = after-tests h (fitNumber h A P) _ (was-done refl)
+format-refused h A P e = after-tests h (fitNumber h A P e) _ (was-done refl)
 
-module _ (al : ℕ) (h : Heap) where
-  pub ask-refused : (n : ℕ) → Unchanged h (ask al h n)
+module _ (h : Heap) where
+  pub ask-refused : (n : ℕ) → Unchanged h (ask h n)
   unfolding ask
-  ask-refused n = after-tests h (inOrder (shapeNumber h) (sizeNumber n) 0 0) _ (ask-step al (arenas h) (pools h) h n)
+  ask-refused n = after-tests h (inOrder (shapeNumber h) (sizeNumber n) 0 0) _ (ask-step (alignment h) (arenas h) (pools h) h n)
 
-  pub back-refused : (o : ℕ) → Unchanged h (giveBack al h o)
+  pub back-refused : (o : ℕ) → Unchanged h (giveBack h o)
   unfolding giveBack
-  back-refused o = after-tests h (offsetTests al h o) _ (back-step al (arenas h) (pools h) h o)
+  back-refused o = after-tests h (offsetTests h o) _ (back-step (alignment h) (arenas h) (pools h) h o)
 
-  pub write-refused : (o : ℕ) (text : List ℕ) → Unchanged h (write al h o text)
+  pub write-refused : (o : ℕ) (text : List ℕ) → Unchanged h (write h o text)
   unfolding write
-  write-refused o text = after-tests h (inOrder (shapeNumber h) 0 (offsetNumber al h o) (roomNumber (length text) (blockSize al h o))) _ (was-done refl)
+  write-refused o text = after-tests h (inOrder (shapeNumber h) 0 (offsetNumber h o) (roomNumber (length text) (blockSize h o))) _ (was-done refl)
 
   -- roll call leaves the lent words
-  pub roll-refused : (words : List ℕ) → rollCall al h words .answer .number ≢ 0
-      → rollCall al h words ≡ rollOutcome (rollCall al h words .answer .number) 0 words
+  pub roll-refused : (words : List ℕ) → rollCall h words .answer .number ≢ 0
+      → rollCall h words ≡ rollOutcome (rollCall h words .answer .number) 0 words
   unfolding rollCall
-  roll-refused words = go (inOrder (shapeNumber h) 0 0 (roomNumber (length (rollOf al h)) (length words))) _
+  roll-refused words = go (inOrder (shapeNumber h) 0 0 (roomNumber (length (rollOf h)) (length words))) _
     where
       Q : RollOutcome → Type 0
       Q x = x .answer .number ≢ 0 → x ≡ rollOutcome (x .answer .number) 0 words
 
       go : (k : ℕ) (v : List ℕ)
-          → Q (passing k (λ j. rollOutcome j 0 words) (rollOutcome 0 (length (rollOf al h) / 2) v))
+          → Q (passing k (λ j. rollOutcome j 0 words) (rollOutcome 0 (length (rollOf h) / 2) v))
       go zero v n = absurd (n refl)
       go (suc k) v n = refl
 
   -- ---- the half-done resize x of o to n: 6 with the new offset, and the ask and the copy stand, because the give-back
   -- over them meets 5, 10 or 6
+  abbrev al : ℕ
+  al = alignment h
+
   abbrev A : ℕ
   A = arenas h
 
@@ -206,10 +213,10 @@ module _ (al : ℕ) (h : Heap) where
     by-tests (suc k) d = inl refl
 
     -- a resize that is refused changed nothing, or is half done
-    pub resize-refused : resize al h o n .answer .number ≢ 0
-        → (resize al h o n ≡ refused (resize al h o n .answer .number) h) ⊎ HalfDone o n (resize al h o n)
+    pub resize-refused : resize h o n .answer .number ≢ 0
+        → (resize h o n ≡ refused (resize h o n .answer .number) h) ⊎ HalfDone o n (resize h o n)
     unfolding resize
-    resize-refused = by-tests (inOrder (shapeNumber h) (sizeNumber n) (offsetNumber al h o) 0)
+    resize-refused = by-tests (inOrder (shapeNumber h) (sizeNumber n) (offsetNumber h o) 0)
 
 -- ---- format, view, write and roll call never give 6: none of their tests does, and they take no step
 not-six : (t : Bool) (x y : ℕ) → x ≢ 6 → y ≢ 6 → (if t then x else y) ≢ 6
@@ -219,13 +226,33 @@ before-six : (j k : ℕ) → j ≢ 6 → k ≢ 6 → (j before k) ≢ 6
 before-six zero k u v = v
 before-six (suc j) k u v = u
 
-fit-six : (h : Heap) (A P : ℕ) → fitNumber h A P ≢ 6
+range-six : (A P : ℕ) → rangeNumber A P ≢ 6
+unfolding rangeNumber
+range-six A P = not-six (inRange A P) 0 1 (omega arith) (omega arith)
+
+edition-six : (e : ℕ) → editionNumber e ≢ 6
+unfolding editionNumber
+edition-six e = not-six (isEdition e) 0 1 (omega arith) (omega arith)
+
+length-six : (h : Heap) (A P : ℕ) → lengthNumber h A P ≢ 6
+unfolding lengthNumber
+length-six h A P = not-six (exact A P h) 0 2 (omega arith) (omega arith)
+
+reach-six : (h : Heap) (i : ℕ) → reachNumber h i ≢ 6
+unfolding reachNumber
+reach-six h i = not-six (ltb i (length (h .books))) 0 2 (omega arith) (omega arith)
+
+fit-six : (h : Heap) (A P e : ℕ) → fitNumber h A P e ≢ 6
 unfolding fitNumber
-fit-six h A P = not-six (not (inRange A P)) 1 _ (omega arith) (not-six (not (exact A P h)) 2 0 (omega arith) (omega arith))
+fit-six h A P e = before-six (rangeNumber A P) _ (range-six A P) (before-six (editionNumber e) _ (edition-six e) (length-six h A P))
 
 shape-six : (h : Heap) → shapeNumber h ≢ 6
 unfolding shapeNumber
-shape-six h = not-six (ltb (length (h .books)) 2) 2 _ (omega arith) (fit-six h (arenas h) (pools h))
+shape-six h =
+    before-six (reachNumber h 1) _ (reach-six h 1)
+    (before-six (rangeNumber (arenas h) (pools h)) _ (range-six (arenas h) (pools h))
+    (before-six (reachNumber h editionWord) _ (reach-six h editionWord)
+    (before-six (editionNumber (edition h)) _ (edition-six (edition h)) (length-six h (arenas h) (pools h)))))
 
 live-six : (al A P : ℕ) (b m : List ℕ) (o : ℕ) → liveNumber al A P b m o ≢ 6
 unfolding liveNumber
@@ -242,26 +269,26 @@ module _ {X : Type 0} (number : X → ℕ) (refusal : ℕ → X)
   call-six zero d = λ e. absurd (omega (arith, e, done-is))
   call-six (suc k) d = λ e. d (sym (is (suc k)) ∙ e)
 
-pub format-six : (h : Heap) (A P : ℕ) → format h A P .answer .number ≢ 6
+pub format-six : (h : Heap) (A P e : ℕ) → format h A P e .answer .number ≢ 6
 unfolding format
-format-six h A P = call-six (λ (x : Outcome). x .answer .number) (λ k. refused k h) (λ k. refl) _ refl (fitNumber h A P) (fit-six h A P)
+format-six h A P e = call-six (λ (x : Outcome). x .answer .number) (λ k. refused k h) (λ k. refl) _ refl (fitNumber h A P e) (fit-six h A P e)
 
-module _ (al : ℕ) (h : Heap) where
-  offset-six : (o room : ℕ) → room ≢ 6 → inOrder (shapeNumber h) 0 (offsetNumber al h o) room ≢ 6
+module _ (h : Heap) where
+  offset-six : (o room : ℕ) → room ≢ 6 → inOrder (shapeNumber h) 0 (offsetNumber h o) room ≢ 6
   offset-six o room d =
-      before-six (shapeNumber h) _ (shape-six h) (before-six (offsetNumber al h o) room (live-six al (arenas h) (pools h) (h .books) (h .map) o) d)
+      before-six (shapeNumber h) _ (shape-six h) (before-six (offsetNumber h o) room (live-six (alignment h) (arenas h) (pools h) (h .books) (h .map) o) d)
 
-  pub view-six : (o : ℕ) → viewSize al h o .number ≢ 6
+  pub view-six : (o : ℕ) → viewSize h o .number ≢ 6
   unfolding viewSize
   view-six o = call-six (λ (x : Sized). x .number) (λ k. sizedOf k 0) (λ k. refl) _ refl _ (offset-six o 0 (omega arith))
 
-  pub write-six : (o : ℕ) (text : List ℕ) → write al h o text .answer .number ≢ 6
+  pub write-six : (o : ℕ) (text : List ℕ) → write h o text .answer .number ≢ 6
   unfolding write
   write-six o text =
-      call-six (λ (x : Outcome). x .answer .number) (λ k. refused k h) (λ k. refl) _ refl _ (offset-six o _ (room-six (length text) (blockSize al h o)))
+      call-six (λ (x : Outcome). x .answer .number) (λ k. refused k h) (λ k. refl) _ refl _ (offset-six o _ (room-six (length text) (blockSize h o)))
 
-  pub roll-six : (words : List ℕ) → rollCall al h words .answer .number ≢ 6
+  pub roll-six : (words : List ℕ) → rollCall h words .answer .number ≢ 6
   unfolding rollCall
   roll-six words =
       call-six (λ (x : RollOutcome). x .answer .number) (λ k. rollOutcome k 0 words) (λ k. refl) _ refl _
-      (before-six (shapeNumber h) _ (shape-six h) (room-six (length (rollOf al h)) (length words)))
+      (before-six (shapeNumber h) _ (shape-six h) (room-six (length (rollOf h)) (length words)))

@@ -21,9 +21,9 @@ use Rattle.rules.specs.Ask.{askAnswer, afterAsk, askStep}
 use Rattle.rules.specs.Resize.{keeps, giveOld, moved, resizeStep}
 use Rattle.rules.specs.View.{part}
 use Rattle.rules.specs.Numbers.{giveBack, resize, sizeNumber}
+use Rattle.books.specs.Sizes.{Aligned, has-class, class-fits}
 use Rattle.laws.specs.Update.{to, to-cong}
 use Rattle.laws.specs.Plain.{Plain, planAsk as plainAsk, askPlain, backPlain, resizePlain, resizeAnswer}
-use Rattle.laws.specs.Sizes.{Aligned, has-class, class-fits}
 use Rattle.laws.specs.Sound.{Sound}
 use Rattle.laws.specs.Paths.{Hand, Asked}
 use Rattle.laws.specs.Bytes.{outside-less, sets-off, text-part}
@@ -52,16 +52,16 @@ use Rattle.laws.specs.Written.{written-leaves}
 use Rattle.laws.specs.History.{carried}
 
 module _ {al A P : ℕ} {h : Heap} {r : Plain} (L : Aligned al) (S : Sound al A P h r) (o n : ℕ) where
-  pub resize-size : sizeNumber n ≡ 3 → resize al h o n ≡ refused 3 h
+  pub resize-size : sizeNumber n ≡ 3 → resize h o n ≡ refused 3 h
   unfolding resize
   resize-size e = rw (shape-zero S, e)
 
   module _ (lo : 1 ≤ n) (hi : n ≤ 512) where
     pub resize-dead : live al A P (h .books) (h .map) o ≡ false
-        → resize al h o n ≡ refused (deadNumber al A P (h .books) o) h
+        → resize h o n ≡ refused (deadNumber al A P (h .books) o) h
     unfolding resize sizeNumber
     resize-dead e =
-        rw (shape-zero S, le-leb 1 n lo, le-leb n 512 hi, S .rule1 .arenas-are, S .rule1 .pools-are)
+        rw (shape-zero S, le-leb 1 n lo, le-leb n 512 hi, S .rule1 .alignment-is, S .rule1 .arenas-are, S .rule1 .pools-are)
         (live-test al A P (h .books) o (h .map) (λ k. refused k h) _ ∙ rw e)
 
     module _ (e : live al A P (h .books) (h .map) o ≡ true) where
@@ -74,14 +74,38 @@ module _ {al A P : ℕ} {h : Heap} {r : Plain} (L : Aligned al) (S : Sound al A 
       size-is : sizeAt al A (h .books) o ≡ liveSize t
       size-is = ap (sizeOf al) (class-is L S o t)
 
-      pub resize-keeps : keeps (liveSize t) n ≡ true → resize al h o n ≡ done o h
+      pub resize-keeps : keeps (liveSize t) n ≡ true → resize h o n ≡ done o h
       unfolding resize resizeStep sizeNumber liveNumber
-      resize-keeps q = rw (shape-zero S, le-leb 1 n lo, le-leb n 512 hi, S .rule1 .arenas-are, S .rule1 .pools-are, e, size-is, q)
+      resize-keeps q =
+          rw (
+            shape-zero S,
+            le-leb 1 n lo,
+            le-leb n 512 hi,
+            S .rule1 .alignment-is,
+            S .rule1 .arenas-are,
+            S .rule1 .pools-are,
+            e,
+            size-is,
+            q,
+          )
 
       pub resize-none : keeps (liveSize t) n ≡ false → plainAsk al P r (classOf al n) ≡ NoRoom
-          → resize al h o n ≡ refused 4 h
+          → resize h o n ≡ refused 4 h
       unfolding resize resizeStep moved askStep askAnswer afterAsk sizeNumber liveNumber
-      resize-none q z = rw (shape-zero S, le-leb 1 n lo, le-leb n 512 hi, S .rule1 .arenas-are, S .rule1 .pools-are, e, size-is, q, D .plan-is, z)
+      resize-none q z =
+          rw (
+            shape-zero S,
+            le-leb 1 n lo,
+            le-leb n 512 hi,
+            S .rule1 .alignment-is,
+            S .rule1 .arenas-are,
+            S .rule1 .pools-are,
+            e,
+            size-is,
+            q,
+            D .plan-is,
+            z,
+          )
 
       -- ---- the ask is done
       module _ (z : askAnswer (plainAsk al P r (classOf al n)) .number ≡ 0) where
@@ -143,20 +167,23 @@ module _ {al A P : ℕ} {h : Heap} {r : Plain} (L : Aligned al) (S : Sound al A 
         pub still-live : live al A P (copied .books) (copied .map) o ≡ true
         still-live = rows-live L copied-sound o u
 
-        given : giveBack al copied o .answer .number ≡ 0
+        given : giveBack copied o .answer .number ≡ 0
         given = ap (λ (y : Outcome). y .answer .number) (back-is L copied-sound o still-live)
 
-        give-old-is : giveOld al A P copied o ≡ giveBack al copied o
+        give-old-is : giveOld al A P copied o ≡ giveBack copied o
         unfolding giveOld giveBack liveNumber
-        give-old-is = rw (shape-zero copied-sound, D .sound .rule1 .arenas-are, D .sound .rule1 .pools-are, still-live)
+        give-old-is =
+            let shape = D .sound .rule1 in
+            rw (shape-zero copied-sound, shape .alignment-is, shape .arenas-are, shape .pools-are, still-live)
 
-        pub resize-moves : keeps (liveSize t) n ≡ false → resize al h o n ≡ done new (giveBack al copied o .heap)
+        pub resize-moves : keeps (liveSize t) n ≡ false → resize h o n ≡ done new (giveBack copied o .heap)
         unfolding resize resizeStep moved askStep sizeNumber liveNumber
         resize-moves q =
             rw (
               shape-zero S,
               le-leb 1 n lo,
               le-leb n 512 hi,
+              S .rule1 .alignment-is,
               S .rule1 .arenas-are,
               S .rule1 .pools-are,
               e,
@@ -169,9 +196,9 @@ module _ {al A P : ℕ} {h : Heap} {r : Plain} (L : Aligned al) (S : Sound al A 
               given,
             )
 
-        moved-sound : Sound al A P (giveBack al copied o .heap) (backPlain P (askPlain al P r n) (t .pool) (t .block))
+        moved-sound : Sound al A P (giveBack copied o .heap) (backPlain P (askPlain al P r n) (t .pool) (t .block))
         moved-sound =
-            subst (λ (x : Plain). Sound al A P (giveBack al copied o .heap) x) (ap₂ (backPlain P (askPlain al P r n)) same-pool same-block)
+            subst (λ (x : Plain). Sound al A P (giveBack copied o .heap) x) (ap₂ (backPlain P (askPlain al P r n)) same-pool same-block)
             (back-leaves L copied-sound o still-live .sound)
           where
             v : LiveAt al A P (askPlain al P r n) o
@@ -203,7 +230,7 @@ module _ {al A P : ℕ} {h : Heap} {r : Plain} (L : Aligned al) (S : Sound al A 
             go (yes q) = rw (eq-eqb y new q)
             go (no q) = rw (ne-eqb y new q) (holding-others L S (D .sound) (D .quiet) (has-class L n hi) H y q)
 
-        moved-holds : (y : ℕ) → holding al A P (giveBack al copied o .heap) y
+        moved-holds : (y : ℕ) → holding al A P (giveBack copied o .heap) y
             ≡ to o [] (to new (part new size (copied .memory)) (holding al A P h)) y
         moved-holds y =
             back-leaves L copied-sound o still-live .holds y
@@ -224,9 +251,9 @@ module _ {al A P : ℕ} {h : Heap} {r : Plain} (L : Aligned al) (S : Sound al A 
             ∙ ap₂ (λ (b : List ℕ) (i : ℕ). b ++ drop i (part new size (asked .memory))) text-is text-long
 
         -- a moving resize carries the first bytes of the old block over to the new one
-        pub moved-leaves : Leaves al A P h (giveBack al copied o .heap)
+        pub moved-leaves : Leaves al A P h (giveBack copied o .heap)
             (backPlain P (askPlain al P r n) (t .pool) (t .block))
-            (carried al n o new (asked .memory) (holding al A P h))
+            (carried size n o new (asked .memory) (holding al A P h))
         moved-leaves =
             record {
               sound = moved-sound;
@@ -242,26 +269,26 @@ module _ {al A P : ℕ} {h : Heap} {r : Plain} (L : Aligned al) (S : Sound al A 
 
             go : (y : ℕ) → Dec (y ≡ new) → Dec (y ≡ o)
                 → to o [] (to new (part new size (copied .memory)) (holding al A P h)) y
-                ≡ carried al n o new (asked .memory) (holding al A P h) y
+                ≡ carried size n o new (asked .memory) (holding al A P h) y
             go y (yes q) d = rw (ne-eqb y o (λ v. differ (sym v ∙ q)), eq-eqb y new q, ← length-is) new-bytes
             go y (no q) (yes d) = rw (ne-eqb y new q, eq-eqb y o d)
             go y (no q) (no d) = rw (ne-eqb y new q, ne-eqb y o d)
 
     -- ---- the whole call: number and offset are the plain heap's, and the heap after it holds the plain heap after it
     pub resize-done : (e : live al A P (h .books) (h .map) o ≡ true)
-        → (resize al h o n .answer ≡ resizeAnswer al P r o (t e .pool) n)
-        × Sound al A P (resize al h o n .heap) (resizePlain al P r (t e .pool) (t e .block) n)
+        → (resize h o n .answer ≡ resizeAnswer al P r o (t e .pool) n)
+        × Sound al A P (resize h o n .heap) (resizePlain al P r (t e .pool) (t e .block) n)
     unfolding askAnswer
     resize-done e = by-keep (keeps (liveSize (t e)) n) refl
       where
         Q : Outcome → Type 0
         Q y = (y .answer ≡ resizeAnswer al P r o (t e .pool) n) × Sound al A P (y .heap) (resizePlain al P r (t e .pool) (t e .block) n)
 
-        by-room : keeps (liveSize (t e)) n ≡ false → DoneOrNot al P r (classOf al n) → Q (resize al h o n)
+        by-room : keeps (liveSize (t e)) n ≡ false → DoneOrNot al P r (classOf al n) → Q (resize h o n)
         by-room q (inl z) = rw (resize-moves e z q, q, z) (ap (λ (k : ℕ). answerOf k (new e z)) (sym z), moved-sound e z)
         by-room q (inr z) = rw (resize-none e q (z .plan-is), q, z .plan-is) (refl, S)
 
-        by-keep : (b : Bool) → keeps (liveSize (t e)) n ≡ b → Q (resize al h o n)
+        by-keep : (b : Bool) → keeps (liveSize (t e)) n ≡ b → Q (resize h o n)
         by-keep true q = rw (resize-keeps e q, q) (refl, S)
         by-keep false q = by-room q (done-or-not al P r (classOf al n))
 
@@ -272,24 +299,24 @@ pub resize-cases : {al A P : ℕ} {h : Heap} {r : Plain} (L : Aligned al) (S : S
     → F (refused (deadNumber al A P (h .books) o) h) → F (done o h)
     → ((lo : 1 ≤ n) (hi : n ≤ 512) (e : live al A P (h .books) (h .map) o ≡ true)
     → keeps (liveSize (block-of L S o e)) n ≡ false → askAnswer (plainAsk al P r (classOf al n)) .number ≡ 0
-    → F (resize al h o n))
-    → F (resize al h o n)
+    → F (resize h o n))
+    → F (resize h o n)
 resize-cases {al} {A} {P} {h} {r} L S o n F small none dead kept moves = by-size (size-number n)
   where
     by-room : (lo : 1 ≤ n) (hi : n ≤ 512) (e : live al A P (h .books) (h .map) o ≡ true)
-        → keeps (liveSize (block-of L S o e)) n ≡ false → DoneOrNot al P r (classOf al n) → F (resize al h o n)
+        → keeps (liveSize (block-of L S o e)) n ≡ false → DoneOrNot al P r (classOf al n) → F (resize h o n)
     by-room lo hi e q (inl z) = moves lo hi e q z
     by-room lo hi e q (inr z) = rw (resize-none L S o n lo hi e q (z .plan-is)) none
 
     by-keep : (lo : 1 ≤ n) (hi : n ≤ 512) (e : live al A P (h .books) (h .map) o ≡ true) (b : Bool)
-        → keeps (liveSize (block-of L S o e)) n ≡ b → F (resize al h o n)
+        → keeps (liveSize (block-of L S o e)) n ≡ b → F (resize h o n)
     by-keep lo hi e true q = rw (resize-keeps L S o n lo hi e q) kept
     by-keep lo hi e false q = by-room lo hi e q (done-or-not al P r (classOf al n))
 
-    by-live : (lo : 1 ≤ n) (hi : n ≤ 512) (b : Bool) → live al A P (h .books) (h .map) o ≡ b → F (resize al h o n)
+    by-live : (lo : 1 ≤ n) (hi : n ≤ 512) (b : Bool) → live al A P (h .books) (h .map) o ≡ b → F (resize h o n)
     by-live lo hi false e = rw (resize-dead L S o n lo hi e) dead
     by-live lo hi true e = by-keep lo hi e (keeps (liveSize (block-of L S o e)) n) refl
 
-    by-size : ((1 ≤ n) × (n ≤ 512)) ⊎ (sizeNumber n ≡ 3) → F (resize al h o n)
+    by-size : ((1 ≤ n) × (n ≤ 512)) ⊎ (sizeNumber n ≡ 3) → F (resize h o n)
     by-size (inr e) = rw (resize-size L S o n e) small
     by-size (inl t) = by-live (t .0) (t .1) (live al A P (h .books) (h .map) o) refl

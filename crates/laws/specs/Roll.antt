@@ -17,7 +17,7 @@ use Rattle.rules.specs.Books.{at, memoryLength, isSet, class, pool, offsetOf}
 use Rattle.rules.specs.Blocks.{sizeOf, lastClass, startOf, lastStart, isStart, blockNo, capacity, sizeAt, live}
 use Rattle.rules.specs.View.{rollBlocks, rollPool, rollPools, roll}
 use Rattle.books.specs.Starts.{start-is, number-is}
-use Rattle.laws.specs.Sizes.{Aligned, size-low}
+use Rattle.books.specs.Sizes.{Aligned, size-low}
 use Rattle.laws.specs.AskListed.{past-last}
 use Rattle.laws.specs.Plain.{howMany}
 use Rattle.laws.specs.History.{listing, heldBelow}

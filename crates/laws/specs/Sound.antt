@@ -1,5 +1,5 @@
--- The heap h holds the plain heap r, soundly: W-201's rules 1 to 8, each as a part of its own, in that order, at the
--- alignment al.
+-- The heap h holds the plain heap r, soundly: W-201's rules 1 to 8, each as a part of its own, in that order, al being
+-- the alignment of the books' edition.
 -- Assumes nothing.
 use mathlib.Core.Path.{_≡_}
 use mathlib.Core.Logic.{_⊎_}
@@ -17,6 +17,10 @@ use Rattle.rules.specs.Books.{
   isSet,
   arenas,
   pools,
+  editionWord,
+  edition,
+  isEdition,
+  alignment,
   usableHead,
   unusedHead,
   classHead,
@@ -66,17 +70,20 @@ abbrev pub arenaRows : Plain → ℕ → List ℕ
 arenaRows r i = if eqb i usableHead then r .usable else r .unused
 
 -- ---- the rules
--- "(1) no 1 or 2"
-pub record Shape (A P : ℕ) (h : Heap) : Type 0 where
+-- "(1) no 1 or 2", and by W-211 an edition other than the two is 1
+pub record Shape (al A P : ℕ) (h : Heap) : Type 0 where
   pub arenas-are : arenas h ≡ A
   pub pools-are : pools h ≡ P
+  pub alignment-is : alignment h ≡ al
   pub range : inRange A P ≡ true
+  pub an-edition : isEdition (edition h) ≡ true
   pub lengths : exact A P h ≡ true
 
--- "(2) open 0 or 1, words 68 to 71, an arena record's last two and a pool record's last being 0"
+-- "(2) open 0 or 1, words 68 to 71, an arena record's last two and a pool record's last being 0". W-211 makes word 68
+-- the edition, and "the audit allows it": so words 69 to 71
 pub record Zeros (A P : ℕ) (b : List ℕ) : Type 0 where
   pub opens : (a : ℕ) → a < A → (arena b openWord a ≡ 0) ⊎ (arena b openWord a ≡ 1)
-  pub heads : (i : ℕ) → 68 ≤ i → i < 72 → at b i ≡ 0
+  pub heads : (i : ℕ) → editionWord < i → i < 72 → at b i ≡ 0
   pub arenas : (w a : ℕ) → 6 ≤ w → w < 8 → a < A → arena b w a ≡ 0
   pub pools : (n : ℕ) → n < A * P → pool A b 7 n ≡ 0
 
@@ -143,7 +150,7 @@ pub record Sound (al A P : ℕ) (h : Heap) (r : Plain) : Type 0 where
   pub bits : (n k : ℕ) → n < A * P → k < 512 → isSet (h .map) n k ≡ r .live n k
   pub beyond : (n k : ℕ) → n < A * P → 512 ≤ k → r .live n k ≡ false
   -- W-201
-  pub rule1 : Shape A P h
+  pub rule1 : Shape al A P h
   pub rule2 : Zeros A P (h .books)
   pub rule3 : (a : ℕ) → a < A → arena (h .books) openWord a ≡ 0 → Closed (h .books) a
   pub rule4 : (a : ℕ) → a < A → arena (h .books) openWord a ≡ 1 → Open P (h .books) r a

@@ -57,6 +57,7 @@ use Rattle.rules.specs.Ask.{
 }
 use Rattle.books.specs.Starts.{start-is, number-is, first-block, second-block}
 use Rattle.books.specs.Known.{in-range}
+use Rattle.books.specs.Sizes.{Aligned, size-low, size-high, capacity-high, capacity-low, class-low}
 use Rattle.laws.specs.Update.{is-false, to, to-same, to-other, to-cong}
 use Rattle.laws.specs.Sequences.{All, erase, erase-front}
 use Rattle.laws.specs.Linked.{Stack}
@@ -92,7 +93,6 @@ use Rattle.laws.specs.Plain.{
   afterAsk as plainAfterAsk,
 }
 use Rattle.laws.specs.Counting.{many-none, many-all, many-le}
-use Rattle.laws.specs.Sizes.{Aligned, size-low, size-high, capacity-high, capacity-low, class-low}
 use Rattle.laws.specs.Chains.{Blocks}
 use Rattle.laws.specs.Sound.{Sound}
 use Rattle.laws.specs.Held.{Held, held, InClassOf, classed, use-class, no-freed, freed-is, usable-is, unused-is, home-freed, home-away, base-usable}

@@ -10,13 +10,13 @@ use Rattle.rules.specs.Numbers.{view, viewSize, standIn, standInAt}
 use Rattle.books.specs.Passing.{stopped, passed}
 
 -- o an offset; memory and lent are where memory and the phrase lie
-module _ (al : ℕ) (h : Heap) where
+module _ (h : Heap) where
   -- where view would refuse, the phrase itself; where it would not, view's bytes, in memory from the offset on
   pub stand-in-means : (o : ℕ) (phrase : List ℕ) (memory lent : ℕ × ℕ)
-      → (viewSize al h o .number ≢ 0
-      → (standIn al h o phrase ≡ phrase) × (standInAt al h o memory lent ≡ lent))
-      × (viewSize al h o .number ≡ 0
-      → (standIn al h o phrase ≡ view al h o) × (standInAt al h o memory lent ≡ (memory .0, o + memory .1)))
+      → (viewSize h o .number ≢ 0
+      → (standIn h o phrase ≡ phrase) × (standInAt h o memory lent ≡ lent))
+      × (viewSize h o .number ≡ 0
+      → (standIn h o phrase ≡ view h o) × (standInAt h o memory lent ≡ (memory .0, o + memory .1)))
   unfolding standIn
   stand-in-means o phrase memory lent = (
     λ refused. (stopped (λ k. phrase) _ _ refused, stopped (λ k. lent) _ _ refused),
@@ -26,7 +26,7 @@ module _ (al : ℕ) (h : Heap) where
   -- so the phrase itself is handed back only where view would refuse, unless what is lent as the phrase is the block's
   -- own part
   pub stand-in-only : (o : ℕ) (phrase : List ℕ) (memory lent : ℕ × ℕ)
-      → ((phrase ≡ view al h o) × (lent ≡ (memory .0, o + memory .1)) → ⊥)
-      → (standIn al h o phrase ≡ phrase) × (standInAt al h o memory lent ≡ lent) → viewSize al h o .number ≢ 0
+      → ((phrase ≡ view h o) × (lent ≡ (memory .0, o + memory .1)) → ⊥)
+      → (standIn h o phrase ≡ phrase) × (standInAt h o memory lent ≡ lent) → viewSize h o .number ≢ 0
   stand-in-only o phrase memory lent other e done =
       let t = stand-in-means o phrase memory lent .1 done in other (sym (e .0) ∙ t .0, sym (e .1) ∙ t .1)

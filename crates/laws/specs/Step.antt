@@ -14,15 +14,15 @@ use lib.Dec.{ltb, eqb}
 use lib.ListN.{length}
 use borrow.Author.Tests.{eq-eqb, ne-eqb}
 use Rattle.rules.specs.Say.{if_then_else_}
-use Rattle.rules.specs.Books.{at, isSet, offsetOf, putMapBit}
+use Rattle.rules.specs.Books.{at, isSet, editionWord, isEdition, alignmentOf, offsetOf, putMapBit}
 use Rattle.rules.specs.Blocks.{sizeOf, startOf, linkAt, putLink}
 use Rattle.bits.specs.Map.{put-block, length-put}
+use Rattle.books.specs.Sizes.{Aligned, size-low}
 use Rattle.laws.specs.Update.{to}
 use Rattle.laws.specs.Sequences.{all-map}
 use Rattle.laws.specs.Books.{View}
 use Rattle.laws.specs.Plain.{Plain, count, inUse, carved, free, howMany}
 use Rattle.laws.specs.Counting.{many-same}
-use Rattle.laws.specs.Sizes.{Aligned, size-low}
 use Rattle.laws.specs.Bytes.{Outside}
 use Rattle.laws.specs.Chains.{Blocks, block-ends, link-bytes, put-link-other, length-link, framed}
 use Rattle.laws.specs.Sound.{home, base}
@@ -145,6 +145,8 @@ module _ {al A P p a : ℕ} {U U′ : View} {m m′ k : List ℕ} {r r′ : Plai
         maps = length-put k p j d ∙ F .maps;
         arenas-are = W .heads 0 ∙ F .arenas-are;
         pools-are = W .heads 1 ∙ F .pools-are;
+        alignment-is = ap alignmentOf (W .heads editionWord) ∙ F .alignment-is;
+        an-edition = ap isEdition (W .heads editionWord) ∙ F .an-edition;
         head-zeros = λ i u v. W .heads i ∙ F .head-zeros i u v;
         arena-zeros = λ w x u v l. zero-arena w x u v l (ℕ-discrete x a);
         pool-zeros = λ n l. zero-pool n l (ℕ-discrete n p);

@@ -37,12 +37,12 @@ use Rattle.rules.specs.Outcome.{heapOf}
 use Rattle.rules.specs.Ask.{spend, alone, noLinkAt, handOut}
 use Rattle.books.specs.Starts.{number-is, first-block}
 use Rattle.books.specs.Known.{in-range}
+use Rattle.books.specs.Sizes.{Aligned, size-low, size-high, capacity-high, capacity-low, class-low}
 use Rattle.laws.specs.Update.{is-false, to, to-same, to-other, to-cong}
 use Rattle.laws.specs.Sequences.{erase}
 use Rattle.laws.specs.Books.{View, Books, put-pool, put-arena, pool-alone, arena-leaves, poolTo, arenaTo, homeTo, listedTo}
 use Rattle.laws.specs.Plain.{Plain, count, inUse, carved, free, setUsable, setChain, setLive, setListed, setClass, setVirgin}
 use Rattle.laws.specs.Counting.{many-more, none-many}
-use Rattle.laws.specs.Sizes.{Aligned, size-low, size-high, capacity-high, capacity-low, class-low}
 use Rattle.laws.specs.Chains.{Blocks, taken, anew, live-below}
 use Rattle.laws.specs.Sound.{base, Sound}
 use Rattle.laws.specs.Held.{Says, ArenaSays, ListsSay, InClassOf, sound, in-class, arena-low, home-listed, base-usable, base-spent}

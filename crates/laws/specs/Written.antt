@@ -14,10 +14,10 @@ use Rattle.rules.specs.Books.{Heap, at, offsetOf}
 use Rattle.rules.specs.Blocks.{sizeOf, startOf, linkAt, live}
 use Rattle.rules.specs.Outcome.{heapOf}
 use Rattle.rules.specs.View.{part}
+use Rattle.books.specs.Sizes.{Aligned, size-low}
 use Rattle.laws.specs.Update.{to}
 use Rattle.laws.specs.Sequences.{All, all-map, all-two, all-every}
 use Rattle.laws.specs.Plain.{Plain}
-use Rattle.laws.specs.Sizes.{Aligned, size-low}
 use Rattle.laws.specs.Bytes.{Outside, Clear, part-same}
 use Rattle.laws.specs.Chains.{Blocks, block-ends, pools-apart, block-outside, first-outside, link-bytes, framed, live-off}
 use Rattle.laws.specs.Sound.{Sound}
@@ -82,6 +82,8 @@ module _ {al A P : ℕ} {h : Heap} {r : Plain} (L : Aligned al) (S : Sound al A 
             maps = F .maps;
             arenas-are = F .arenas-are;
             pools-are = F .pools-are;
+            alignment-is = F .alignment-is;
+            an-edition = F .an-edition;
             head-zeros = F .head-zeros;
             arena-zeros = F .arena-zeros;
             pool-zeros = F .pool-zeros;
