@@ -1,11 +1,17 @@
-// Runs 01's "Cases on each side" and cases of 02's W-206 and W-214, a line for each: the calls of the case in order,
-// with what each answered.
+// Runs 01's "Cases on each side" and cases of 02's W-206, W-211 and W-214, a line for each: the calls of the case in
+// order, with what each answered.
+use books::words::CLASS;
 use books::words::FREEBLOCK;
 use books::words::MAXNEXTOFFSET;
 use books::words::NEXTOFFSET;
 use books::words::RECORDS;
 use books::words::index;
 use libc::STDOUT_FILENO;
+
+// The editions, as format is told them.
+const EIGHT: usize = 0;
+
+const SIXTEEN: usize = 1;
 
 // ---- printing
 
@@ -30,11 +36,29 @@ fn answered(refusal: u32, done: u32) {
 
 // ---- the calls, each with its arguments and its answer
 
-fn format(name: &[u8], memory: &[u8], books: &mut [u32], map: &mut [u64], pools: usize) {
-    let a = heap::format(memory, books, map, 1, pools);
+// The edition, where it is not 01's.
+fn told(edition: usize) {
+    if edition == SIXTEEN {
+        text(b", sixteen");
+    } else if edition != EIGHT {
+        text(b", edition ");
+        number(edition);
+    }
+}
+
+fn format(
+    name: &[u8],
+    memory: &[u8],
+    books: &mut [u32],
+    map: &mut [u64],
+    pools: usize,
+    edition: usize,
+) {
+    let a = heap::format(memory, books, map, 1, pools, edition);
     text(name);
     text(b": format 1 by ");
     number(pools);
+    told(edition);
     answered(a.number, a.offset);
 }
 
@@ -163,7 +187,7 @@ fn pool(books: &[u32]) {
     word(books, b", maxnextoffset ", RECORDS + 8 + MAXNEXTOFFSET);
 }
 
-// ---- K1 to K10, in a fresh heap of one arena of 16 pools
+// ---- K1 to K10, in a fresh heap of one arena of 16 pools, at either edition
 
 // Its memory, books and map: 16 times 4,096 bytes, 72 + 8 + 8 times 16 words, 8 times 16 words.
 type Memory = [u8; 65536];
@@ -172,87 +196,108 @@ type Books = [u32; 208];
 
 type Map = [u64; 128];
 
-fn k1(memory: &mut Memory, books: &mut Books, map: &mut Map) {
-    format(b"K1", memory, books, map, 16);
+// The number that a case has at the edition: at eight, or at sixteen.
+fn either(edition: usize, eight: usize, sixteen: usize) -> usize {
+    if edition == SIXTEEN {
+        return sixteen;
+    }
+    eight
+}
+
+fn k1(memory: &mut Memory, books: &mut Books, map: &mut Map, edition: usize) {
+    format(b"K1", memory, books, map, 16, edition);
     ask(memory, books, map, 1);
     pool(books);
     text(b"\n");
 }
 
-fn k2(memory: &mut Memory, books: &mut Books, map: &mut Map) {
-    format(b"K2", memory, books, map, 16);
+fn k2(memory: &mut Memory, books: &mut Books, map: &mut Map, edition: usize) {
+    format(b"K2", memory, books, map, 16, edition);
     ask(memory, books, map, 1);
-    ask(memory, books, map, 8);
+    ask(memory, books, map, either(edition, 8, 16));
     pool(books);
     text(b"\n");
 }
 
-fn k3(memory: &mut Memory, books: &mut Books, map: &mut Map) {
-    format(b"K3", memory, books, map, 16);
+fn k3(memory: &mut Memory, books: &mut Books, map: &mut Map, edition: usize) {
+    format(b"K3", memory, books, map, 16, edition);
     ask(memory, books, map, 1);
     ask(memory, books, map, 1);
     give_back(memory, books, map, 48);
-    ask(memory, books, map, 8);
+    ask(memory, books, map, either(edition, 8, 16));
     text(b"\n");
 }
 
-fn k4(memory: &mut Memory, books: &mut Books, map: &mut Map) {
-    format(b"K4", memory, books, map, 16);
-    ask(memory, books, map, 8);
-    ask(memory, books, map, 9);
+fn k4(memory: &mut Memory, books: &mut Books, map: &mut Map, edition: usize) {
+    format(b"K4", memory, books, map, 16, edition);
+    ask(memory, books, map, either(edition, 8, 16));
+    ask(memory, books, map, either(edition, 9, 17));
     text(b"\n");
 }
 
-fn k5(memory: &mut Memory, books: &mut Books, map: &mut Map) {
-    format(b"K5", memory, books, map, 16);
+fn k5(memory: &mut Memory, books: &mut Books, map: &mut Map, edition: usize) {
+    format(b"K5", memory, books, map, 16, edition);
     ask(memory, books, map, 1);
     ask(memory, books, map, 1);
-    ask(memory, books, map, 9);
+    ask(memory, books, map, either(edition, 9, 17));
     give_back(memory, books, map, 48);
-    give_back(memory, books, map, 56);
-    ask(memory, books, map, 8);
+    give_back(memory, books, map, either(edition, 56, 64));
+    ask(memory, books, map, either(edition, 8, 16));
     text(b"\n");
 }
 
-fn k6(memory: &mut Memory, books: &mut Books, map: &mut Map) {
-    format(b"K6", memory, books, map, 16);
+fn k6(memory: &mut Memory, books: &mut Books, map: &mut Map, edition: usize) {
+    format(b"K6", memory, books, map, 16, edition);
     ask(memory, books, map, 1);
-    ask(memory, books, map, 9);
+    ask(memory, books, map, either(edition, 9, 17));
     give_back(memory, books, map, 48);
-    ask(memory, books, map, 17);
+    ask(memory, books, map, either(edition, 17, 33));
     text(b"\n");
 }
 
-fn k7(memory: &mut Memory, books: &mut Books, map: &mut Map) {
-    format(b"K7", memory, books, map, 16);
+// At sixteen the line says the class too, the last one: 31.
+fn k7(memory: &mut Memory, books: &mut Books, map: &mut Map, edition: usize) {
+    format(b"K7", memory, books, map, 16, edition);
     ask(memory, books, map, 0);
     ask(memory, books, map, 513);
     ask(memory, books, map, 512);
     pool(books);
+    if edition == SIXTEEN {
+        word(books, b", class ", RECORDS + 8 + CLASS);
+    }
     text(b"\n");
 }
 
-fn k8(memory: &mut Memory, books: &mut Books, map: &mut Map) {
-    format(b"K8", memory, books, map, 16);
+// The block of 100 bytes has 104, and 112 at sixteen: three quarters of it are 78, and 84.
+fn k8(memory: &mut Memory, books: &mut Books, map: &mut Map, edition: usize) {
+    format(b"K8", memory, books, map, 16, edition);
     ask(memory, books, map, 100);
     size(memory, books, map, 48);
-    resize(memory, books, map, 48, 79);
-    resize(memory, books, map, 48, 78);
+    resize(memory, books, map, 48, either(edition, 79, 85));
+    resize(memory, books, map, 48, either(edition, 78, 84));
     text(b"\n");
 }
 
-fn k9(memory: &mut Memory, books: &mut Books, map: &mut Map) {
-    format(b"K9", memory, books, map, 16);
-    ask(memory, books, map, 8);
-    resize(memory, books, map, 48, 6);
-    resize(memory, books, map, 56, 7);
+// Three quarters of the smallest block are 6 bytes, and 12 at sixteen.
+fn k9(memory: &mut Memory, books: &mut Books, map: &mut Map, edition: usize) {
+    format(b"K9", memory, books, map, 16, edition);
+    ask(memory, books, map, either(edition, 8, 16));
+    resize(memory, books, map, 48, either(edition, 6, 12));
+    resize(
+        memory,
+        books,
+        map,
+        either(edition, 56, 64),
+        either(edition, 7, 13),
+    );
     text(b"\n");
 }
 
-fn k10(memory: &mut Memory, books: &mut Books, map: &mut Map) {
-    format(b"K10", memory, books, map, 16);
+// No block starts at 52, and at sixteen none at 56.
+fn k10(memory: &mut Memory, books: &mut Books, map: &mut Map, edition: usize) {
+    format(b"K10", memory, books, map, 16, edition);
     ask(memory, books, map, 1);
-    give_back(memory, books, map, 52);
+    give_back(memory, books, map, either(edition, 52, 56));
     give_back(memory, books, map, 0);
     give_back(memory, books, map, 65536);
     give_back(memory, books, map, 48);
@@ -266,7 +311,7 @@ fn k10(memory: &mut Memory, books: &mut Books, map: &mut Map) {
 fn carries(memory: &mut Memory, books: &mut Books, map: &mut Map) {
     let letters =
         b"abcdefghijklmnopqrstuvwxyzabcdefghijklmnopqrstuvwxyzabcdefghijklmnopqrstuvwxyzabcdefghijklmnopqrstuvwxyz";
-    format(b"Resize", memory, books, map, 16);
+    format(b"Resize", memory, books, map, 16, EIGHT);
     ask(memory, books, map, 104);
     write(memory, books, map, 48, letters);
     resize(memory, books, map, 48, 104);
@@ -277,7 +322,7 @@ fn carries(memory: &mut Memory, books: &mut Books, map: &mut Map) {
 }
 
 fn no_block(memory: &mut Memory, books: &mut Books, map: &mut Map) {
-    format(b"No block", memory, books, map, 16);
+    format(b"No block", memory, books, map, 16, EIGHT);
     resize(memory, books, map, 48, 0);
     resize(memory, books, map, 48, 1);
     size(memory, books, map, 48);
@@ -287,7 +332,7 @@ fn no_block(memory: &mut Memory, books: &mut Books, map: &mut Map) {
 
 // A second give-back is of a dead block while the other block holds the arena open, and of none once it is released.
 fn dead_block(memory: &mut Memory, books: &mut Books, map: &mut Map) {
-    format(b"Dead block", memory, books, map, 16);
+    format(b"Dead block", memory, books, map, 16, EIGHT);
     ask(memory, books, map, 8);
     ask(memory, books, map, 8);
     give_back(memory, books, map, 48);
@@ -309,7 +354,7 @@ fn rolls(memory: &mut Memory, books: &mut Books, map: &mut Map) {
     let mut few: [u32; 3] = [9; 3];
     let mut exact: [u32; 4] = [9; 4];
     let mut more: [u32; 6] = [9; 6];
-    format(b"Roll call", memory, books, map, 16);
+    format(b"Roll call", memory, books, map, 16, EIGHT);
     roll_call(memory, books, map, &mut none);
     ask(memory, books, map, 8);
     ask(memory, books, map, 9);
@@ -325,7 +370,7 @@ fn rolls(memory: &mut Memory, books: &mut Books, map: &mut Map) {
 // A block speaks while it is live, and then the phrase, never what was once there; an empty phrase is allowed.
 fn stands_in(memory: &mut Memory, books: &mut Books, map: &mut Map) {
     let phrase = b"this amount can't be read out";
-    format(b"Stand-in", memory, books, map, 16);
+    format(b"Stand-in", memory, books, map, 16, EIGHT);
     stand_in(memory, books, map, 48, phrase);
     ask(memory, books, map, 8);
     write(memory, books, map, 48, b"owed 100");
@@ -336,24 +381,32 @@ fn stands_in(memory: &mut Memory, books: &mut Books, map: &mut Map) {
     text(b"\n");
 }
 
-// The 506th ask gives 4,088, the 507th 4,144, the 1,012th 8,184, the 1,013th is refused; a block
-// given back is served again.
-fn fill_by_8(memory: &mut [u8; 8192], books: &mut [u32; 96], map: &mut [u64; 16]) {
-    format(b"Asks of 8", memory, books, map, 2);
-    asks(memory, books, map, 8, 505);
-    ask(memory, books, map, 8);
-    ask(memory, books, map, 8);
-    asks(memory, books, map, 8, 504);
-    ask(memory, books, map, 8);
-    ask(memory, books, map, 8);
-    give_back(memory, books, map, 840);
-    ask(memory, books, map, 8);
+// The 506th ask for 8 bytes gives 4,088, the 507th 4,144, the 1,012th 8,184, the 1,013th is refused; a block given back
+// is served again. At sixteen a pool holds 253 blocks: the 253rd ask for 16 bytes gives 4,080, the 254th 4,144, the
+// 506th 8,176, the 507th is refused.
+fn fill_by_smallest(
+    memory: &mut [u8; 8192],
+    books: &mut [u32; 96],
+    map: &mut [u64; 16],
+    name: &[u8],
+    edition: usize,
+) {
+    let size = either(edition, 8, 16);
+    format(name, memory, books, map, 2, edition);
+    asks(memory, books, map, size, either(edition, 505, 252));
+    ask(memory, books, map, size);
+    ask(memory, books, map, size);
+    asks(memory, books, map, size, either(edition, 504, 251));
+    ask(memory, books, map, size);
+    ask(memory, books, map, size);
+    give_back(memory, books, map, either(edition, 840, 832));
+    ask(memory, books, map, size);
     text(b"\n");
 }
 
 // The 7th ask gives 3,120, the 15th is refused.
 fn fill_by_512(memory: &mut [u8; 8192], books: &mut [u32; 96], map: &mut [u64; 16]) {
-    format(b"Asks of 512", memory, books, map, 2);
+    format(b"Asks of 512", memory, books, map, 2, EIGHT);
     asks(memory, books, map, 512, 6);
     ask(memory, books, map, 512);
     asks(memory, books, map, 512, 7);
@@ -361,21 +414,31 @@ fn fill_by_512(memory: &mut [u8; 8192], books: &mut [u32; 96], map: &mut [u64; 1
     text(b"\n");
 }
 
+// There is no third edition.
+fn no_edition(memory: &mut Memory, books: &mut Books, map: &mut Map) {
+    format(b"No edition", memory, books, map, 16, 2);
+    text(b"\n");
+}
+
+fn k1_to_k10(memory: &mut Memory, books: &mut Books, map: &mut Map, edition: usize) {
+    k1(memory, books, map, edition);
+    k2(memory, books, map, edition);
+    k3(memory, books, map, edition);
+    k4(memory, books, map, edition);
+    k5(memory, books, map, edition);
+    k6(memory, books, map, edition);
+    k7(memory, books, map, edition);
+    k8(memory, books, map, edition);
+    k9(memory, books, map, edition);
+    k10(memory, books, map, edition);
+}
+
 // The cases of P = 16.
 fn of_16_pools() {
     let mut memory = [0u8; 65536];
     let mut books = [0u32; 208];
     let mut map = [0u64; 128];
-    k1(&mut memory, &mut books, &mut map);
-    k2(&mut memory, &mut books, &mut map);
-    k3(&mut memory, &mut books, &mut map);
-    k4(&mut memory, &mut books, &mut map);
-    k5(&mut memory, &mut books, &mut map);
-    k6(&mut memory, &mut books, &mut map);
-    k7(&mut memory, &mut books, &mut map);
-    k8(&mut memory, &mut books, &mut map);
-    k9(&mut memory, &mut books, &mut map);
-    k10(&mut memory, &mut books, &mut map);
+    k1_to_k10(&mut memory, &mut books, &mut map, EIGHT);
     carries(&mut memory, &mut books, &mut map);
     no_block(&mut memory, &mut books, &mut map);
     dead_block(&mut memory, &mut books, &mut map);
@@ -388,11 +451,29 @@ fn of_2_pools() {
     let mut memory = [0u8; 8192];
     let mut books = [0u32; 96];
     let mut map = [0u64; 16];
-    fill_by_8(&mut memory, &mut books, &mut map);
+    fill_by_smallest(&mut memory, &mut books, &mut map, b"Asks of 8", EIGHT);
     fill_by_512(&mut memory, &mut books, &mut map);
+}
+
+// The cases of sixteen, P = 16, and P = 2.
+fn at_sixteen_of_16_pools() {
+    let mut memory = [0u8; 65536];
+    let mut books = [0u32; 208];
+    let mut map = [0u64; 128];
+    k1_to_k10(&mut memory, &mut books, &mut map, SIXTEEN);
+    no_edition(&mut memory, &mut books, &mut map);
+}
+
+fn at_sixteen_of_2_pools() {
+    let mut memory = [0u8; 8192];
+    let mut books = [0u32; 96];
+    let mut map = [0u64; 16];
+    fill_by_smallest(&mut memory, &mut books, &mut map, b"Asks of 16", SIXTEEN);
 }
 
 fn main() {
     of_16_pools();
     of_2_pools();
+    at_sixteen_of_16_pools();
+    at_sixteen_of_2_pools();
 }

@@ -1,15 +1,16 @@
--- What a replay needs to know of ask, give back and resize, whatever the heap holds: the number fits a byte, and A
--- and P stay in the books; and that words at any places stay where the writes are to others.
+-- What a replay needs to know of ask, give back and resize, whatever the heap holds: the number fits a byte, and A, P
+-- and the edition stay in the books; and that words at any places stay where the writes are to others.
 -- Assumes nothing.
 use mathlib.Core.Path.{_≡_, refl, _∙_}
-use mathlib.Core.Bool.{Bool, true, false, not, _&&_}
+use mathlib.Core.Bool.{Bool, true, false, _&&_}
 use mathlib.Core.Logic.{_≢_, _⊎_, inl}
 use mathlib.Core.List.{List}
-use Prim.Native.Nat.{ℕ, zero, suc, _+_, _/_, _≤_, _<_, min}
+use Prim.Native.Nat.{ℕ, zero, suc, _+_, _/_, _%_, _≤_, _<_, min}
 use native.Mathlib.Omega.{arith}
 use lib.Dec.{leb, ltb}
 use lib.ListN.{length, replicate}
 use lib.Seq.{sets, getD-set-other}
+use borrow.Author.Tests.{leb-true}
 use Rattle.rules.specs.declared.Source.{Source}
 use Rattle.rules.specs.declared.Source.the-variants.{Freed, Carved, Opened}
 use Rattle.rules.specs.declared.AskPlan.{AskPlan}
@@ -17,25 +18,64 @@ use Rattle.rules.specs.declared.AskPlan.the-variants.{NoRoom, Damaged, Follow, 
 use Rattle.rules.specs.declared.BackPlan.{BackPlan}
 use Rattle.rules.specs.declared.BackPlan.the-variants.{Damaged as Broken, Joins, Stays, Empties, Returns, Releases}
 use Rattle.rules.specs.Say.{if_then_else_, only}
-use Rattle.rules.specs.Books.{Heap, inRange, exact, at, put, arenas, pools, usableHead, freePools, arenaWord, arena, fall, none?, linked}
-use Rattle.rules.specs.Blocks.{largest, sizeAt, live, isBlock, deadNumber, liveNumber}
+use Rattle.rules.specs.Books.{
+  Heap,
+  inRange,
+  exact,
+  at,
+  put,
+  arenas,
+  pools,
+  editionWord,
+  edition,
+  isEdition,
+  alignment,
+  usableHead,
+  freePools,
+  arenaWord,
+  arena,
+  fall,
+  none?,
+  linked,
+}
+use Rattle.rules.specs.Blocks.{largest, classOf, classAt, sizeAt, live, isBlock, deadNumber, liveNumber}
 use Rattle.rules.specs.Lists.{nextAt, previousAt, leave, join, arenaLinks, arenaLeaves}
 use Rattle.rules.specs.Outcome.{Outcome, outcome, answerOf, done, refused, passing}
 use Rattle.rules.specs.Ask.{takeFrom, arenaOf, spend, alone, afterAsk, askAnswer, askStep}
 use Rattle.rules.specs.GiveBack.{takeBack, empty, release, afterBack, backAnswer, backStep}
 use Rattle.rules.specs.Resize.{keeps, copy, giveOld, halfDone, moved, resizeStep}
-use Rattle.rules.specs.Numbers.{fitNumber, shapeNumber, sizeNumber, _before_, inOrder, offsetNumber, ask, giveBack, resize}
+use Rattle.rules.specs.Numbers.{
+  rangeNumber,
+  editionNumber,
+  lengthNumber,
+  reachNumber,
+  shapeNumber,
+  sizeNumber,
+  _before_,
+  inOrder,
+  offsetNumber,
+  ask,
+  giveBack,
+  resize,
+}
+use Rattle.books.specs.Sizes.{Aligned, aligned, has-class, class-low}
+use Rattle.books.specs.Known.{live-is}
 use Rattle.books.specs.Lists.{leave-keeps, join-keeps}
-use Rattle.books.specs.Tests.{either}
+use Rattle.books.specs.Tests.{both, either}
 use Rattle.loops.specs.Sets.{sets-other}
 
 -- the books b′ have the words of b at the places K
 pub record Same (K : ℕ → Type 0) (b b′ : List ℕ) : Type 0 where
   pub word : (j : ℕ) → K j → at b′ j ≡ at b j
 
--- words 0 and 1, which are A and P
+-- the words before the records that are no list's head: 0 and 1, which are A and P; 68, the edition; 69 to 71, which
+-- are spare. Counted round those 72 words from 68 on they are the first six: so `omega` reads it, and would not read a
+-- choice
+abbrev pub Fixed : ℕ → Type 0
+Fixed j = (j < 72) × ((j + 4) % 72 < 6)
+
 abbrev pub Kept : List ℕ → List ℕ → Type 0
-Kept b b′ = Same (λ j. j < 2) b b′
+Kept b b′ = Same Fixed b b′
 
 pub none-written : {K : ℕ → Type 0} {b : List ℕ} → Same K b b
 none-written = record { word = λ j l. refl }
@@ -74,8 +114,8 @@ only-kept : {b : List ℕ} (t : Bool) (f : Heap → Heap) (h : Heap) → Kept b 
 only-kept true f h k l = l
 only-kept false f h k l = k
 
--- ---- an ask
-module _ (al A P c : ℕ) {b : List ℕ} where
+-- ---- an ask for class c: its head, word 4 + c, stands before word 68
+module _ (al A P c : ℕ) (few : c ≤ 63) {b : List ℕ} where
   take-kept : (s : Source) (p : ℕ) (h : Heap) → Kept b (h .books) → Kept b (takeFrom al A P c s p h .books)
   unfolding takeFrom
   take-kept (Freed a) p h k = put-kept _ _ (λ j l. omega arith) k
@@ -116,8 +156,8 @@ module _ (al A P c : ℕ) {b : List ℕ} where
       put-kept _ _ (λ j l. omega arith) (put-kept _ _ (λ j l. omega arith) (put-kept _ _ (λ j l. omega arith) (put-kept _ _ (λ j l. omega arith)
       (listed-kept s p h k))))
 
--- ---- a give-back
-module _ (al A P c p f : ℕ) {b : List ℕ} where
+-- ---- a give-back of a block of class c
+module _ (al A P c p f : ℕ) (few : c ≤ 63) {b : List ℕ} where
   take-back-kept : (h : Heap) → Kept b (h .books) → Kept b (takeBack al A P c p f h .books)
   take-back-kept h k = put-kept _ _ (λ j l. omega arith) (put-kept _ _ (λ j l. omega arith) k)
 
@@ -147,15 +187,18 @@ module _ (al A P c p f : ℕ) {b : List ℕ} where
 small : (t : Bool) (x y : ℕ) → x ≤ 10 → y ≤ 10 → (if t then x else y) ≤ 10
 small t x y u v = either (λ (n : ℕ). n ≤ 10) t x y (λ _. u) (λ _. v)
 
-fit-small : (h : Heap) (A P : ℕ) → fitNumber h A P ≤ 10
-unfolding fitNumber
-fit-small h A P =
-    small (not (inRange A P)) 1 (if not (exact A P h) then 2 else 0) (omega arith)
-    (small (not (exact A P h)) 2 0 (omega arith) (omega arith))
+before-small : (j k : ℕ) → j ≤ 10 → k ≤ 10 → (j before k) ≤ 10
+before-small zero k u v = v
+before-small (suc j) k u v = u
 
 shape-small : (h : Heap) → shapeNumber h ≤ 10
-unfolding shapeNumber
-shape-small h = small (ltb (length (h .books)) 2) 2 (fitNumber h (arenas h) (pools h)) (omega arith) (fit-small h (arenas h) (pools h))
+unfolding shapeNumber rangeNumber editionNumber lengthNumber reachNumber
+shape-small h =
+    before-small (reachNumber h 1) _ (small (ltb 1 (length (h .books))) 0 2 (omega arith) (omega arith))
+    (before-small (rangeNumber (arenas h) (pools h)) _ (small (inRange (arenas h) (pools h)) 0 1 (omega arith) (omega arith))
+    (before-small (reachNumber h editionWord) _ (small (ltb editionWord (length (h .books))) 0 2 (omega arith) (omega arith))
+    (before-small (editionNumber (edition h)) _ (small (isEdition (edition h)) 0 1 (omega arith) (omega arith))
+    (small (exact (arenas h) (pools h) h) 0 2 (omega arith) (omega arith)))))
 
 size-small : (n : ℕ) → sizeNumber n ≤ 10
 unfolding sizeNumber
@@ -165,10 +208,6 @@ live-small : (al A P : ℕ) (b m : List ℕ) (o : ℕ) → liveNumber al A P b m
 unfolding liveNumber
 live-small al A P b m o =
     small (live al A P b m o) 0 (deadNumber al A P b o) (omega arith) (small (isBlock al A P b o) 10 5 (omega arith) (omega arith))
-
-before-small : (j k : ℕ) → j ≤ 10 → k ≤ 10 → (j before k) ≤ 10
-before-small zero k u v = v
-before-small (suc j) k u v = u
 
 order-small : (shape size offset room : ℕ) → shape ≤ 10 → size ≤ 10 → offset ≤ 10 → room ≤ 10
     → inOrder shape size offset room ≤ 10
@@ -194,30 +233,58 @@ back-small o Empties = omega arith
 back-small o Returns = omega arith
 back-small o Releases = omega arith
 
+-- ---- what the tests say where their number is 0
+before-zero : (j k : ℕ) → (j before k) ≡ 0 → (j ≡ 0) × (k ≡ 0)
+before-zero zero k e = (refl, e)
+before-zero (suc j) k e = absurd (omega arith)
+
+order-zero : (shape size offset room : ℕ) → inOrder shape size offset room ≡ 0 → (size ≡ 0) × (offset ≡ 0)
+order-zero shape size offset room e =
+    let t = before-zero size _ (before-zero shape _ e .1) in
+    (t .0, before-zero offset room (t .1) .0)
+
+pub size-zero : (n : ℕ) → sizeNumber n ≡ 0 → n ≤ 512
+unfolding sizeNumber
+size-zero n =
+    either (λ (k : ℕ). k ≡ 0 → n ≤ 512) (leb 1 n && leb n largest) 0 3
+    (λ e _. leb-true n largest (both (leb 1 n) (leb n largest) e .1)) (λ _ z. absurd (omega arith))
+
+pub live-zero : (al A P : ℕ) (b m : List ℕ) (o : ℕ) → liveNumber al A P b m o ≡ 0 → live al A P b m o ≡ true
+unfolding liveNumber
+live-zero al A P b m o =
+    either (λ (k : ℕ). k ≡ 0 → live al A P b m o ≡ true) (live al A P b m o) 0 (deadNumber al A P b o) (λ e _. e)
+    (λ _. either (λ (k : ℕ). k ≡ 0 → live al A P b m o ≡ true) (isBlock al A P b o) 10 5 (λ _ z. absurd (omega arith)) (λ _ z. absurd (omega arith)))
+
 -- ---- the calls
--- an outcome over a heap whose books were b: its number is at most 10, and A and P are as they were
+-- an outcome over a heap whose books were b: its number is at most 10, and A, P and the edition are as they were
 pub record Fair (b : List ℕ) (x : Outcome) : Type 0 where
   pub small : x .answer .number ≤ 10
   pub kept : Kept b (x .heap .books)
 
--- a call that a test refuses changes nothing
-tested : {b : List ℕ} (n : ℕ) (h : Heap) (x : Outcome) → n ≤ 10 → Kept b (h .books) → Fair b x
+-- a call that a test refuses changes nothing; the others have passed every test
+tested : {b : List ℕ} (n : ℕ) (h : Heap) (x : Outcome) → n ≤ 10 → Kept b (h .books) → (n ≡ 0 → Fair b x)
     → Fair b (passing n (λ k. refused k h) x)
-tested zero h x u k t = t
+tested zero h x u k t = t refl
 tested (suc n) h x u k t = record { small = u; kept = k }
 
-module _ (al A P : ℕ) {b : List ℕ} where
-  ask-step : (h : Heap) (n : ℕ) → Kept b (h .books) → Fair b (askStep al A P h n)
+module _ {al : ℕ} (L : Aligned al) (A P : ℕ) {b : List ℕ} where
+  ask-step : (h : Heap) (n : ℕ) → n ≤ 512 → Kept b (h .books) → Fair b (askStep al A P h n)
   unfolding askStep
-  ask-step h n k = record { small = ask-small _; kept = ask-kept al A P _ _ h k }
+  ask-step h n in-range k =
+      let few = class-low L (classOf al n) (has-class L n in-range) in
+      record { small = ask-small _; kept = ask-kept al A P (classOf al n) (omega (arith, few)) _ h k }
 
-  back-step : (h : Heap) (o : ℕ) → Kept b (h .books) → Fair b (backStep al A P h o)
+  back-step : (h : Heap) (o : ℕ) → liveNumber al A P (h .books) (h .map) o ≡ 0 → Kept b (h .books)
+      → Fair b (backStep al A P h o)
   unfolding backStep
-  back-step h o k = record { small = back-small o _; kept = back-kept al A P _ _ _ _ h k }
+  back-step h o e k =
+      let there = live-is L A P (h .books) (h .map) o (live-zero al A P (h .books) (h .map) o e) in
+      let few = class-low L (classAt A (h .books) o) (there .class) in
+      record { small = back-small o _; kept = back-kept al A P (classAt A (h .books) o) _ _ (omega (arith, few)) _ h k }
 
   give-old : (h : Heap) (o : ℕ) → Kept b (h .books) → Fair b (giveOld al A P h o)
   unfolding giveOld
-  give-old h o k = tested _ h _ (live-small al A P (h .books) (h .map) o) k (back-step h o k)
+  give-old h o k = tested _ h _ (live-small al A P (h .books) (h .map) o) k (λ e. back-step h o e k)
 
   half-done : (new : ℕ) (r : Outcome) → Fair b r → Fair b (halfDone al A P new r)
   half-done new r t = go (r .answer .number)
@@ -237,37 +304,42 @@ module _ (al A P : ℕ) {b : List ℕ} where
       go zero = half-done (r .answer .offset) back (give-old (copy o (r .answer .offset) k (r .heap)) o (t .kept))
       go (suc n) = t
 
-  resize-step : (h : Heap) (o n : ℕ) → Kept b (h .books) → Fair b (resizeStep al A P h o n)
+  resize-step : (h : Heap) (o n : ℕ) → n ≤ 512 → Kept b (h .books) → Fair b (resizeStep al A P h o n)
   unfolding resizeStep
-  resize-step h o n k = go (keeps (sizeAt al A (h .books) o) n)
+  resize-step h o n in-range k = go (keeps (sizeAt al A (h .books) o) n)
     where
       go : (t : Bool)
           → Fair b (if t then done o h else moved al A P o (min n (sizeAt al A (h .books) o)) (askStep al A P h n))
       go true = record { small = omega arith; kept = k }
-      go false = move o _ (askStep al A P h n) (ask-step h n k)
+      go false = move o _ (askStep al A P h n) (ask-step h n in-range k)
 
-module _ (al : ℕ) (h : Heap) where
-  pub ask-fair : (n : ℕ) → Fair (h .books) (ask al h n)
+-- of any heap, damaged or not: none of words 0, 1 and 68 is written
+module _ (h : Heap) where
+  abbrev L : Aligned (alignment h)
+  L = aligned (edition h)
+
+  dead-small : (o : ℕ) → offsetNumber h o ≤ 10
+  dead-small = live-small (alignment h) (arenas h) (pools h) (h .books) (h .map)
+
+  pub ask-fair : (n : ℕ) → Fair (h .books) (ask h n)
   unfolding ask
   ask-fair n =
-      tested (inOrder (shapeNumber h) (sizeNumber n) 0 0) h (askStep al (arenas h) (pools h) h n)
+      tested (inOrder (shapeNumber h) (sizeNumber n) 0 0) h (askStep (alignment h) (arenas h) (pools h) h n)
       (order-small (shapeNumber h) (sizeNumber n) 0 0 (shape-small h) (size-small n) (omega arith) (omega arith)) none-written
-      (ask-step al (arenas h) (pools h) h n none-written)
+      (λ e. ask-step L (arenas h) (pools h) h n (size-zero n (order-zero (shapeNumber h) (sizeNumber n) 0 0 e .0)) none-written)
 
-  pub back-fair : (o : ℕ) → Fair (h .books) (giveBack al h o)
+  pub back-fair : (o : ℕ) → Fair (h .books) (giveBack h o)
   unfolding giveBack
   back-fair o =
-      let dead = offsetNumber al h o in
-      let few : dead ≤ 10 = live-small al (arenas h) (pools h) (h .books) (h .map) o in
-      tested (inOrder (shapeNumber h) 0 dead 0) h (backStep al (arenas h) (pools h) h o)
-      (order-small (shapeNumber h) 0 dead 0 (shape-small h) (omega arith) few (omega arith)) none-written
-      (back-step al (arenas h) (pools h) h o none-written)
+      let dead = offsetNumber h o in
+      tested (inOrder (shapeNumber h) 0 dead 0) h (backStep (alignment h) (arenas h) (pools h) h o)
+      (order-small (shapeNumber h) 0 dead 0 (shape-small h) (omega arith) (dead-small o) (omega arith)) none-written
+      (λ e. back-step L (arenas h) (pools h) h o (order-zero (shapeNumber h) 0 dead 0 e .1) none-written)
 
-  pub resize-fair : (o n : ℕ) → Fair (h .books) (resize al h o n)
+  pub resize-fair : (o n : ℕ) → Fair (h .books) (resize h o n)
   unfolding resize
   resize-fair o n =
-      let dead = offsetNumber al h o in
-      let few : dead ≤ 10 = live-small al (arenas h) (pools h) (h .books) (h .map) o in
-      tested (inOrder (shapeNumber h) (sizeNumber n) dead 0) h (resizeStep al (arenas h) (pools h) h o n)
-      (order-small (shapeNumber h) (sizeNumber n) dead 0 (shape-small h) (size-small n) few (omega arith)) none-written
-      (resize-step al (arenas h) (pools h) h o n none-written)
+      let dead = offsetNumber h o in
+      tested (inOrder (shapeNumber h) (sizeNumber n) dead 0) h (resizeStep (alignment h) (arenas h) (pools h) h o n)
+      (order-small (shapeNumber h) (sizeNumber n) dead 0 (shape-small h) (size-small n) (dead-small o) (omega arith)) none-written
+      (λ e. resize-step L (arenas h) (pools h) h o n (size-zero n (order-zero (shapeNumber h) (sizeNumber n) dead 0 e .0)) none-written)

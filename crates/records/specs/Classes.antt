@@ -1,5 +1,5 @@
--- What an ask and a give-back leave of a pool's class, whatever the heap holds: a give-back keeps every pool's, and so
--- does an ask, but for the pool that it sets anew.
+-- What an ask and a give-back leave of a pool's class, whatever the heap holds and at any alignment: a give-back keeps
+-- every pool's, and so does an ask, but for the pool that it sets anew.
 -- Assumes nothing.
 use mathlib.Core.Path.{_≡_, refl, _∙_, subst}
 use mathlib.Core.Logic.{_≢_, inr}
@@ -55,7 +55,7 @@ abbrev pub Still : ℕ → ℕ → List ℕ → List ℕ → Type 0
 Still A y b b′ = Same (λ j. j ≡ poolWord A class y) b b′
 
 -- ---- an ask for class c
-module _ (A P c : ℕ) (h : Heap) where
+module _ (al A P c : ℕ) (h : Heap) where
   -- whether its arena leaves the list or not, the books keep their length, and the map is the same
   only-long : (t : Bool) (a : ℕ) (g : Heap) → length (only t (arenaLeaves usableHead a) g .books) ≡ length (g .books)
   only-long true a g = length-leaveBy arenaLinks usableHead _ _ a (g .books)
@@ -67,7 +67,7 @@ module _ (A P c : ℕ) (h : Heap) where
 
   -- pool p is taken from its source, its arena spends it, and it goes alone on the class list
   abbrev listed : Source → ℕ → Heap
-  listed s p = alone 8 A P c p (spend 8 A P c (arenaOf 8 A P c s) (takeFrom 8 A P c s p h))
+  listed s p = alone al A P c p (spend al A P c (arenaOf al A P c s) (takeFrom al A P c s p h))
 
   length-listed : (s : Source) (p : ℕ) → length (listed s p .books) ≡ length (h .books)
   unfolding takeFrom
@@ -83,19 +83,19 @@ module _ (A P c : ℕ) (h : Heap) where
 
   -- the pool that it sets anew is of the wanted class
   pub anew-class : (s : Source) (p : ℕ) → p < A * P → length (h .books) ≡ booksLength A P
-      → pool A (afterAsk 8 A P c (Anew s p) h .books) class p ≡ c
+      → pool A (afterAsk al A P c (Anew s p) h .books) class p ≡ c
   unfolding afterAsk
   anew-class s p there l =
       simp other-word (getD-set-same (listed s p .books) (poolWord A class p) c 0 (omega (arith, length-listed s p, l)))
 
-module _ (A P c y : ℕ) (few : c ≤ 63) where
+module _ (al A P c y : ℕ) (few : c ≤ 63) where
   -- pool p is taken from its source
-  freed-still : (a p : ℕ) (h : Heap) → a < A → Still A y (h .books) (takeFrom 8 A P c (Freed a) p h .books)
+  freed-still : (a p : ℕ) (h : Heap) → a < A → Still A y (h .books) (takeFrom al A P c (Freed a) p h .books)
   unfolding takeFrom
   freed-still a p h there = put-kept _ _ (λ j l. omega arith) none-written
 
   take-still : (s : Source) (p : ℕ) (h : Heap) → y ≢ p → FitsSource A P (h .books) s p
-      → Still A y (h .books) (takeFrom 8 A P c s p h .books)
+      → Still A y (h .books) (takeFrom al A P c s p h .books)
   unfolding takeFrom
   take-still (Freed a) p h d (gives, next) = freed-still a p h (gives .there)
   take-still (Carved a) p h d (gives, place, mark) =
@@ -109,7 +109,7 @@ module _ (A P c y : ℕ) (few : c ≤ 63) where
 
   -- its arena a spends it
   spend-still : {b : List ℕ} (a : ℕ) (h : Heap) → Spends A a (h .books) → arenaWord freePools a < length (h .books)
-      → Still A y b (h .books) → Still A y b (spend 8 A P c a h .books)
+      → Still A y b (h .books) → Still A y b (spend al A P c a h .books)
   spend-still {b} a h spends inside k = go (ℕ-discrete (arena (h .books) freePools a - 1) 0)
     where
       Q : Heap → Type 0
@@ -121,32 +121,32 @@ module _ (A P c y : ℕ) (few : c ≤ 63) where
       less : Still A y b (fewer A a (h .books) inside)
       less = put-kept _ _ (λ j l. omega (arith, there)) k
 
-      go : Dec (arena (h .books) freePools a - 1 ≡ 0) → Still A y b (spend 8 A P c a h .books)
-      go (no d) = subst Q (spend-stays A a (h .books) inside P c d .same (h .memory) (h .map)) less
+      go : Dec (arena (h .books) freePools a - 1 ≡ 0) → Still A y b (spend al A P c a h .books)
+      go (no d) = subst Q (spend-stays A a (h .books) inside al P c d .same (h .memory) (h .map)) less
       go (yes e) =
           let last = spend-links A a (h .books) inside (spends .links (omega (arith, spends .some))) in
-          subst Q (spend-leaves A a (h .books) inside P c e .same (h .memory) (h .map))
+          subst Q (spend-leaves A a (h .books) inside al P c e .same (h .memory) (h .map))
           (leave-kept _ _ _ (λ j l. omega (arith, there, last .next, last .previous)) less)
 
   -- and it goes alone on the class list
   listed-still : (s : Source) (p : ℕ) (h : Heap) → 2 ≤ P → 72 + 8 * A ≤ length (h .books)
-      → FitsSource A P (h .books) s p → Still A y (h .books) (takeFrom 8 A P c s p h .books)
-      → Still A y (h .books) (listed A P c h s p .books)
+      → FitsSource A P (h .books) s p → Still A y (h .books) (takeFrom al A P c s p h .books)
+      → Still A y (h .books) (listed al A P c h s p .books)
   unfolding takeFrom
   listed-still s p h some long fits k =
-      let taken = takeFrom 8 A P c s p h in
-      let a = arenaOf 8 A P c s in
-      let spends : Spends A a (taken .books) = taken-spends A P c p (h .books) (taken .books) s some long fits (record { same = writes s }) in
+      let taken = takeFrom al A P c s p h in
+      let a = arenaOf al A P c s in
+      let spends : Spends A a (taken .books) = taken-spends al A P c p (h .books) (taken .books) s some long fits (record { same = writes s }) in
       put-kept _ _ (λ j l. omega arith) (put-kept _ _ (λ j l. omega arith) (put-kept _ _ (λ j l. omega arith) (put-kept _ _ (λ j l. omega arith)
       (spend-still a taken spends (omega (arith, length-taken s, spends .there)) k))))
     where
       writes : (s : Source) (m k : List ℕ)
-          → heapOf m (takeFrom 8 A P c s p h .books) k ≡ takeFrom 8 A P c s p (heapOf m (h .books) k)
+          → heapOf m (takeFrom al A P c s p h .books) k ≡ takeFrom al A P c s p (heapOf m (h .books) k)
       writes (Freed a) m k = refl
       writes (Carved a) m k = refl
       writes (Opened a) m k = refl
 
-      length-taken : (s : Source) → length (takeFrom 8 A P c s p h .books) ≡ length (h .books)
+      length-taken : (s : Source) → length (takeFrom al A P c s p h .books) ≡ length (h .books)
       length-taken (Freed a) = simp length-set
       length-taken (Carved a) = simp length-set
       length-taken (Opened a) = simp (length-set, length-leaveBy, length-joinBy)
@@ -161,9 +161,9 @@ NotAnew (Last p f) y = Unit
 NotAnew (Again a p f l) y = Unit
 NotAnew (Anew s p) y = y ≢ p
 
-module _ (A P c : ℕ) (some : 2 ≤ P) (few : c ≤ 63) (h : Heap) (long : 72 + 8 * A ≤ length (h .books)) where
-  pub ask-still : (q : AskPlan) → FitsAsk A P (sizeOf 8 c) c (h .books) (h .map) q → (y : ℕ) → NotAnew q y
-      → Still A y (h .books) (afterAsk 8 A P c q h .books)
+module _ (al A P c : ℕ) (some : 2 ≤ P) (few : c ≤ 63) (h : Heap) (long : 72 + 8 * A ≤ length (h .books)) where
+  pub ask-still : (q : AskPlan) → FitsAsk A P (sizeOf al c) c (h .books) (h .map) q → (y : ℕ) → NotAnew q y
+      → Still A y (h .books) (afterAsk al A P c q h .books)
   unfolding afterAsk
   ask-still NoRoom t y d = none-written
   ask-still Damaged t y d = none-written
@@ -174,10 +174,10 @@ module _ (A P c : ℕ) (some : 2 ≤ P) (few : c ≤ 63) (h : Heap) (long : 72 +
       leave-kept _ _ _ (λ j l. omega arith) (put-kept _ _ (λ j l. omega arith) (put-kept _ _ (λ j l. omega arith) none-written))
   ask-still (Again a p f l) t y d =
       put-kept _ _ (λ j l. omega arith)
-      (listed-still A P c y few (Freed a) p h some long (t .0) (freed-still A P c y few a p h (t .0 .0 .there)))
+      (listed-still al A P c y few (Freed a) p h some long (t .0) (freed-still al A P c y few a p h (t .0 .0 .there)))
   ask-still (Anew s p) t y d =
       put-kept _ _ (λ j l. omega arith) (put-kept _ _ (λ j l. omega arith) (put-kept _ _ (λ j l. omega arith) (put-kept _ _ (λ j l. omega arith)
-      (listed-still A P c y few s p h some long (t .0) (take-still A P c y few s p h d (t .0))))))
+      (listed-still al A P c y few s p h some long (t .0) (take-still al A P c y few s p h d (t .0))))))
 
 -- ---- a give-back of a block of class c, of pool p
 -- what its path knows of the arenas' lists
@@ -189,11 +189,11 @@ FitsBack A P b p Empties = Unit
 FitsBack A P b p Returns = at b usableHead ≤ A
 FitsBack A P b p Releases = Links A arenaLinks (p / P) b × (at b unusedHead ≤ A)
 
-module _ (A P : ℕ) (b : List ℕ) (c p : ℕ) where
+module _ (al A P : ℕ) (b : List ℕ) (c p : ℕ) where
   abbrev F : BackPlan → Type 0
   F = FitsBack A P b p
 
-  fits-emptying : F (emptying 8 A P b c p)
+  fits-emptying : F (emptying al A P b c p)
   unfolding emptying
   fits-emptying =
       after F (mayLeave (A * P) (poolLinks A) p b) _ _ tt
@@ -206,22 +206,22 @@ module _ (A P : ℕ) (b : List ℕ) (c p : ℕ) where
       (λ _. after F (mayJoin A usableHead b) _ _ tt (λ joins. leb-true _ A joins))
       (λ _. tt)))))
 
-  pub fits-back : F (planBack 8 A P b c p)
+  pub fits-back : F (planBack al A P b c p)
   unfolding planBack
   fits-back =
-      after F (none? (pool A b freeblock p) || isStart (sizeOf 8 c) (pool A b freeblock p)) _ _ tt
+      after F (none? (pool A b freeblock p) || isStart (sizeOf al c) (pool A b freeblock p)) _ _ tt
       (λ _. after F (leb 1 (pool A b count p) && leb (pool A b count p) 506) _ _ tt
       (λ _. either F (none? (pool A b freeblock p)) _ _
       (λ _. after F (mayJoin (A * P) (classHead c) b) _ _ tt (λ _. tt))
       (λ _. either F (eqb (pool A b count p) 1) _ _ (λ _. fits-emptying) (λ _. tt))))
 
-module _ (A P c p f y : ℕ) (few : c ≤ 63) (home : p / P < A) (h : Heap) where
-  taken-still : Still A y (h .books) (takeBack 8 A P c p f h .books)
+module _ (al A P c p f y : ℕ) (few : c ≤ 63) (home : p / P < A) (h : Heap) where
+  taken-still : Still A y (h .books) (takeBack al A P c p f h .books)
   taken-still = put-kept _ _ (λ j l. omega arith) (put-kept _ _ (λ j l. omega arith) none-written)
 
   -- the heap when its pool is emptied
   abbrev last : Heap
-  last = empty 8 A P c p f (takeBack 8 A P c p f h)
+  last = empty al A P c p f (takeBack al A P c p f h)
 
   emptied-still : Still A y (h .books) (last .books)
   emptied-still =
@@ -234,7 +234,7 @@ module _ (A P c p f y : ℕ) (few : c ≤ 63) (home : p / P < A) (h : Heap) wher
   list-word j l d e g = emptied-keeps A P c p (takenBack A p f (h .books)) j l d e g ∙ taken-before A P c p f (h .books) j l
 
   releases-still : Links A arenaLinks (p / P) (h .books) → at (h .books) unusedHead ≤ A
-      → Still A y (h .books) (release 8 A P c p f (p / P) last .books)
+      → Still A y (h .books) (release al A P c p f (p / P) last .books)
   releases-still lead low =
       let next = list-word (nextAt arenaLinks (p / P)) (omega arith) (omega arith) (omega arith) (omega arith) in
       let previous = list-word (previousAt arenaLinks (p / P)) (omega arith) (omega arith) (omega arith) (omega arith) in
@@ -244,7 +244,7 @@ module _ (A P c p f y : ℕ) (few : c ≤ 63) (home : p / P < A) (h : Heap) wher
       (leave-kept _ _ _ (λ j l. omega (arith, next, previous, lead .next, lead .previous)) emptied-still))
 
   pub back-still : (q : BackPlan) → FitsBack A P (h .books) p q
-      → Still A y (h .books) (afterBack 8 A P c p f q h .books)
+      → Still A y (h .books) (afterBack al A P c p f q h .books)
   unfolding afterBack
   back-still Broken t = none-written
   back-still Joins t = join-kept _ _ _ (λ j l. omega arith) taken-still

@@ -1,10 +1,12 @@
--- What one live block more makes of the roll: it is two words longer. The books and the map may be any.
+-- What one live block more makes of the roll: it is two words longer. The books and the map may be any, and the
+-- alignment any from 8 on.
 -- Assumes nothing.
 use mathlib.Core.Path.{_≡_, refl, sym, ap, _∙_}
 use mathlib.Core.Logic.{_≢_}
 use mathlib.Core.Bool.{Bool, true, false}
 use mathlib.Core.List.{List, [], _∷_, _++_}
 use Prim.Native.Nat.{ℕ, zero, suc, _+_, _*_, _≤_, _<_}
+use native.Mathlib.Nat.{mul-le-mul}
 use native.Mathlib.Decide.{ℕ-discrete}
 use native.Mathlib.Omega.{arith}
 use lib.Dec.{leb}
@@ -12,7 +14,7 @@ use lib.ListN.{length, length-append}
 use borrow.Author.Tests.{le-leb}
 use Rattle.rules.specs.Say.{if_then_else_}
 use Rattle.rules.specs.Books.{mapWord, isSet, putMapBit, class, pool, offsetOf}
-use Rattle.rules.specs.Blocks.{sizeOf, startOf, capacity}
+use Rattle.rules.specs.Blocks.{sizeOf, lastClass, startOf, capacity}
 use Rattle.rules.specs.View.{rollBlocks, rollPool, rollPools, roll}
 use Rattle.bits.specs.Map.{put-same-block, put-other-block}
 use Rattle.books.specs.Starts.{capacity-le}
@@ -91,14 +93,14 @@ blocks-made : (m : List ℕ) (p s : ℕ) → InParts (rollBlocks m p s) (λ j. e
 unfolding rollBlocks
 blocks-made m p s = record { none = λ k. refl; more = λ k n. refl }
 
-pools-made : (A : ℕ) (b m : List ℕ) → InParts (rollPools 8 A b m) (rollPool 8 A b m)
+pools-made : (al A : ℕ) (b m : List ℕ) → InParts (rollPools al A b m) (rollPool al A b m)
 unfolding rollPools
-pools-made A b m = record { none = λ k. refl; more = λ k n. refl }
+pools-made al A b m = record { none = λ k. refl; more = λ k n. refl }
 
 -- ---- the roll, before by the books b and the map m, after by b′ and m′, which has one block more
-module _ (A : ℕ) (b b′ m m′ : List ℕ) (p i : ℕ) (one : OneMore p i m m′) where
-  size-low : (c : ℕ) → 8 ≤ sizeOf 8 c
-  size-low c = omega arith
+module _ (al A : ℕ) (wide : 8 ≤ al) (b b′ m m′ : List ℕ) (p i : ℕ) (one : OneMore p i m m′) where
+  size-low : (c : ℕ) → 8 ≤ sizeOf al c
+  size-low c = let some : 1 ≤ c + 1 = omega arith in mul-le-mul wide some
 
   -- pool p's blocks, of size s, of which block i is one
   blocks-longer : (s : ℕ) → 8 ≤ s → i < capacity s
@@ -111,9 +113,9 @@ module _ (A : ℕ) (b b′ m m′ : List ℕ) (p i : ℕ) (one : OneMore p i m m
 
   -- another pool, whose class is the same
   pool-same : (y : ℕ) → y ≢ p → pool A b′ class y ≡ pool A b class y
-      → length (rollPool 8 A b′ m′ y) ≡ length (rollPool 8 A b m y)
+      → length (rollPool al A b′ m′ y) ≡ length (rollPool al A b m y)
   unfolding rollPool
-  pool-same y d same = rw same (go (leb c 63) (sizeOf 8 c) (size-low c))
+  pool-same y d same = rw same (go (leb c (lastClass al)) (sizeOf al c) (size-low c))
     where
       c : ℕ
       c = pool A b class y
@@ -128,32 +130,32 @@ module _ (A : ℕ) (b b′ m m′ : List ℕ) (p i : ℕ) (one : OneMore p i m m
       go false s low = refl
 
   -- pool p, of the same class c
-  pub pool-longer : (c : ℕ) → pool A b class p ≡ c → pool A b′ class p ≡ c → c ≤ 63 → i < capacity (sizeOf 8 c)
-      → length (rollPool 8 A b′ m′ p) ≡ length (rollPool 8 A b m p) + 2
+  pub pool-longer : (c : ℕ) → pool A b class p ≡ c → pool A b′ class p ≡ c → c ≤ lastClass al
+      → i < capacity (sizeOf al c) → length (rollPool al A b′ m′ p) ≡ length (rollPool al A b m p) + 2
   unfolding rollPool
-  pool-longer c e e′ h l = rw (e, e′, le-leb c 63 h) (blocks-longer (sizeOf 8 c) (size-low c) l)
+  pool-longer c e e′ h l = rw (e, e′, le-leb c (lastClass al) h) (blocks-longer (sizeOf al c) (size-low c) l)
 
   -- pool p, of whatever class, with no block live before; c is its class after
-  pub pool-begun : (c : ℕ) → ((j : ℕ) → j < 512 → isSet m p j ≡ false) → pool A b′ class p ≡ c → c ≤ 63
-      → i < capacity (sizeOf 8 c) → length (rollPool 8 A b′ m′ p) ≡ length (rollPool 8 A b m p) + 2
+  pub pool-begun : (c : ℕ) → ((j : ℕ) → j < 512 → isSet m p j ≡ false) → pool A b′ class p ≡ c → c ≤ lastClass al
+      → i < capacity (sizeOf al c) → length (rollPool al A b′ m′ p) ≡ length (rollPool al A b m p) + 2
   unfolding rollPool
   pool-begun c clear e h l =
-      let after = blocks-longer (sizeOf 8 c) (size-low c) l in
-      let empty = dead (sizeOf 8 c) (size-low c) in
-      let before = go (leb (pool A b class p) 63) (pool A b class p) in
-      rw (e, le-leb c 63 h) (omega (arith, after, empty, before))
+      let after = blocks-longer (sizeOf al c) (size-low c) l in
+      let empty = dead (sizeOf al c) (size-low c) in
+      let before = go (leb (pool A b class p) (lastClass al)) (pool A b class p) in
+      rw (e, le-leb c (lastClass al) h) (omega (arith, after, empty, before))
     where
       dead : (s : ℕ) → 8 ≤ s → length (rollBlocks m p s 0 (capacity s)) ≡ 0
       dead s low = let few = capacity-le s low in ap length (none-rolled m p s 0 (capacity s) (λ j u. clear j (omega arith)))
 
-      go : (t : Bool) (d : ℕ) → length (if t then rollBlocks m p (sizeOf 8 d) 0 (capacity (sizeOf 8 d)) else []) ≡ 0
-      go true d = dead (sizeOf 8 d) (size-low d)
+      go : (t : Bool) (d : ℕ) → length (if t then rollBlocks m p (sizeOf al d) 0 (capacity (sizeOf al d)) else []) ≡ 0
+      go true d = dead (sizeOf al d) (size-low d)
       go false d = refl
 
   -- the whole roll is two words longer where pool p's is, and no other pool's class differs
-  pub roll-longer : (P : ℕ) → p < A * P → length (rollPool 8 A b′ m′ p) ≡ length (rollPool 8 A b m p) + 2
+  pub roll-longer : (P : ℕ) → p < A * P → length (rollPool al A b′ m′ p) ≡ length (rollPool al A b m p) + 2
       → ((y : ℕ) → y ≢ p → pool A b′ class y ≡ pool A b class y)
-      → length (roll 8 A P b′ m′) ≡ length (roll 8 A P b m) + 2
+      → length (roll al A P b′ m′) ≡ length (roll al A P b m) + 2
   roll-longer P there here same =
-      two-longer (pools-made A b m) (pools-made A b′ m′) p 0 (A * P) (omega arith) (omega arith) here
+      two-longer (pools-made al A b m) (pools-made al A b′ m′) p 0 (A * P) (omega arith) (omega arith) here
       (λ y l d. pool-same y d (same y d))

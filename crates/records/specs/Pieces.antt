@@ -42,7 +42,7 @@ use Rattle.records.specs.Replies.{passed-over}
 -- the heap after k whole records
 unfoldable pub heapAfter : ℕ → Heap → List ℕ → Heap
 heapAfter zero h bytes = h
-heapAfter (suc k) h bytes = heapAfter k (replayRecord 8 h (take 16 bytes) .heap) (drop 16 bytes)
+heapAfter (suc k) h bytes = heapAfter k (replayRecord h (take 16 bytes) .heap) (drop 16 bytes)
 
 -- the answer, the output and the heap as they are left
 pub record Piece : Type 0 where
@@ -57,7 +57,7 @@ pieceOf k n output h = record { answer = record { number = k; written = n }; out
 -- reply stands at the front of the output
 unfoldable pub replayPiece : Heap → List ℕ → List ℕ → Piece
 replayPiece h input output =
-    let replies = replayRecords 8 (length input / 16) h input in
+    let replies = replayRecords (length input / 16) h input in
     passing (inOrder (shapeNumber h) 0 0 (roomNumber (length replies) (length output))) (λ k. pieceOf k 0 output h)
     (pieceOf 0 (length replies) (replies ++ drop (length replies) output) (heapAfter (length input / 16) h input))
 
@@ -68,7 +68,7 @@ pub replay-one : (h : Heap) (input output : List ℕ) (x y : Piece) → x ≡ re
 replay-one h input output x y e f = e ∙ sym f
 
 -- ---- one record
--- a reply is sixteen bytes long, and A and P are those of the books b
+-- a reply is sixteen bytes long, and A, P and the edition are those of the books b
 pub record Sent (b : List ℕ) (x : Replied) : Type 0 where
   pub long : length (x .reply) ≡ 16
   pub kept : Kept b (x .heap .books)
@@ -77,38 +77,38 @@ module _ {b : List ℕ} where
   sent : (t : Bool) (x y : Replied) → Sent b x → Sent b y → Sent b (if t then x else y)
   sent t x y u v = either (Sent b) t x y (λ _. u) (λ _. v)
 
-  call-sent : (r : List ℕ) (x : Outcome) (size : ℕ) → Fair b x → Sent b (called 8 r x size)
+  call-sent : (r : List ℕ) (x : Outcome) (size : ℕ) → Fair b x → Sent b (called r x size)
   call-sent r x size f = go (x .answer .number)
     where
-      go : (k : ℕ) → Sent b (passing k (λ j. refusedRecord 8 r j (x .heap))
-          (replied 8 (opOf r) 0 (x .answer .offset) size (x .heap)))
+      go : (k : ℕ) → Sent b (passing k (λ j. refusedRecord r j (x .heap))
+          (replied (opOf r) 0 (x .answer .offset) size (x .heap)))
       go zero = record { long = refl; kept = f .kept }
       go (suc k) = record { long = refl; kept = f .kept }
 
-pub record-sent : (h : Heap) (r : List ℕ) → Sent (h .books) (replayRecord 8 h r)
+pub record-sent : (h : Heap) (r : List ℕ) → Sent (h .books) (replayRecord h r)
 unfolding replayRecord replayCall
 record-sent h r =
-    sent (ltb (length r) 16) (replied 8 0 8 0 0 h) (if wellMade r then replayCall 8 h r else refusedRecord 8 r 9 h)
+    sent (ltb (length r) 16) (replied 0 8 0 0 h) (if wellMade r then replayCall h r else refusedRecord r 9 h)
     (record { long = refl; kept = none-written })
-    (sent (wellMade r) (replayCall 8 h r) (refusedRecord 8 r 9 h)
+    (sent (wellMade r) (replayCall h r) (refusedRecord r 9 h)
     (sent (eqb (opOf r) 1) asked (if eqb (opOf r) 2 then given else resized)
-    (call-sent r (ask 8 h (sizeIn r)) _ (ask-fair 8 h (sizeIn r)))
+    (call-sent r (ask h (sizeIn r)) _ (ask-fair h (sizeIn r)))
     (sent (eqb (opOf r) 2) given resized
-    (call-sent r (giveBack 8 h (offsetIn r)) _ (back-fair 8 h (offsetIn r)))
-    (call-sent r (resize 8 h (offsetIn r) (sizeIn r)) _ (resize-fair 8 h (offsetIn r) (sizeIn r)))))
+    (call-sent r (giveBack h (offsetIn r)) _ (back-fair h (offsetIn r)))
+    (call-sent r (resize h (offsetIn r) (sizeIn r)) _ (resize-fair h (offsetIn r) (sizeIn r)))))
     (record { long = refl; kept = none-written }))
   where
     asked : Replied
-    asked = calledFor 8 r (ask 8 h (sizeIn r))
+    asked = calledFor r (ask h (sizeIn r))
 
     given : Replied
-    given = called 8 r (giveBack 8 h (offsetIn r)) (blockSize 8 h (offsetIn r))
+    given = called r (giveBack h (offsetIn r)) (blockSize h (offsetIn r))
 
     resized : Replied
-    resized = calledFor 8 r (resize 8 h (offsetIn r) (sizeIn r))
+    resized = calledFor r (resize h (offsetIn r) (sizeIn r))
 
 -- a short record changes nothing
-short-same : (h : Heap) (r : List ℕ) → length r < 16 → replayRecord 8 h r .heap ≡ h
+short-same : (h : Heap) (r : List ℕ) → length r < 16 → replayRecord h r .heap ≡ h
 unfolding replayRecord
 short-same h r l = rw (lt-ltb (length r) 16 l)
 
@@ -116,7 +116,7 @@ pub after-kept : (k : ℕ) (h : Heap) (bytes : List ℕ) → Kept (h .books) (he
 unfolding heapAfter
 after-kept zero h bytes = none-written
 after-kept (suc k) h bytes =
-    kept-on (record-sent h (take 16 bytes) .kept) (after-kept k (replayRecord 8 h (take 16 bytes) .heap) (drop 16 bytes))
+    kept-on (record-sent h (take 16 bytes) .kept) (after-kept k (replayRecord h (take 16 bytes) .heap) (drop 16 bytes))
 
 -- ---- record by record
 -- how many records n bytes are, the last of which may be short
@@ -131,7 +131,7 @@ recordAt i bytes = take 16 (drop (16 * i) bytes)
 unfoldable pub turns : ℕ → Heap → List ℕ → Replied
 turns zero h bytes = record { reply = []; heap = h }
 turns (suc n) h bytes =
-    let r = replayRecord 8 h (take 16 bytes) in
+    let r = replayRecord h (take 16 bytes) in
     let s = turns n (r .heap) (drop 16 bytes) in
     record { reply = r .reply ++ s .reply; heap = s .heap }
 
@@ -139,7 +139,7 @@ pub turns-long : (n : ℕ) (h : Heap) (bytes : List ℕ) → length (turns n h b
 unfolding turns
 turns-long zero h bytes = refl
 turns-long (suc n) h bytes =
-    let r = replayRecord 8 h (take 16 bytes) in
+    let r = replayRecord h (take 16 bytes) in
     omega (
       arith,
       length-append (r .reply) (turns n (r .heap) (drop 16 bytes) .reply),
@@ -150,22 +150,22 @@ turns-long (suc n) h bytes =
 -- they are the replies of the rules, and the heap is the one after the whole records
 turns-are : (k : ℕ) (h : Heap) (bytes : List ℕ) → length bytes / 16 ≡ k
     → turns (recordsIn (length bytes)) h bytes
-    ≡ record { reply = replayRecords 8 k h bytes; heap = heapAfter k h bytes }
+    ≡ record { reply = replayRecords k h bytes; heap = heapAfter k h bytes }
 unfolding turns replayRecords heapAfter
 turns-are zero h [] e = refl
 turns-are zero h (x ∷ xs) e =
     let bytes = x ∷ xs in
     let one : recordsIn (length bytes) ≡ 1 = omega arith in
     let same : take 16 bytes ≡ bytes = take-all 16 bytes (omega arith) in
-    let still : replayRecord 8 h bytes .heap ≡ h = short-same h bytes (omega arith) in
+    let still : replayRecord h bytes .heap ≡ h = short-same h bytes (omega arith) in
     ap (λ (n : ℕ). turns n h bytes) one
-    ∙ ap (λ (r : List ℕ). record { reply = replayRecord 8 h r .reply ++ []; heap = replayRecord 8 h r .heap }) same
+    ∙ ap (λ (r : List ℕ). record { reply = replayRecord h r .reply ++ []; heap = replayRecord h r .heap }) same
     ∙ ap₂ (λ (l : List ℕ) (g : Heap). record { reply = l; heap = g })
-    (append-nil (replayRecord 8 h bytes .reply)
-    ∙ passed-over (eqb (length bytes) 0) [] (replayRecord 8 h bytes .reply) (ne-eqb (length bytes) 0 (λ z. omega arith)))
+    (append-nil (replayRecord h bytes .reply)
+    ∙ passed-over (eqb (length bytes) 0) [] (replayRecord h bytes .reply) (ne-eqb (length bytes) 0 (λ z. omega arith)))
     still
 turns-are (suc k) h bytes e =
-    let r = replayRecord 8 h (take 16 bytes) in
+    let r = replayRecord h (take 16 bytes) in
     let more : recordsIn (length bytes) ≡ suc (recordsIn (length (drop 16 bytes))) = omega (arith, length-drop 16 bytes) in
     ap (λ (n : ℕ). turns n h bytes) more
     ∙ ap (λ (s : Replied). record { reply = r .reply ++ s .reply; heap = s .heap })
@@ -173,7 +173,7 @@ turns-are (suc k) h bytes e =
 
 pub replies-are : (h : Heap) (bytes : List ℕ)
     → turns (recordsIn (length bytes)) h bytes
-    ≡ record { reply = replayRecords 8 (length bytes / 16) h bytes; heap = heapAfter (length bytes / 16) h bytes }
+    ≡ record { reply = replayRecords (length bytes / 16) h bytes; heap = heapAfter (length bytes / 16) h bytes }
 replies-are h bytes = turns-are (length bytes / 16) h bytes refl
 
 -- ---- the loop over n records: at turn i the heap is h, the output is out, and the replies from record i on are left
@@ -193,12 +193,12 @@ module _ {n : ℕ} {h₀ : Heap} {input out₀ : List ℕ} where
       }
 
   pub turn : {h h′ : Heap} {out out′ : List ℕ} (i : ℕ) → i < n → Going n h₀ input out₀ h out i
-      → out′ ≡ sets out (16 * i) (replayRecord 8 h (recordAt i input) .reply)
-      → h′ ≡ replayRecord 8 h (recordAt i input) .heap
+      → out′ ≡ sets out (16 * i) (replayRecord h (recordAt i input) .reply)
+      → h′ ≡ replayRecord h (recordAt i input) .heap
       → Going n h₀ input out₀ h′ out′ (i + 1)
   unfolding turns
   turn {h} {h′} {out} {out′} i l g e f =
-      let r = replayRecord 8 h (recordAt i input) in
+      let r = replayRecord h (recordAt i input) in
       let k = n - (i + 1) in
       let count : n - i ≡ suc k = omega arith in
       let there : 16 * i + length (r .reply) ≡ 16 * (i + 1) = omega (arith, record-sent h (recordAt i input) .long) in
@@ -232,7 +232,7 @@ module _ {n : ℕ} {h₀ : Heap} {input out₀ : List ℕ} where
 -- ---- the piece, by its tests
 module _ (h : Heap) (input output : List ℕ) where
   abbrev pub replies : List ℕ
-  replies = replayRecords 8 (length input / 16) h input
+  replies = replayRecords (length input / 16) h input
 
   replies-long : length replies ≡ 16 * recordsIn (length input)
   replies-long =
@@ -292,14 +292,14 @@ part-is l i to e =
 
 -- ---- a piece of one record, whole or short, gets that record's reply
 pub one-record : (h : Heap) (r : List ℕ) → 0 < length r → length r ≤ 16
-    → replayRecords 8 (length r / 16) h r ≡ replayRecord 8 h r .reply
+    → replayRecords (length r / 16) h r ≡ replayRecord h r .reply
 unfolding turns
 one-record h r low high =
     let one : recordsIn (length r) ≡ 1 = omega arith in
     sym (ap (λ (x : Replied). x .reply) (replies-are h r))
     ∙ ap (λ (n : ℕ). turns n h r .reply) one
-    ∙ append-nil (replayRecord 8 h (take 16 r) .reply)
-    ∙ ap (λ (l : List ℕ). replayRecord 8 h l .reply) (take-all 16 r high)
+    ∙ append-nil (replayRecord h (take 16 r) .reply)
+    ∙ ap (λ (l : List ℕ). replayRecord h l .reply) (take-all 16 r high)
 
 -- ---- a replay in pieces: k records in the bytes xs, and then the rest
 -- the first of one record more
@@ -314,17 +314,17 @@ module _ (k : ℕ) (xs ys : List ℕ) (e : length xs ≡ 16 * suc k) where
   fewer = omega (arith, length-drop 16 xs)
 
 pub in-pieces : (k j : ℕ) (h : Heap) (xs ys : List ℕ) → length xs ≡ 16 * k
-    → replayRecords 8 (k + j) h (xs ++ ys) ≡ replayRecords 8 k h xs ++ replayRecords 8 j (heapAfter k h xs) ys
+    → replayRecords (k + j) h (xs ++ ys) ≡ replayRecords k h xs ++ replayRecords j (heapAfter k h xs) ys
 unfolding replayRecords heapAfter
-in-pieces zero j h [] ys e = let z : 0 + j ≡ j = omega arith in ap (λ (n : ℕ). replayRecords 8 n h ys) z
+in-pieces zero j h [] ys e = let z : 0 + j ≡ j = omega arith in ap (λ (n : ℕ). replayRecords n h ys) z
 in-pieces zero j h (x ∷ xs) ys e = absurd (omega arith)
 in-pieces (suc k) j h xs ys e =
-    let r = replayRecord 8 h (take 16 xs) in
+    let r = replayRecord h (take 16 xs) in
     let z : suc k + j ≡ suc (k + j) = omega arith in
-    ap (λ (n : ℕ). replayRecords 8 n h (xs ++ ys)) z
-    ∙ ap₂ (λ (u v : List ℕ). replayRecord 8 h u .reply ++ replayRecords 8 (k + j) (replayRecord 8 h u .heap) v) (first-record k xs ys e) (rest-after k xs ys e)
+    ap (λ (n : ℕ). replayRecords n h (xs ++ ys)) z
+    ∙ ap₂ (λ (u v : List ℕ). replayRecord h u .reply ++ replayRecords (k + j) (replayRecord h u .heap) v) (first-record k xs ys e) (rest-after k xs ys e)
     ∙ ap (λ (l : List ℕ). r .reply ++ l) (in-pieces k j (r .heap) (drop 16 xs) ys (fewer k xs ys e))
-    ∙ sym (append-assoc (r .reply) (replayRecords 8 k (r .heap) (drop 16 xs)) (replayRecords 8 j (heapAfter k (r .heap) (drop 16 xs)) ys))
+    ∙ sym (append-assoc (r .reply) (replayRecords k (r .heap) (drop 16 xs)) (replayRecords j (heapAfter k (r .heap) (drop 16 xs)) ys))
 
 -- the pieces ps, each of whole records, and the rest: all of their bytes, and all of their replies
 abbrev pub joined : List (List ℕ) → List ℕ → List ℕ
@@ -332,27 +332,28 @@ joined [] rest = rest
 joined (p ∷ ps) rest = p ++ joined ps rest
 
 unfoldable pub repliesTo : Heap → List (List ℕ) → List ℕ → List ℕ
-repliesTo h [] rest = replayRecords 8 (length rest / 16) h rest
-repliesTo h (p ∷ ps) rest = replayRecords 8 (length p / 16) h p ++ repliesTo (heapAfter (length p / 16) h p) ps rest
+repliesTo h [] rest = replayRecords (length rest / 16) h rest
+repliesTo h (p ∷ ps) rest = replayRecords (length p / 16) h p ++ repliesTo (heapAfter (length p / 16) h p) ps rest
 
 abbrev pub WholeRecords : List (List ℕ) → Type 0
 WholeRecords [] = Unit
 WholeRecords (p ∷ ps) = (length p % 16 ≡ 0) × WholeRecords ps
 
--- "The program has A = 1, P = 16": however its input comes in pieces, the replies to them are the replay of the whole
+-- "The program has A = 1, P = 16", and stays at edition eight: however its input comes in pieces, the replies to them
+-- are the replay of the whole
 pub replay-in-pieces : (h : Heap) (ps : List (List ℕ)) (rest : List ℕ) → WholeRecords ps
-    → repliesTo (format h 1 16 .heap) ps rest ≡ replay h (joined ps rest)
+    → repliesTo (format h 1 16 0 .heap) ps rest ≡ replay h (joined ps rest)
 unfolding replay repliesTo
-replay-in-pieces h ps rest w = from (format h 1 16 .heap) ps w
+replay-in-pieces h ps rest w = from (format h 1 16 0 .heap) ps w
   where
     from : (g : Heap) (qs : List (List ℕ)) → WholeRecords qs
-        → repliesTo g qs rest ≡ replayRecords 8 (length (joined qs rest) / 16) g (joined qs rest)
+        → repliesTo g qs rest ≡ replayRecords (length (joined qs rest) / 16) g (joined qs rest)
     from g [] w = refl
     from g (q ∷ qs) w =
         let k = length q / 16 in
         let j = length (joined qs rest) / 16 in
         let e : length q ≡ 16 * k = omega (arith, w .0) in
         let n : length (q ++ joined qs rest) / 16 ≡ k + j = omega (arith, length-append q (joined qs rest)) in
-        ap (λ (l : List ℕ). replayRecords 8 k g q ++ l) (from (heapAfter k g q) qs (w .1))
+        ap (λ (l : List ℕ). replayRecords k g q ++ l) (from (heapAfter k g q) qs (w .1))
         ∙ sym (in-pieces k j g q (joined qs rest) e)
-        ∙ ap (λ (m : ℕ). replayRecords 8 m g (q ++ joined qs rest)) (sym n)
+        ∙ ap (λ (m : ℕ). replayRecords m g (q ++ joined qs rest)) (sym n)

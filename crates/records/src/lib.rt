@@ -1,12 +1,14 @@
 // Replay records: one record in, one reply out, over the three buffers of a heap; and a whole piece of a replay,
 // records in and replies out.
-use books::blocks::ALIGNMENT;
+use books::blocks::size_of;
 use books::links::link_at;
 use books::links::put_link;
 use books::numbers::shape_number;
 use books::words::CLASS;
+use books::words::EDITION;
 use books::words::RECORDS;
 use books::words::index;
+use books::words::shape_of;
 use books::words::word;
 use loops::count_words;
 use rules::Answer;
@@ -15,7 +17,7 @@ ghost use mathlib.Core.Bool.{true};
 ghost use Prim.Native.Nat.{_+_, _*_, _-_, _%_, _^_, _<_, _≤_, min};
 ghost use lib.ListN.{length};
 ghost use lib.Seq.{sets};
-ghost use Rattle.rules.specs.Books.{at};
+ghost use Rattle.rules.specs.Books.{at, alignmentOf};
 ghost use Rattle.rules.specs.Blocks.{sizeAt};
 ghost use Rattle.rules.specs.Outcome.{heapOf, passing};
 ghost use Rattle.rules.specs.Numbers.{ask, giveBack, resize, blockSize};
@@ -84,9 +86,9 @@ fn live_blocks(books: &[u32], map: &[u64]) -> u32
     requires { ⌜ Counted (now books) (now map) ⌝ }
     ensures { λ r. ⌜ r ≡ liveIn (now (books .entry)) (now (map .entry)) ⌝ }
 {
-    let arenas = word(books, 0);
-    let all = arenas * word(books, 1);
-    (count_words(books, map, arenas, all) / 2) as u32
+    let shape = shape_of(books);
+    let all = shape.arenas * shape.pools;
+    (count_words(books, map, shape.arenas, shape.edition, all) / 2) as u32
 }
 
 // A word of the books, and 0 past their end.
@@ -99,15 +101,27 @@ fn word_or_none(books: &[u32], i: usize) -> usize
     word(books, i)
 }
 
-// The size of the block at an offset, as far as the four bytes of a reply hold it. Nothing is asked of the offset: a
-// record may hold any.
+// The edition that sizes go by: any word but 0 counts as sixteen's, as it does in the rules.
+fn edition_of(books: &[u32]) -> usize
+    ensures { λ r. ⌜ (alignmentOf r ≡ alignmentOf (at (now (books .entry)) 68)) × (r ≤ 1) ⌝ }
+{
+    if word_or_none(books, EDITION) == 0 {
+        return 0;
+    }
+    1
+}
+
+// The size of the block at an offset, as far as the four bytes of a reply hold it. Nothing is asked of the books or of
+// the offset: a record may hold any.
 fn size_at(books: &[u32], offset: u32) -> u32
-    ensures { λ r. ⌜ r ≡ sizeAt 8 (at (now (books .entry)) 0) (now (books .entry)) offset % 4294967296 ⌝ }
+    ensures { λ r. ⌜ r
+        ≡ sizeAt (alignmentOf (at (now (books .entry)) 68)) (at (now (books .entry)) 0) (now (books .entry)) offset
+        % 4294967296 ⌝ }
 {
     let arenas = word_or_none(books, 0);
     let pool = index(offset) / 4096;
     let class = word_or_none(books, RECORDS + 8 * arenas + 8 * pool + CLASS);
-    (ALIGNMENT * (class + 1) % 4294967296) as u32
+    (size_of(edition_of(books), class) % 4294967296) as u32
 }
 
 // ---- the live blocks, from one call to the next
@@ -229,8 +243,8 @@ fn answer_ask(
     requires { ⌜ Whole (now memory) (now books) (now map) × (16 ≤ length (now bytes))
         × (live ≡ liveIn (now books) (now map)) ⌝ }
     ensures { λ r. ⌜ Replies r (now (memory .exit)) (now (books .exit)) (now (map .exit))
-        (calledFor 8 (now (bytes .entry))
-        (ask 8 (heapOf (now (memory .entry)) (now (books .entry)) (now (map .entry)))
+        (calledFor (now (bytes .entry))
+        (ask (heapOf (now (memory .entry)) (now (books .entry)) (now (map .entry)))
         (sizeIn (now (bytes .entry))))) ⌝ }
 {
     let answer = heap::ask(memory, books, map, index(link_at(bytes, 4)));
@@ -250,10 +264,10 @@ fn answer_give_back(
     requires { ⌜ Whole (now memory) (now books) (now map) × (16 ≤ length (now bytes))
         × (live ≡ liveIn (now books) (now map)) ⌝ }
     ensures { λ r. ⌜ Replies r (now (memory .exit)) (now (books .exit)) (now (map .exit))
-        (called 8 (now (bytes .entry))
-        (giveBack 8 (heapOf (now (memory .entry)) (now (books .entry)) (now (map .entry)))
+        (called (now (bytes .entry))
+        (giveBack (heapOf (now (memory .entry)) (now (books .entry)) (now (map .entry)))
         (offsetIn (now (bytes .entry))))
-        (blockSize 8 (heapOf (now (memory .entry)) (now (books .entry)) (now (map .entry)))
+        (blockSize (heapOf (now (memory .entry)) (now (books .entry)) (now (map .entry)))
         (offsetIn (now (bytes .entry))))) ⌝ }
 {
     let offset = link_at(bytes, 8);
@@ -274,8 +288,8 @@ fn answer_resize(
     requires { ⌜ Whole (now memory) (now books) (now map) × (16 ≤ length (now bytes))
         × (live ≡ liveIn (now books) (now map)) ⌝ }
     ensures { λ r. ⌜ Replies r (now (memory .exit)) (now (books .exit)) (now (map .exit))
-        (calledFor 8 (now (bytes .entry))
-        (resize 8 (heapOf (now (memory .entry)) (now (books .entry)) (now (map .entry)))
+        (calledFor (now (bytes .entry))
+        (resize (heapOf (now (memory .entry)) (now (books .entry)) (now (map .entry)))
         (offsetIn (now (bytes .entry))) (sizeIn (now (bytes .entry))))) ⌝ }
 {
     let offset = link_at(bytes, 8);
@@ -297,7 +311,7 @@ fn answer_call(
     requires { ⌜ Whole (now memory) (now books) (now map) × (16 ≤ length (now bytes))
         × (live ≡ liveIn (now books) (now map)) ⌝ }
     ensures { λ r. ⌜ Replies r (now (memory .exit)) (now (books .exit)) (now (map .exit))
-        (replayCall 8 (heapOf (now (memory .entry)) (now (books .entry)) (now (map .entry))) (now (bytes .entry))) ⌝ }
+        (replayCall (heapOf (now (memory .entry)) (now (books .entry)) (now (map .entry))) (now (bytes .entry))) ⌝ }
 {
     if bytes[0] == 1 {
         return answer_ask(memory, books, map, bytes, live);
@@ -312,7 +326,7 @@ fn answer_call(
 fn answer(memory: &mut [u8], books: &mut [u32], map: &mut [u64], bytes: &[u8], live: u32) -> Reply
     requires { ⌜ Whole (now memory) (now books) (now map) × (live ≡ liveIn (now books) (now map)) ⌝ }
     ensures { λ r. ⌜ Replies r (now (memory .exit)) (now (books .exit)) (now (map .exit))
-        (replayRecord 8 (heapOf (now (memory .entry)) (now (books .entry)) (now (map .entry))) (now (bytes .entry))) ⌝ }
+        (replayRecord (heapOf (now (memory .entry)) (now (books .entry)) (now (map .entry))) (now (bytes .entry))) ⌝ }
 {
     if bytes.len() < 16 {
         return Reply {
@@ -369,10 +383,10 @@ fn replay_record(
     requires { ⌜ Whole (now memory) (now books) (now map) × (16 * i ≤ length (now input))
         × (16 * i + 16 ≤ length (now output)) × (live ≡ liveIn (now books) (now map)) ⌝ }
     ensures { λ r. ⌜ (now (output .exit) ≡ sets (now (output .entry)) (16 * i)
-        (replayRecord 8 (heapOf (now (memory .entry)) (now (books .entry)) (now (map .entry)))
+        (replayRecord (heapOf (now (memory .entry)) (now (books .entry)) (now (map .entry)))
         (recordAt i (now (input .entry))) .reply))
         × (heapOf (now (memory .exit)) (now (books .exit)) (now (map .exit))
-        ≡ replayRecord 8 (heapOf (now (memory .entry)) (now (books .entry)) (now (map .entry)))
+        ≡ replayRecord (heapOf (now (memory .entry)) (now (books .entry)) (now (map .entry)))
         (recordAt i (now (input .entry))) .heap)
         × (r ≡ liveIn (now (books .exit)) (now (map .exit))) ⌝ }
 {

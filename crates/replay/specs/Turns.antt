@@ -10,7 +10,7 @@ use Rattle.rules.specs.declared.Answer.{Answer}
 use Rattle.rules.specs.Books.{Heap, inRange, exact, memoryLength, booksLength, mapLength}
 use Rattle.rules.specs.Outcome.{Outcome, heapOf, outcome, refused}
 use Rattle.rules.specs.Format.{freshBooks}
-use Rattle.rules.specs.Numbers.{fitNumber, format}
+use Rattle.rules.specs.Numbers.{rangeNumber, editionNumber, lengthNumber, fitNumber, format}
 use Rattle.rules.specs.Replay.{replayRecords}
 use Rattle.books.specs.Passing.{passed}
 use Rattle.records.specs.declared.Replayed.{Replayed}
@@ -21,8 +21,8 @@ use Rattle.replay.specs.declared.Next.the-variants.{Read, Stop}
 
 -- the first n bytes of the output are the replies to every record of the input, from the heap h on, and the heap is g
 pub record Answered (h : Heap) (input output : List ℕ) (g : Heap) (output′ : List ℕ) (n : ℕ) : Type 0 where
-  pub count : n ≡ length (replayRecords 8 (length input / 16) h input)
-  pub stands : output′ ≡ replayRecords 8 (length input / 16) h input ++ drop n output
+  pub count : n ≡ length (replayRecords (length input / 16) h input)
+  pub stands : output′ ≡ replayRecords (length input / 16) h input ++ drop n output
   pub heap : g ≡ heapAfter (length input / 16) h input
 
 -- the buffers of the program: a heap, and room to read and to reply
@@ -47,7 +47,7 @@ answered m b k input output r output′ g w l e =
     let n = ap (λ (x : Piece). x .answer .written) f in
     record {
       count = n;
-      stands = ap (λ (x : Piece). x .output) f ∙ ap (λ (j : ℕ). replayRecords 8 (length input / 16) h input ++ drop j output) (sym n);
+      stands = ap (λ (x : Piece). x .output) f ∙ ap (λ (j : ℕ). replayRecords (length input / 16) h input ++ drop j output) (sym n);
       heap = ap (λ (x : Piece). x .heap) f;
     }
 
@@ -55,35 +55,37 @@ answered m b k input output r output′ g w l e =
 pub inside : {h : Heap} {input output : List ℕ} {g : Heap} {output′ : List ℕ} {n : ℕ}
     → Answered h input output g output′ n → n ≤ length output′
 inside {h} {input} {output} {n = n} a =
-    omega (arith, a .count, ap length (a .stands), length-append (replayRecords 8 (length input / 16) h input) (drop n output))
+    omega (arith, a .count, ap length (a .stands), length-append (replayRecords (length input / 16) h input) (drop n output))
 
 -- there is room for the reply to a record that is not whole
 pub short-fits : (n : ℕ) (l output : List ℕ) → n < 16 → length output ≡ 65536
     → 16 * recordsIn (length (take n l)) ≤ length output
 short-fits n l output h e = omega (arith, length-take n l, min-le-left n (length l))
 
--- ---- the program's own format is done, and leaves a heap of the right shape
+-- ---- the program's own format is done, at edition eight, and leaves a heap of the right shape
 module _ (m b k : List ℕ) (e : length m ≡ memoryLength 1 16)
     (f : length b ≡ booksLength 1 16) (g : length k ≡ mapLength 1 16) where
-  fits : fitNumber (heapOf m b k) 1 16 ≡ 0
-  unfolding fitNumber inRange exact
+  fits : fitNumber (heapOf m b k) 1 16 0 ≡ 0
+  unfolding fitNumber rangeNumber editionNumber lengthNumber inRange exact
   fits = rw (e, f, g)
 
-  pub formatted : (a : Answer) (b′ k′ : List ℕ) → outcome a (heapOf m b′ k′) ≡ format (heapOf m b k) 1 16
+  pub formatted : (a : Answer) (b′ k′ : List ℕ) → outcome a (heapOf m b′ k′) ≡ format (heapOf m b k) 1 16 0
       → Whole m b′ k′
   unfolding format freshBooks
   formatted a b′ k′ t =
-      let done = t ∙ passed (λ n. refused n (heapOf m b k)) _ (fitNumber (heapOf m b k) 1 16) fits in
-      let books : b′ ≡ freshBooks 1 16 = ap (λ (x : Outcome). x .heap .books) done in
+      let done = t ∙ passed (λ n. refused n (heapOf m b k)) _ (fitNumber (heapOf m b k) 1 16 0) fits in
+      let books : b′ ≡ freshBooks 1 16 0 = ap (λ (x : Outcome). x .heap .books) done in
       let map : k′ ≡ replicate 128 0 = ap (λ (x : Outcome). x .heap .map) done in
-      rw (books, map)
-      (record {
-        arenas-low = omega arith;
-        arenas-high = omega arith;
-        pools-low = omega arith;
-        pools-high = omega arith;
-        all = omega arith;
-        memory = e;
-        books = refl;
-        map = refl;
-      })
+      rw (books, map) (
+        record {
+          arenas-low = omega arith;
+          arenas-high = omega arith;
+          pools-low = omega arith;
+          pools-high = omega arith;
+          all = omega arith;
+          memory = e;
+          books = refl;
+          map = refl;
+        },
+        omega arith,
+      )

@@ -13,11 +13,15 @@ ghost use Rattle.records.specs.Replies.{Whole};
 ghost use Rattle.records.specs.Pieces.{recordsIn};
 ghost use Rattle.replay.specs.Turns.{Answered, Lent, NextKept};
 
-// One arena of 16 pools, and the lengths of its three buffers.
+// One arena of 16 pools.
 const ARENAS: usize = 1;
 
 const POOLS: usize = 16;
 
+// The program stays at edition eight.
+const EDITION: usize = 0;
+
+// The lengths of its three buffers.
 const MEMORY: usize = ARENAS * POOLS * 4096;
 
 const BOOKS: usize = RECORDS + 8 * ARENAS + 8 * ARENAS * POOLS;
@@ -143,6 +147,6 @@ fn main() {
     let mut map = [0u64; MAP];
     let mut input = io::large_buffer();
     let mut output = io::large_buffer();
-    heap::format(&memory, &mut books, &mut map, ARENAS, POOLS);
+    heap::format(&memory, &mut books, &mut map, ARENAS, POOLS, EDITION);
     replay_all(&mut memory, &mut books, &mut map, &mut input, &mut output);
 }

@@ -40,7 +40,7 @@ live-after-ask-requires c κs =
     let a = at-start .args in
     let x = at-ask .ask in
     let h = heapOf (a .memory .now) (a .books .now) (a .map .now) in
-    let fair = ask-fair 8 h (at-index .index .result) in (
+    let fair = ask-fair h (at-index .index .result) in (
       counted (x .last .0) (x .last .1 .0) (x .last .1 .1 .0)
           (still-whole (a .memory .now) (a .books .now) (a .map .now) (x .last .0) (x .last .1 .0) (x .last .1 .1 .0) _
           (at-start .pre .0) (fair .kept) (ap (λ (y : Outcome). y .heap) (x .ensures)) (x .kept .0) (x .kept .1 .0) (x .kept .1 .1 .0)),
@@ -54,7 +54,7 @@ reply-to-requires c κs =
     let at-start = start (at-index .before) in
     let a = at-start .args in
     let x = at-ask .ask in
-    let fair = ask-fair 8 (heapOf (a .memory .now) (a .books .now) (a .map .now)) (at-index .index .result) in
+    let fair = ask-fair (heapOf (a .memory .now) (a .books .now) (a .map .now)) (at-index .index .result) in
     (at-start .pre .1, small-number fair (x .result) (heapOf (x .last .0) (x .last .1 .0) (x .last .1 .1 .0)) (x .ensures))
 
 same-length : tie.Need-same-length
@@ -76,12 +76,12 @@ returns c =
     let a = start at-link-at .args in
     let x = at-ask .ask in
     let h = heapOf (x .last .0) (x .last .1 .0) (x .last .1 .1 .0) in
-    let t = answered (a .bytes .now) (outcome (x .result) h) (blockSize 8 h (x .result .offset)) (at-size-at .size-at .result)
+    let t = answered (a .bytes .now) (outcome (x .result) h) (blockSize h (x .result .offset)) (at-size-at .size-at .result)
     (at-live .live-after-ask .result) (c .reply-to .result) (c .reply-to .ensures) (at-size-at .size-at .ensures)
     (at-live .live-after-ask .ensures) in (
       t .0
-          ∙ ap (calledFor 8 (a .bytes .now)) (x .ensures)
-          ∙ ap (λ (n : ℕ). calledFor 8 (a .bytes .now) (ask 8 (heapOf (a .memory .now) (a .books .now) (a .map .now)) n))
+          ∙ ap (calledFor (a .bytes .now)) (x .ensures)
+          ∙ ap (λ (n : ℕ). calledFor (a .bytes .now) (ask (heapOf (a .memory .now) (a .books .now) (a .map .now)) n))
           (at-index .index .ensures .0 ∙ at-link-at .link-at .ensures),
       t .1,
     )

@@ -59,7 +59,7 @@ reply-to-requires c κs =
     let at-start = start (sized at-index .before .before) in
     let a = at-start .args in
     let x = at-give-back .give-back in
-    let fair = back-fair 8 (heapOf (a .memory .now) (a .books .now) (a .map .now)) (at-index .index .result) in
+    let fair = back-fair (heapOf (a .memory .now) (a .books .now) (a .map .now)) (at-index .index .result) in
     (at-start .pre .1, small-number fair (x .result) (heapOf (x .last .0) (x .last .1 .0) (x .last .1 .1 .0)) (x .ensures))
 
 same-length : tie.Need-same-length
@@ -83,13 +83,13 @@ returns c =
     let x = at-give-back .give-back in
     let g = heapOf (a .memory .now) (a .books .now) (a .map .now) in
     let h = heapOf (x .last .0) (x .last .1 .0) (x .last .1 .1 .0) in
-    let t = answered (a .bytes .now) (outcome (x .result) h) (blockSize 8 g (at-link-at .link-at .result)) (at-size-at .size-at .result)
+    let t = answered (a .bytes .now) (outcome (x .result) h) (blockSize g (at-link-at .link-at .result)) (at-size-at .size-at .result)
     (at-live .live-after-back .result) (c .reply-to .result) (c .reply-to .ensures) (at-size-at .size-at .ensures)
     (at-live .live-after-back .ensures ∙ one-fewer (x .result) (counts at-home)) in (
       t .0
-          ∙ ap (λ (y : Outcome). called 8 (a .bytes .now) y (blockSize 8 g (at-link-at .link-at .result)))
-          (x .ensures ∙ ap (giveBack 8 g) (at-index .index .ensures .0))
-          ∙ ap (λ (o : ℕ). called 8 (a .bytes .now) (giveBack 8 g o) (blockSize 8 g o)) (at-link-at .link-at .ensures),
+          ∙ ap (λ (y : Outcome). called (a .bytes .now) y (blockSize g (at-link-at .link-at .result)))
+          (x .ensures ∙ ap (giveBack g) (at-index .index .ensures .0))
+          ∙ ap (λ (o : ℕ). called (a .bytes .now) (giveBack g o) (blockSize g o)) (at-link-at .link-at .ensures),
       t .1,
     )
 

@@ -51,7 +51,7 @@ live-after-resize-requires c κs =
     let a = at-start .args in
     let x = at-resize .resize in
     let h = heapOf (a .memory .now) (a .books .now) (a .map .now) in
-    let fair = resize-fair 8 h (at-index .index .result) (at-index2 .index2 .result) in (
+    let fair = resize-fair h (at-index .index .result) (at-index2 .index2 .result) in (
       counted (x .last .0) (x .last .1 .0) (x .last .1 .1 .0)
           (still-whole (a .memory .now) (a .books .now) (a .map .now) (x .last .0) (x .last .1 .0) (x .last .1 .1 .0) _
           (at-start .pre .0) (fair .kept) (ap (λ (y : Outcome). y .heap) (x .ensures)) (x .kept .0) (x .kept .1 .0) (x .kept .1 .1 .0)),
@@ -67,7 +67,7 @@ reply-to-requires c κs =
     let at-start = start (read at-index .before) in
     let a = at-start .args in
     let x = at-resize .resize in
-    let fair = resize-fair 8 (heapOf (a .memory .now) (a .books .now) (a .map .now)) (at-index .index .result) (at-index2 .index2 .result) in
+    let fair = resize-fair (heapOf (a .memory .now) (a .books .now) (a .map .now)) (at-index .index .result) (at-index2 .index2 .result) in
     (at-start .pre .1, small-number fair (x .result) (heapOf (x .last .0) (x .last .1 .0) (x .last .1 .1 .0)) (x .ensures))
 
 same-length : tie.Need-same-length
@@ -91,12 +91,12 @@ returns c =
     let a = start at-link-at .args in
     let x = at-resize .resize in
     let h = heapOf (x .last .0) (x .last .1 .0) (x .last .1 .1 .0) in
-    let t = answered (a .bytes .now) (outcome (x .result) h) (blockSize 8 h (x .result .offset)) (at-size-at .size-at .result)
+    let t = answered (a .bytes .now) (outcome (x .result) h) (blockSize h (x .result .offset)) (at-size-at .size-at .result)
     (at-live .live-after-resize .result) (c .reply-to .result) (c .reply-to .ensures) (at-size-at .size-at .ensures)
     (at-live .live-after-resize .ensures) in (
       t .0
-          ∙ ap (calledFor 8 (a .bytes .now)) (x .ensures)
-          ∙ ap₂ (λ (o n : ℕ). calledFor 8 (a .bytes .now) (resize 8 (heapOf (a .memory .now) (a .books .now) (a .map .now)) o n))
+          ∙ ap (calledFor (a .bytes .now)) (x .ensures)
+          ∙ ap₂ (λ (o n : ℕ). calledFor (a .bytes .now) (resize (heapOf (a .memory .now) (a .books .now) (a .map .now)) o n))
           (at-index .index .ensures .0 ∙ at-link-at .link-at .ensures) (at-index2 .index2 .ensures .0 ∙ at-link-at2 .link-at2 .ensures),
       t .1,
     )

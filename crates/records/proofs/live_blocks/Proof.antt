@@ -1,55 +1,57 @@
 -- `records::live_blocks` counts the words of the roll, two for each live block.
 -- Assumes nothing.
-use mathlib.Core.Path.{ap, ap₂, _∙_}
+use mathlib.Core.Path.{sym, ap, _∙_, subst}
 use Prim.Native.Nat.{ℕ, _*_, _/_}
 use native.Mathlib.Omega.{arith}
 use lib.ListN.{length}
-use borrow.Author.Needs.{needs}
+use Rattle.rules.specs.Books.{alignmentOf}
 use Rattle.rules.specs.View.{rollPools}
+use Rattle.books.specs.declared.words.Shape.{Shape}
+use Rattle.books.specs.Sizes.{aligned}
 use Rattle.loops.specs.Roll.{length-roll}
+use Rattle.records.specs.Replies.{Countable}
 use Rattle.records.proofs.live_blocks.Statement.{statement}
 use Rattle.records.proofs.live_blocks.Tie as tie
 
 -- the function's start, seen from its first call; an argument more shifts this line alone
-abbrev start : tie.After-word → tie.Start
+abbrev start : tie.After-shape-of → tie.Start
 start c = c .before .before .before
 
-word-requires : tie.Need-word-requires
-word-requires c κs = search needs
+shape-of-requires : tie.Need-shape-of-requires
+shape-of-requires c κs = omega (arith, c .before .before .pre .books)
 
-word-requires-2 : tie.Need-word-requires-2
-word-requires-2 c κs = search needs
+-- what is known of the shape that was read
+shaped : (c : tie.After-shape-of) → let a = start c .args in Countable (a .books .now) (a .map .now) (c .shape-of .result)
+shaped c =
+    let a = start c .args in
+    subst (Countable (a .books .now) (a .map .now)) (sym (c .shape-of .ensures)) (start c .pre)
 
 mul-all : tie.Need-mul-all
-mul-all c =
-    let e = ap₂ (λ (x y : ℕ). x * y) (c .before .word .ensures .0) (c .word2 .ensures .0) in
-    omega (arith, start (c .before) .pre .all)
+mul-all c = omega (arith, shaped (c .before) .all)
 
 count-words-requires : tie.Need-count-words-requires
-count-words-requires c κs =
-    let at-word = c .before in
-    let at-start = start at-word in
-    let e = ap₂ (λ (x y : ℕ). x * y) (at-word .word .ensures .0) (c .word2 .ensures .0) in
-    omega (arith, at-start .pre .all, at-start .pre .books, at-start .pre .map, at-word .word .ensures .0)
+count-words-requires c κs = let s = shaped (c .before) in (s .all, s .books, s .map, s .edition)
 
 cast-result : tie.Need-cast-result
 cast-result c =
-    let at-word2 = c .before in
-    let at-word = at-word2 .before in
-    let at-start = start at-word in
-    let a = at-start .args in
-    let e = ap₂ (λ (x y : ℕ). x * y) (at-word .word .ensures .0) (at-word2 .word2 .ensures .0) in
-    let l = length-roll 8 (at-word .word .result) (a .books .now) (a .map .now) (omega arith) 0 (at-word .word .result * at-word2 .word2 .result) in
-    omega (arith, at-start .pre .all, c .count-words .ensures)
+    let at-shape-of = c .before .before in
+    let a = start at-shape-of .args in
+    let s = at-shape-of .shape-of .result in
+    omega (
+      arith,
+      shaped at-shape-of .all,
+      c .count-words .ensures,
+      length-roll (alignmentOf (s .edition)) (s .arenas) (a .books .now) (a .map .now) (aligned (s .edition) .low) 0 (s .arenas * s .pools),
+    )
 
 returns : tie.Need-returns
 returns c =
-    let at-word = c .before .before in
-    let a = start at-word .args in
+    let at-shape-of = c .before .before in
+    let a = start at-shape-of .args in
     ap (λ (n : ℕ). n / 2) (c .count-words .ensures
-    ∙ ap₂ (λ (x y : ℕ). length (rollPools 8 x (a .books .now) (a .map .now) 0 (x * y))) (at-word .word .ensures .0) (c .before .word2 .ensures .0))
+    ∙ ap (λ (s : Shape). length (rollPools (alignmentOf (s .edition)) (s .arenas) (a .books .now) (a .map .now) 0 (s .arenas * s .pools)))
+    (at-shape-of .shape-of .ensures))
 
 pub live-blocks-spec : {M : Type 1} → statement M
 live-blocks-spec =
-    tie.close
-    (tie.spec word-requires word-requires-2 mul-all count-words-requires cast-result returns)
+    tie.close (tie.spec shape-of-requires mul-all count-words-requires cast-result returns)

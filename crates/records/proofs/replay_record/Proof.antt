@@ -52,7 +52,7 @@ returns c =
     let a = at-start .args in
     let x = at-answer .answer in
     let e = x .ensures .0
-    ∙ ap (replayRecord 8 (heapOf (a .memory .now) (a .books .now) (a .map .now)))
+    ∙ ap (replayRecord (heapOf (a .memory .now) (a .books .now) (a .map .now)))
     (part-is (a .input .now) (a .i) (at-end-of .end-of .result) (at-end-of .end-of .ensures)) in (
       at-put-reply .put-reply .ensures ∙ ap (λ (y : Replied). sets (a .output .now) (16 * a .i) (y .reply)) e,
       ap (λ (y : Replied). y .heap) e,

@@ -1,9 +1,10 @@
--- `records::size_at` reads the class of the offset's pool by the books' own A.
+-- `records::size_at` reads the class of the offset's pool by the books' own A, and goes by their own edition.
 -- Assumes nothing.
 use mathlib.Core.Path.{ap, ap₂, _∙_}
-use Prim.Native.Nat.{ℕ, _+_, _*_, _/_, _%_}
+use Prim.Native.Nat.{ℕ, _/_, _%_}
 use borrow.Author.Needs.{needs}
 use Rattle.rules.specs.Books.{class, pool}
+use Rattle.rules.specs.Blocks.{sizeOf}
 use Rattle.records.proofs.size_at.Statement.{statement}
 use Rattle.records.proofs.size_at.Tie as tie
 
@@ -31,23 +32,27 @@ add-word-or-none-3 c = search needs
 word-or-none-requires-2 : tie.Need-word-or-none-requires-2
 word-or-none-requires-2 c κs = search needs
 
-add-result : tie.Need-add-result
-add-result c = search needs
+edition-of-requires : tie.Need-edition-of-requires
+edition-of-requires c κs = search needs
 
-mul-result : tie.Need-mul-result
-mul-result c = search needs
+size-of-requires : tie.Need-size-of-requires
+size-of-requires c κs = search needs
 
 cast-result : tie.Need-cast-result
 cast-result c = search needs
 
 returns : tie.Need-returns
 returns c =
-    let at-word-or-none = c .before .before in
-    let at-start = at-word-or-none .before .before in
-    let a = at-start .args in
-    ap (λ (x : ℕ). 8 * (x + 1) % 4294967296)
-    (c .word-or-none2 .ensures .0
-    ∙ ap₂ (λ (x y : ℕ). pool x (a .books .now) class (y / 4096)) (at-word-or-none .word-or-none .ensures .0) (c .before .index .ensures .0))
+    let at-edition-of = c .before in
+    let at-word-or-none2 = at-edition-of .before in
+    let at-index = at-word-or-none2 .before in
+    let at-word-or-none = at-index .before in
+    let a = at-word-or-none .before .before .args in
+    ap (λ (x : ℕ). x % 4294967296)
+    (c .size-of .ensures .0
+    ∙ ap₂ (λ (x y : ℕ). sizeOf x y) (at-edition-of .edition-of .ensures .0)
+    (at-word-or-none2 .word-or-none2 .ensures .0
+    ∙ ap₂ (λ (x y : ℕ). pool x (a .books .now) class (y / 4096)) (at-word-or-none .word-or-none .ensures .0) (at-index .index .ensures .0)))
 
 pub size-at-spec : {M : Type 1} → statement M
 size-at-spec =
@@ -61,7 +66,7 @@ size-at-spec =
     add-word-or-none-2
     add-word-or-none-3
     word-or-none-requires-2
-    add-result
-    mul-result
+    edition-of-requires
+    size-of-requires
     cast-result
     returns)
