@@ -1,11 +1,9 @@
--- The answer of an ask as one number, which comes back in a register.
+-- The answer of an ask as one number, which comes back in a register and is laid out there as in C.
 -- Assumes nothing.
-use Prim.Native.Nat.{ℕ}
-use lib.Dec.{ltb}
+use Prim.Native.Nat.{ℕ, _/_, _%_}
 use Rattle.rules.specs.declared.Answer.{Answer}
-use Rattle.rules.specs.Say.{if_then_else_}
 use Rattle.rules.specs.Outcome.{answerOf}
 
--- the offset, or the refusal's number. Every block starts at 48 or later, and no refusal's number comes near it
+-- the number below 2^32, the offset above
 abbrev pub answered : ℕ → Answer
-answered r = if ltb r 48 then answerOf r 0 else answerOf 0 r
+answered r = answerOf (r % 4294967296) (r / 4294967296)

@@ -4,11 +4,11 @@ use mathlib.Core.Path.{_≡_, sym, ap, subst, _∙_}
 use mathlib.Core.Logic.{_≢_}
 use mathlib.Core.Bool.{true}
 use mathlib.Core.List.{List, []}
-use Prim.Native.Nat.{ℕ, _+_, _*_, _-_, _≤_, _<_}
+use Prim.Native.Nat.{ℕ, _+_, _*_, _-_, _/_, _%_, _≤_, _<_}
 use native.Mathlib.Omega.{arith}
 use lib.ListN.{length, length-set}
 use lib.Seq.{getD-set-same, getD-set-other}
-use borrow.Author.Tests.{eq-eqb, ne-eqb, le-ltb}
+use borrow.Author.Tests.{eq-eqb, ne-eqb}
 use Rattle.rules.specs.declared.Source.{Source}
 use Rattle.rules.specs.declared.Source.the-variants.{Freed, Carved, Opened}
 use Rattle.rules.specs.Say.{_▷_}
@@ -66,12 +66,14 @@ pub with-link : (g : List ℕ → List ℕ) (m m′ b k : List ℕ) (h : Heap) �
 with-link g m m′ b k h link left = ap (λ (x : List ℕ). heapOf x b k) link ∙ ap (onMemory g) left
 
 -- and last the bit of the block that is handed out, whose offset is the answer
-pub handed : (s p f : ℕ) (h h′ : Heap) (r : ℕ) (k : List ℕ) → 48 ≤ f → h ≡ h′ → r ≡ offsetOf p f
+pub handed : (s p f : ℕ) (h h′ : Heap) (r : ℕ) (k : List ℕ) → h ≡ h′ → r ≡ offsetOf p f * 4294967296
     → k ≡ putMapBit p (blockNo s f) 1 (h .map)
     → outcome (answered r) (heapOf (h .memory) (h .books) k)
     ≡ outcome (answerOf 0 (offsetOf p f)) (onMap (putMapBit p (blockNo s f) 1) h′)
-handed s p f h h′ r k low left answer set =
-    rw (answer, set, le-ltb (offsetOf p f) 48 (omega arith))
+handed s p f h h′ r k left answer set =
+    let low : offsetOf p f * 4294967296 % 4294967296 ≡ 0 = omega arith in
+    let high : offsetOf p f * 4294967296 / 4294967296 ≡ offsetOf p f = omega arith in
+    rw (answer, set, low, high)
     (ap (λ (x : Heap). outcome (answerOf 0 (offsetOf p f)) (onMap (putMapBit p (blockNo s f) 1) x)) left)
 
 -- ---- a block's start passes the test
@@ -165,34 +167,34 @@ spends-still A P a b b′ gives same =
     }
 
 -- carving writes the pool's class and the mark
-carve-keeps : (A P c a p : ℕ) (h : Heap) (i : ℕ) → i ≢ arenaWord carveMark a → i ≢ poolWord A class p
-    → at (carve 8 A P c a p h .books) i ≡ at (h .books) i
-carve-keeps A P c a p h i n o =
+carve-keeps : (al A P c a p : ℕ) (h : Heap) (i : ℕ) → i ≢ arenaWord carveMark a → i ≢ poolWord A class p
+    → at (carve al A P c a p h .books) i ≡ at (h .books) i
+carve-keeps al A P c a p h i n o =
     let b = put (poolWord A class p) noClass (h .books) in
     getD-set-other b (arenaWord carveMark a) i (at b (arenaWord carveMark a) + 1) 0 n
     ∙ getD-set-other (h .books) (poolWord A class p) i noClass 0 o
 
 -- it has, once a pool was taken from its source
-take-spends : (A P c p : ℕ) (b : List ℕ) (src : Source) (m k : List ℕ) → 2 ≤ P → 72 + 8 * A ≤ length b
+take-spends : (al A P c p : ℕ) (b : List ℕ) (src : Source) (m k : List ℕ) → 2 ≤ P → 72 + 8 * A ≤ length b
     → FitsSource A P b src p
-    → Spends A (arenaOf 8 A P c src) (takeFrom 8 A P c src p (heapOf m b k) .books)
+    → Spends A (arenaOf al A P c src) (takeFrom al A P c src p (heapOf m b k) .books)
 unfolding takeFrom
-take-spends A P c p b (Freed a) m k some long (gives, next) =
+take-spends al A P c p b (Freed a) m k some long (gives, next) =
     spends-still A P a b _ gives (λ i l n f. getD-set-other b (arenaWord freedHead a) i (pool A b poolNext p) 0 f)
-take-spends A P c p b (Carved a) m k some long (gives, place, mark) =
+take-spends al A P c p b (Carved a) m k some long (gives, place, mark) =
     let there : a < A = gives .there in
-    spends-still A P a b _ gives (λ i l n f. carve-keeps A P c a p (heapOf m b k) i n (omega arith))
-take-spends A P c p b (Opened a) m k some long (there, place, links, empty) =
+    spends-still A P a b _ gives (λ i l n f. carve-keeps al A P c a p (heapOf m b k) i n (omega arith))
+take-spends al A P c p b (Opened a) m k some long (there, place, links, empty) =
     let free =
-    carve-keeps A P c a p (opened P a (heapOf m b k)) (arenaWord freePools a) (omega arith) (omega arith)
+    carve-keeps al A P c a p (opened P a (heapOf m b k)) (arenaWord freePools a) (omega arith) (omega arith)
     ∙ opened-free P a b m k (omega arith) in
     record { there = there; some = omega arith; links = λ e. omega arith }
 
-pub taken-spends : (A P c p : ℕ) (b b′ : List ℕ) (src : Source) → 2 ≤ P → 72 + 8 * A ≤ length b → FitsSource A P b src p
-    → Writes (takeFrom 8 A P c src p) b b′ → Spends A (arenaOf 8 A P c src) b′
-taken-spends A P c p b b′ src some long fits writes =
-    subst (Spends A (arenaOf 8 A P c src)) (sym (ap (λ (h : Heap). h .books) (writes .same [] [])))
-    (take-spends A P c p b src [] [] some long fits)
+pub taken-spends : (al A P c p : ℕ) (b b′ : List ℕ) (src : Source) → 2 ≤ P → 72 + 8 * A ≤ length b
+    → FitsSource A P b src p → Writes (takeFrom al A P c src p) b b′ → Spends A (arenaOf al A P c src) b′
+taken-spends al A P c p b b′ src some long fits writes =
+    subst (Spends A (arenaOf al A P c src)) (sym (ap (λ (h : Heap). h .books) (writes .same [] [])))
+    (take-spends al A P c p b src [] [] some long fits)
 
 -- ---- it spends it
 module _ (A a : ℕ) (b : List ℕ) (inside : arenaWord freePools a < length b) where
@@ -204,12 +206,12 @@ module _ (A a : ℕ) (b : List ℕ) (inside : arenaWord freePools a < length b) 
   free-is = getD-set-same b _ _ 0 inside
 
   -- "at 0 the arena leaves the list", and not before
-  pub spend-stays : (P c : ℕ) → (arena b freePools a - 1 ≡ 0 → ⊥) → Writes (spend 8 A P c a) b fewer
-  spend-stays P c more = record { same = λ m k. rw (free-is, ne-eqb (arena b freePools a - 1) 0 more) }
+  pub spend-stays : (al P c : ℕ) → (arena b freePools a - 1 ≡ 0 → ⊥) → Writes (spend al A P c a) b fewer
+  spend-stays al P c more = record { same = λ m k. rw (free-is, ne-eqb (arena b freePools a - 1) 0 more) }
 
-  pub spend-leaves : (P c : ℕ) → arena b freePools a - 1 ≡ 0
-      → Writes (spend 8 A P c a) b (leave arenaLinks usableHead a fewer)
-  spend-leaves P c last = record { same = λ m k. rw (free-is, eq-eqb (arena b freePools a - 1) 0 last) }
+  pub spend-leaves : (al P c : ℕ) → arena b freePools a - 1 ≡ 0
+      → Writes (spend al A P c a) b (leave arenaLinks usableHead a fewer)
+  spend-leaves al P c last = record { same = λ m k. rw (free-is, eq-eqb (arena b freePools a - 1) 0 last) }
 
   -- by the links that it had
   pub spend-links : Links A arenaLinks a b → Links A arenaLinks a fewer

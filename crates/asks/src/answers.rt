@@ -1,9 +1,15 @@
-// What a step answers. An ask's answer is one number, since that comes back in a register: the offset, or the refusal's
-// number, which is below every offset.
+// What a step answers. An ask's answer is one number, since that comes back in a register: number and offset as the
+// struct of C has them in its eight bytes, so that nothing is left to do on the way to the caller.
+use books::numbers;
 use rules::Answer;
 ghost use mathlib.Core.Path.{_≡_};
 ghost use Rattle.rules.specs.Outcome.{answerOf};
 ghost use Rattle.asks.specs.Answers.{answered};
+
+// The refusals of an ask's step.
+pub const NO_ROOM: usize = numbers::NO_ROOM as usize;
+
+pub const DAMAGED: usize = numbers::DAMAGED as usize;
 
 // A refusal: the number, and offset 0.
 pub fn refuse(number: u32) -> Answer
@@ -13,14 +19,11 @@ pub fn refuse(number: u32) -> Answer
 }
 
 // The answer that an ask's number stands for.
-pub fn answer(asked: u32) -> Answer
+pub fn answer(asked: usize) -> Answer
     ensures { λ r. ⌜ r ≡ answered asked ⌝ }
 {
-    if asked < 48 {
-        return refuse(asked);
-    }
     Answer {
-        number: 0,
-        offset: asked,
+        number: (asked % 4294967296) as u32,
+        offset: (asked / 4294967296) as u32,
     }
 }

@@ -1,21 +1,22 @@
 // An ask: from its class list, or from a new pool. Here are the writes of a new pool, in the order of the rules: a
 // function for each part of a path.
+use crate::answers::DAMAGED;
+use crate::answers::NO_ROOM;
 use crate::ask_listed::ask_listed;
 use crate::ask_listed::hand_out;
 use books::blocks::class_of;
-use books::blocks::size_of;
+use books::blocks::size_for;
 use books::links::put_link;
 use books::lists::join_by;
 use books::lists::leave;
 use books::lists::link_to;
-use books::numbers::DAMAGED;
-use books::numbers::NO_ROOM;
 use books::pool::load_pool;
 use books::pool::store_pool;
 use books::words::ARENA_LINKS;
 use books::words::CARVE_MARK;
 use books::words::CLASS;
 use books::words::CLASS_HEADS;
+use books::words::EDITION;
 use books::words::FREE_POOLS;
 use books::words::FREED_HEAD;
 use books::words::NEXT;
@@ -32,7 +33,8 @@ ghost use mathlib.Core.Path.{_≡_};
 ghost use Prim.Native.Nat.{ℕ, _+_, _*_, _<_, _≤_};
 ghost use lib.ListN.{length};
 ghost use Rattle.rules.specs.Say.{_▷_};
-ghost use Rattle.rules.specs.Books.{at, put, onBooks, putWord, usableHead, carveMark, freedHead, arenaWord, arena};
+ghost use Rattle.rules.specs.Books.{at, alignmentOf, put, onBooks, putWord, usableHead, carveMark, freedHead};
+ghost use Rattle.rules.specs.Books.{arenaWord, arena};
 ghost use Rattle.rules.specs.Books.{freeblock, poolNext, class as poolClass, nextoffset, maxnextoffset, poolWord, pool};
 ghost use Rattle.rules.specs.Blocks.{lastStart};
 ghost use Rattle.rules.specs.Lists.{arenaLinks};
@@ -60,7 +62,7 @@ fn take_freed(books: &mut [u32], arenas: usize, a: usize, p: usize)
 // The pool p at the mark of arena a is carved.
 fn carve(books: &mut [u32], arenas: usize, a: usize, p: usize)
     requires { ⌜ (a < arenas) × (poolWord arenas 8 p ≤ length (now books)) × (arena (now books) carveMark a < 64) ⌝ }
-    ensures { λ _. ⌜ ((P c : ℕ) → Writes (carve 8 arenas P c a p) (now (books .entry)) (now (books .exit))) ⌝ }
+    ensures { λ _. ⌜ ((al P c : ℕ) → Writes (carve al arenas P c a p) (now (books .entry)) (now (books .exit))) ⌝ }
 {
     let class = RECORDS + 8 * arenas + 8 * p + CLASS;
     books[class] = NO_CLASS;
@@ -88,8 +90,8 @@ fn open_arena(books: &mut [u32], arenas: usize, pools: usize, a: usize)
 fn take_from(books: &mut [u32], arenas: usize, pools: usize, source: Source, p: usize) -> usize
     requires { ⌜ (arenas ≤ 16) × (2 ≤ pools) × (pools ≤ 64) × (poolWord arenas 8 p ≤ length (now books))
         × FitsSource arenas pools (now books) source p ⌝ }
-    ensures { λ r. ⌜ ((c : ℕ) → (r ≡ arenaOf 8 arenas pools c source)
-        × Writes (takeFrom 8 arenas pools c source p) (now (books .entry)) (now (books .exit))) ⌝ }
+    ensures { λ r. ⌜ ((al c : ℕ) → (r ≡ arenaOf al arenas pools c source)
+        × Writes (takeFrom al arenas pools c source p) (now (books .entry)) (now (books .exit))) ⌝ }
 {
     match source {
         Source::Freed(a) => {
@@ -111,7 +113,7 @@ fn take_from(books: &mut [u32], arenas: usize, pools: usize, source: Source, p: 
 // Arena a has given a pool: it has one free pool fewer, and leaves the usable list if that was the last.
 fn spend(books: &mut [u32], arenas: usize, a: usize)
     requires { ⌜ (arenas ≤ 16) × (72 + 8 * arenas ≤ length (now books)) × Spends arenas a (now books) ⌝ }
-    ensures { λ _. ⌜ ((P c : ℕ) → Writes (spend 8 arenas P c a) (now (books .entry)) (now (books .exit))) ⌝ }
+    ensures { λ _. ⌜ ((al P c : ℕ) → Writes (spend al arenas P c a) (now (books .entry)) (now (books .exit))) ⌝ }
 {
     let at = RECORDS + 8 * a + FREE_POOLS;
     let free = books[at] - 1;
@@ -124,7 +126,7 @@ fn spend(books: &mut [u32], arenas: usize, a: usize)
 // Pool p goes alone on the list of its own class, and the link l of its freeblock, which is taken, follows it.
 fn list_again(books: &mut [u32], arenas: usize, class: usize, p: usize, l: usize)
     requires { ⌜ (class ≤ 63) × (p ≤ 1024) × (poolWord arenas 8 p ≤ length (now books)) × (l ≤ 4096) ⌝ }
-    ensures { λ _. ⌜ ((P : ℕ) → Writes (λ h. h ▷ alone 8 arenas P class p ▷ putWord (poolWord arenas freeblock p) l)
+    ensures { λ _. ⌜ ((al P : ℕ) → Writes (λ h. h ▷ alone al arenas P class p ▷ putWord (poolWord arenas freeblock p) l)
         (now (books .entry)) (now (books .exit))) ⌝ }
 {
     books[CLASS_HEADS + class] = link_to(p);
@@ -135,7 +137,8 @@ fn list_again(books: &mut [u32], arenas: usize, class: usize, p: usize, l: usize
 // Pool p goes alone on the list of the class that it is set to: its first block is taken, and its second follows it.
 fn list_anew(books: &mut [u32], arenas: usize, class: usize, size: usize, p: usize)
     requires { ⌜ (class ≤ 63) × (size ≤ 512) × (p ≤ 1024) × (poolWord arenas 8 p ≤ length (now books)) ⌝ }
-    ensures { λ _. ⌜ ((P : ℕ) → Writes (λ h. h ▷ alone 8 arenas P class p ▷ putWord (poolWord arenas poolClass p) class
+    ensures { λ _. ⌜ ((al P : ℕ) → Writes (λ h. h ▷ alone al arenas P class p
+        ▷ putWord (poolWord arenas poolClass p) class
         ▷ putWord (poolWord arenas nextoffset p) (48 + 2 * size)
         ▷ putWord (poolWord arenas maxnextoffset p) (lastStart size)
         ▷ putWord (poolWord arenas freeblock p) (48 + size)) (now (books .entry)) (now (books .exit))) ⌝ }
@@ -152,14 +155,16 @@ fn write_new(
     map: &mut [u64],
     arenas: usize,
     pools: usize,
+    edition: usize,
     class: usize,
     size: usize,
     plan: AskPlan,
-) -> u32
-    requires { ⌜ Shaped arenas pools (length (now memory)) (length (now books)) (length (now map)) × Class class size
-        × FitsNew arenas pools size class (now books) (now map) plan ⌝ }
+) -> usize
+    requires { ⌜ Shaped arenas pools (length (now memory)) (length (now books)) (length (now map))
+        × Class (alignmentOf edition) class size × FitsNew arenas pools size class (now books) (now map) plan ⌝ }
     ensures { λ r. ⌜ outcome (answered r) (heapOf (now (memory .exit)) (now (books .exit)) (now (map .exit)))
-        ≡ asked 8 arenas pools class (heapOf (now (memory .entry)) (now (books .entry)) (now (map .entry))) plan ⌝ }
+        ≡ asked (alignmentOf edition) arenas pools class
+        (heapOf (now (memory .entry)) (now (books .entry)) (now (map .entry))) plan ⌝ }
 {
     match plan {
         AskPlan::NoRoom => return NO_ROOM,
@@ -182,7 +187,8 @@ fn write_new(
     }
 }
 
-// An ask for n bytes.
+// An ask for n bytes, in the edition that the books hold: it is read here and not handed on, since an argument more
+// would not come in a register.
 pub fn ask_step(
     memory: &mut [u8],
     books: &mut [u32],
@@ -190,21 +196,43 @@ pub fn ask_step(
     arenas: usize,
     pools: usize,
     n: usize,
-) -> u32
+) -> usize
     requires { ⌜ Shaped arenas pools (length (now memory)) (length (now books)) (length (now map))
-        × (1 ≤ n) × (n ≤ 512) ⌝ }
+        × (1 ≤ n) × (n ≤ 512) × (at (now books) 68 ≤ 1) ⌝ }
     ensures { λ r. ⌜ outcome (answered r) (heapOf (now (memory .exit)) (now (books .exit)) (now (map .exit)))
-        ≡ askStep 8 arenas pools (heapOf (now (memory .entry)) (now (books .entry)) (now (map .entry))) n ⌝ }
+        ≡ askStep (alignmentOf (at (now (books .entry)) 68)) arenas pools
+        (heapOf (now (memory .entry)) (now (books .entry)) (now (map .entry))) n ⌝ }
 {
-    let class = class_of(n);
-    let size = size_of(class);
+    let edition = word(books, EDITION);
+    let class = class_of(edition, n);
+    let size = size_for(edition, n);
     let l = word(books, CLASS_HEADS + class);
     if l == 0 {
-        let plan = plan_new(memory, books, map, arenas, pools, class, size);
-        return write_new(memory, books, map, arenas, pools, class, size, plan);
+        let plan = plan_new(memory, books, map, arenas, pools, edition, class, size);
+        return write_new(
+            memory,
+            books,
+            map,
+            arenas,
+            pools,
+            edition,
+            class,
+            size,
+            plan,
+        );
     }
     if l <= arenas * pools {
-        return ask_listed(memory, books, map, arenas, pools, class, size, l - 1);
+        return ask_listed(
+            memory,
+            books,
+            map,
+            arenas,
+            pools,
+            edition,
+            class,
+            size,
+            l - 1,
+        );
     }
     DAMAGED
 }

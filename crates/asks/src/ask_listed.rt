@@ -1,13 +1,13 @@
 // An ask from the front pool of its class list: the pool's record is loaded once, the path is decided from it and from
 // the heap before, and the record is stored as the path leaves it. The path is no value in between, which would go
 // through memory.
+use crate::answers::DAMAGED;
 use bits::set_bit;
 use books::blocks::block_no;
 use books::links::link_at;
 use books::links::put_link;
 use books::lists::leave_by;
 use books::lists::pool_links;
-use books::numbers::DAMAGED;
 use books::pool::Pool;
 use books::pool::load_pool;
 use books::pool::store_pool;
@@ -17,7 +17,7 @@ use plans::ask::spare;
 ghost use mathlib.Core.Path.{_≡_};
 ghost use Prim.Native.Nat.{_+_, _*_, _<_, _≤_};
 ghost use lib.ListN.{length};
-ghost use Rattle.rules.specs.Books.{putMapBit, offsetOf};
+ghost use Rattle.rules.specs.Books.{alignmentOf, putMapBit, offsetOf};
 ghost use Rattle.rules.specs.Blocks.{blockNo};
 ghost use Rattle.rules.specs.Outcome.{heapOf, outcome};
 ghost use Rattle.rules.specs.Ask.{asked, noLink, fromListed};
@@ -28,12 +28,13 @@ ghost use Rattle.asks.specs.Answers.{answered};
 ghost use Rattle.asks.specs.AskPath.{Front};
 
 // The block at f of pool p becomes live, and its offset is the answer.
-pub fn hand_out(map: &mut [u64], size: usize, p: usize, f: usize) -> u32
+pub fn hand_out(map: &mut [u64], size: usize, p: usize, f: usize) -> usize
     requires { ⌜ (8 ≤ size) × (size ≤ 512) × Start size f × (p < 1024) × (8 * p + 8 ≤ length (now map)) ⌝ }
-    ensures { λ r. ⌜ (r ≡ offsetOf p f) × (now (map .exit) ≡ putMapBit p (blockNo size f) 1 (now (map .entry))) ⌝ }
+    ensures { λ r. ⌜ (r ≡ offsetOf p f * 4294967296)
+        × (now (map .exit) ≡ putMapBit p (blockNo size f) 1 (now (map .entry))) ⌝ }
 {
     set_bit(map, p, block_no(size, f));
-    (4096 * p + f) as u32
+    (4096 * p + f) * 4294967296
 }
 
 // The freeblock of the front pool p, whose record is given, has no link: the block at nextoffset follows it, or the
@@ -44,16 +45,19 @@ fn ask_unlinked(
     map: &mut [u64],
     arenas: usize,
     pools: usize,
+    edition: usize,
     class: usize,
     size: usize,
     p: usize,
     pool: Pool,
-) -> u32
+) -> usize
     requires { ⌜ Shaped arenas pools (length (now memory)) (length (now books)) (length (now map))
-        × Class class size × Front arenas pools size p pool (now books) ⌝ }
+        × Class (alignmentOf edition) class size × Front arenas pools size p pool (now books) ⌝ }
     ensures { λ r. ⌜ outcome (answered r) (heapOf (now (memory .exit)) (now (books .exit)) (now (map .exit)))
-        ≡ asked 8 arenas pools class (heapOf (now (memory .entry)) (now (books .entry)) (now (map .entry)))
-        (noLink 8 arenas pools (heapOf (now (memory .entry)) (now (books .entry)) (now (map .entry))) class p) ⌝ }
+        ≡ asked (alignmentOf edition) arenas pools class
+        (heapOf (now (memory .entry)) (now (books .entry)) (now (map .entry)))
+        (noLink (alignmentOf edition) arenas pools
+        (heapOf (now (memory .entry)) (now (books .entry)) (now (map .entry))) class p) ⌝ }
 {
     let f = index(pool.freeblock);
     if pool.nextoffset <= pool.maxnextoffset {
@@ -87,15 +91,18 @@ pub fn ask_listed(
     map: &mut [u64],
     arenas: usize,
     pools: usize,
+    edition: usize,
     class: usize,
     size: usize,
     p: usize,
-) -> u32
+) -> usize
     requires { ⌜ Shaped arenas pools (length (now memory)) (length (now books)) (length (now map))
-        × Class class size × (p < arenas * pools) ⌝ }
+        × Class (alignmentOf edition) class size × (p < arenas * pools) ⌝ }
     ensures { λ r. ⌜ outcome (answered r) (heapOf (now (memory .exit)) (now (books .exit)) (now (map .exit)))
-        ≡ asked 8 arenas pools class (heapOf (now (memory .entry)) (now (books .entry)) (now (map .entry)))
-        (fromListed 8 arenas pools (heapOf (now (memory .entry)) (now (books .entry)) (now (map .entry))) class p) ⌝ }
+        ≡ asked (alignmentOf edition) arenas pools class
+        (heapOf (now (memory .entry)) (now (books .entry)) (now (map .entry)))
+        (fromListed (alignmentOf edition) arenas pools
+        (heapOf (now (memory .entry)) (now (books .entry)) (now (map .entry))) class p) ⌝ }
 {
     let pool = load_pool(books, arenas, p);
     if !pool.may_serve(class, size) {
@@ -107,7 +114,18 @@ pub fn ask_listed(
     }
     let l = index(link_at(memory, 4096 * p + f));
     if l == 0 {
-        return ask_unlinked(memory, books, map, arenas, pools, class, size, p, pool);
+        return ask_unlinked(
+            memory,
+            books,
+            map,
+            arenas,
+            pools,
+            edition,
+            class,
+            size,
+            p,
+            pool,
+        );
     }
     if !spare(map, p, size, l) {
         return DAMAGED;

@@ -5,12 +5,12 @@ use mathlib.Core.Logic.{_≢_}
 use mathlib.Core.Bool.{Bool, true, false, _&&_}
 use mathlib.Core.List.{List}
 use Prim.Native.Nat.{ℕ, _+_, _*_, _/_, _%_, _≤_, _<_}
-use native.Mathlib.Nat.{mul-le-mul, mul-le-mul-left, mul-div-le, mul-add, mul-one}
+use native.Mathlib.Nat.{mul-le-mul}
 use native.Mathlib.Omega.{arith}
 use lib.Dec.{leb, ltb, eqb}
 use lib.ListN.{length}
 use borrow.Author.Tests.{leb-true, ltb-true, eqb-true}
-use Rattle.rules.specs.Books.{Heap, inRange, exact, memoryLength, booksLength, mapLength, isSet}
+use Rattle.rules.specs.Books.{Heap, at, inRange, exact, memoryLength, booksLength, mapLength, isSet}
 use Rattle.rules.specs.Say.{if_then_else_}
 use Rattle.rules.specs.Blocks.{
   lastClass,
@@ -24,8 +24,10 @@ use Rattle.rules.specs.Blocks.{
   deadNumber,
   liveNumber,
 }
+use Rattle.books.specs.declared.words.Shape.{Shape}
 use Rattle.books.specs.Tests.{both}
 use Rattle.books.specs.Starts.{Start, start}
+use Rattle.books.specs.Sizes.{Aligned, size-low, size-high}
 
 -- ---- 1 and 2
 -- what is known of A and P, and of the lengths of memory, books and map
@@ -38,6 +40,10 @@ pub record Shaped (A P m b k : ℕ) : Type 0 where
   pub memory : m ≡ memoryLength A P
   pub books : b ≡ booksLength A P
   pub map : k ≡ mapLength A P
+
+-- A, P and the edition that the books hold
+abbrev pub shapeOf : List ℕ → Shape
+shapeOf b = record { arenas = at b 0; pools = at b 1; edition = at b 68 }
 
 -- what the tests of A and P say
 pub in-range : (A P : ℕ) → inRange A P ≡ true → (1 ≤ A) × (A ≤ 16) × (2 ≤ P) × (P ≤ 64) × (A * P ≤ 1024)
@@ -82,13 +88,6 @@ pub record LiveBlock (al A P : ℕ) (b m : List ℕ) (o : ℕ) : Type 0 where
   pub ends : o + sizeAt al A b o ≤ memoryLength A P
   pub set : isSet m (o / 4096) (blockNo (sizeAt al A b o) (o % 4096)) ≡ true
 
--- the size of a class is at least the alignment, and not far above the largest
-size-low : (al c : ℕ) → al ≤ al * (c + 1)
-size-low al c = omega (arith, mul-add al c 1, mul-one al)
-
-size-high : (al c : ℕ) → c ≤ lastClass al → al * (c + 1) ≤ 511 + al
-size-high al c h = omega (arith, mul-add al c 1, mul-one al, mul-le-mul-left al h, mul-div-le 511 al)
-
 -- what its first three parts say, which a dead block passes too
 pub at-start-is : (al A P : ℕ) (b : List ℕ) (o : ℕ) → atStart al A P b o ≡ true
     → (o < memoryLength A P) × (classAt A b o ≤ lastClass al) × (isStart (sizeAt al A b o) (o % 4096) ≡ true)
@@ -100,16 +99,16 @@ at-start-is al A P b o e =
     (ltb-true o (memoryLength A P) (v .0), leb-true (classAt A b o) (lastClass al) (v .1), u .1)
 
 -- what the live test says
-pub live-is : (al A P : ℕ) (b m : List ℕ) (o : ℕ) → 8 ≤ al → al ≤ 512 → live al A P b m o ≡ true
+pub live-is : {al : ℕ} → Aligned al → (A P : ℕ) (b m : List ℕ) (o : ℕ) → live al A P b m o ≡ true
     → LiveBlock al A P b m o
 unfolding live
-live-is al A P b m o l h e =
+live-is {al} L A P b m o e =
     let t = both (atStart al A P b o) (isSet m (o / 4096) (blockNo (sizeAt al A b o) (o % 4096))) e in
     let u = at-start-is al A P b o (t .0) in
     let inside : o < memoryLength A P = u .0 in
-    let low = size-low al (classAt A b o) in
-    let high = size-high al (classAt A b o) (u .1) in
-    let begins : Start (sizeAt al A b o) (o % 4096) = start (sizeAt al A b o) (o % 4096) (omega arith) (u .2) in
+    let low = size-low L (classAt A b o) (u .1) in
+    let high = size-high L (classAt A b o) (u .1) in
+    let begins : Start (sizeAt al A b o) (o % 4096) = start (sizeAt al A b o) (o % 4096) low (u .2) in
     record {
       inside = inside;
       pool = omega arith;
@@ -136,7 +135,7 @@ module _ (al A P : ℕ) (b m : List ℕ) (o k : ℕ) (e : atStart al A P b o ≡
   unfolding live blockAt
   when-clear f n d = rw (e, ← q, f, d)
 
-module _ (al A P : ℕ) (b m : List ℕ) (o : ℕ) (low : 8 ≤ al) (high : al ≤ 512) where
+module _ {al : ℕ} (L : Aligned al) (A P : ℕ) (b m : List ℕ) (o : ℕ) where
   -- what is known where it is a block's
   pub record Found : Type 0 where
     pub live-block : LiveBlock al A P b m o
@@ -148,7 +147,7 @@ module _ (al A P : ℕ) (b m : List ℕ) (o : ℕ) (low : 8 ≤ al) (high : al �
   found n = go (live al A P b m o) refl
     where
       go : (t : Bool) → live al A P b m o ≡ t → Found
-      go true e = record { live-block = live-is al A P b m o low high e; number = rw e; block = rw e }
+      go true e = record { live-block = live-is L A P b m o e; number = rw e; block = rw e }
       go false e = absurd (omega (arith, rw e at n))
 
   -- and where it is a refusal's: k is that number, and n what is above 512
@@ -161,7 +160,7 @@ module _ (al A P : ℕ) (b m : List ℕ) (o : ℕ) (low : 8 ≤ al) (high : al �
   not-found k q z = go (live al A P b m o) refl (isBlock al A P b o) refl
     where
       go : (t : Bool) → live al A P b m o ≡ t → (u : Bool) → isBlock al A P b o ≡ u → NotFound k
-      go true e u f = let s = live-is al A P b m o low high e .start .few in absurd (omega (arith, s, rw e at q))
+      go true e u f = let s = live-is L A P b m o e .start .few in absurd (omega (arith, s, rw e at q))
       go false e true f =
           let v = rw (e, f) at q in
           record { few = omega (arith, v); number = λ n p. (rw (e, f) (omega (arith, v)), omega (arith, v)) }

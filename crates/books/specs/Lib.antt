@@ -1,7 +1,8 @@
--- The pool record as a struct, and the laws of tests, records, lists and starts that the steps and the calls cite.
+-- The pool record as a struct, and the laws of tests, records, lists, starts and sizes that steps and calls cite.
 pub mod Tests
 pub mod Passing
 pub mod Records
 pub mod Lists
 pub mod Starts
+pub mod Sizes
 pub mod Known

@@ -3,38 +3,48 @@
 use crate::words;
 ghost use mathlib.Core.Path.{_≡_};
 ghost use mathlib.Core.Bool.{true};
-ghost use Prim.Native.Nat.{_/_, _<_, _≤_};
+ghost use Prim.Native.Nat.{_/_, _^_, _<_, _≤_};
 ghost use lib.ListN.{length};
-ghost use Rattle.rules.specs.Books.{poolWord};
-ghost use Rattle.rules.specs.Blocks.{classOf, sizeOf, classAt, isStart, blockNo};
+ghost use Rattle.rules.specs.Books.{alignmentOf, poolWord};
+ghost use Rattle.rules.specs.Blocks.{classOf, sizeOf, lastClass, classAt, isStart, blockNo};
 
-// Sizes are rounded up to the alignment. Only a class and its size know it: the rest goes by a block's size.
-pub const ALIGNMENT: usize = 8;
-
+// The largest size, and so the size of the blocks of the last class, in both editions.
 pub const LARGEST: usize = 512;
 
-pub const LAST_CLASS: usize = (LARGEST - 1) / ALIGNMENT;
-
-// The class of a size.
-pub fn class_of(n: usize) -> usize
-    requires { ⌜ (1 ≤ n) × (n ≤ 512) ⌝ }
-    ensures { λ r. ⌜ (r ≡ classOf 8 n) × (r ≤ 63) ⌝ }
+// The class of a size. Only a class and its size know the edition: the rest goes by a block's size.
+pub fn class_of(edition: usize, n: usize) -> usize
+    requires { ⌜ (edition ≤ 1) × (1 ≤ n) × (n ≤ 512) ⌝ }
+    ensures { λ r. ⌜ (r ≡ classOf (alignmentOf edition) n) × (r ≤ lastClass (alignmentOf edition)) × (r ≤ 63) ⌝ }
 {
-    (n - 1) / ALIGNMENT
+    (n - 1) / 8 >> edition
 }
 
-// The block size of a class.
-pub fn size_of(class: usize) -> usize
-    requires { ⌜ class ≤ 63 ⌝ }
-    ensures { λ r. ⌜ (r ≡ sizeOf 8 class) × (8 ≤ r) × (r ≤ 512) ⌝ }
+// The block size of a size's class: n bytes in eights, an even number of them at sixteen. An ask takes it from here and
+// not from the class, because that is three instructions where `size_of` is six.
+pub fn size_for(edition: usize, n: usize) -> usize
+    requires { ⌜ (edition ≤ 1) × (1 ≤ n) × (n ≤ 512) ⌝ }
+    ensures { λ r. ⌜ (r ≡ sizeOf (alignmentOf edition) (classOf (alignmentOf edition) n)) × (8 ≤ r) × (r ≤ 512) ⌝ }
 {
-    ALIGNMENT * (class + 1)
+    8 * (((n - 1) / 8 | edition) + 1)
+}
+
+// The block size of a class, or of a number in a class's place: that is above the largest exactly if it is no class.
+// It is a choice and no shift, because LLVM then knows that it is at least 8.
+pub fn size_of(edition: usize, class: usize) -> usize
+    requires { ⌜ class < 2 ^ 32 ⌝ }
+    ensures { λ r. ⌜ (r ≡ sizeOf (alignmentOf edition) class) × (8 ≤ r)
+        × (class ≤ lastClass (alignmentOf edition) → r ≤ 512) ⌝ }
+{
+    if edition == 0 {
+        return 8 * (class + 1);
+    }
+    16 * (class + 1)
 }
 
 // The class of the pool that an offset lies in.
 pub fn class_at(books: &[u32], arenas: usize, offset: usize) -> usize
     requires { ⌜ poolWord arenas 8 (offset / 4096) ≤ length (now books) ⌝ }
-    ensures { λ r. ⌜ r ≡ classAt arenas (now (books .entry)) offset ⌝ }
+    ensures { λ r. ⌜ (r ≡ classAt arenas (now (books .entry)) offset) × (r < 2 ^ 32) ⌝ }
 {
     let at = words::RECORDS + 8 * arenas + 8 * (offset / 4096);
     books[at + words::CLASS] as usize

@@ -3,12 +3,13 @@ use crate::blocks;
 use crate::words;
 ghost use mathlib.Core.Path.{_≡_};
 ghost use mathlib.Core.Bool.{true};
+ghost use mathlib.Core.List.{[]};
 ghost use Prim.Native.Nat.{_+_, _*_, _^_, _≤_, _<_};
 ghost use lib.ListN.{length};
-ghost use Rattle.rules.specs.Books.{inRange, exact, at, booksLength};
-ghost use Rattle.rules.specs.Blocks.{atStart, deadNumber, liveNumber};
+ghost use Rattle.rules.specs.Books.{inRange, exact, at, alignmentOf, booksLength};
+ghost use Rattle.rules.specs.Blocks.{sizeAt, atStart, deadNumber, liveNumber};
 ghost use Rattle.rules.specs.Outcome.{heapOf};
-ghost use Rattle.rules.specs.Numbers.{fitNumber, shapeNumber};
+ghost use Rattle.rules.specs.Numbers.{reachNumber, editionNumber, _before_, fitNumber, shapeNumber};
 ghost use Rattle.books.specs.Known.{Shaped, LiveBlock, blockAt};
 
 // The numbers of a refusal, as the header names them.
@@ -46,13 +47,24 @@ fn exact(memory: &[u8], books: &[u32], map: &[u64], arenas: usize, pools: usize)
         & (map.len() == 8 * all)
 }
 
-// 1 or 2, for given numbers of arenas and pools.
-pub fn fit_number(memory: &[u8], books: &[u32], map: &[u64], arenas: usize, pools: usize) -> u32
-    ensures { λ r. ⌜ (r ≡ fitNumber (heapOf (now (memory .entry)) (now (books .entry)) (now (map .entry))) arenas pools)
+// 1 or 2, for given numbers of arenas and pools and an edition.
+pub fn fit_number(
+    memory: &[u8],
+    books: &[u32],
+    map: &[u64],
+    arenas: usize,
+    pools: usize,
+    edition: usize,
+) -> u32
+    ensures { λ r. ⌜ (r
+        ≡ fitNumber (heapOf (now (memory .entry)) (now (books .entry)) (now (map .entry))) arenas pools edition)
         × (r ≡ 0 → Shaped arenas pools (length (now (memory .entry))) (length (now (books .entry)))
-        (length (now (map .entry)))) ⌝ }
+        (length (now (map .entry))) × (edition ≤ 1)) ⌝ }
 {
     if !in_range(arenas, pools) {
+        return OUT_OF_RANGE;
+    }
+    if 1 < edition {
         return OUT_OF_RANGE;
     }
     if !exact(memory, books, map, arenas, pools) {
@@ -61,23 +73,50 @@ pub fn fit_number(memory: &[u8], books: &[u32], map: &[u64], arenas: usize, pool
     0
 }
 
-// 1 or 2, for the numbers of arenas and pools that the books hold.
+// The number of a heap with a wrong length: the edition, where the books reach it, is tested before the lengths.
+fn wrong_length(books: &[u32]) -> u32
+    ensures { λ r. ⌜ (r ≡ (reachNumber (heapOf [] (now (books .entry)) []) 68
+        before editionNumber (at (now (books .entry)) 68) before 2)) × (1 ≤ r) ⌝ }
+{
+    if books.len() <= words::EDITION {
+        return NOT_EXACT;
+    }
+    if 1 < words::word(books, words::EDITION) {
+        return OUT_OF_RANGE;
+    }
+    NOT_EXACT
+}
+
+// 1 or 2, for the numbers of arenas and pools and the edition that the books hold. Books of the right length reach the
+// edition, so that it is asked whether they do only where a length is wrong.
 pub fn shape_number(memory: &[u8], books: &[u32], map: &[u64]) -> u32
     ensures { λ r. ⌜ (r ≡ shapeNumber (heapOf (now (memory .entry)) (now (books .entry)) (now (map .entry))))
         × (r ≡ 0 → Shaped (at (now (books .entry)) 0) (at (now (books .entry)) 1)
-        (length (now (memory .entry))) (length (now (books .entry))) (length (now (map .entry)))) ⌝ }
+        (length (now (memory .entry))) (length (now (books .entry))) (length (now (map .entry)))
+        × (at (now (books .entry)) 68 ≤ 1)) ⌝ }
 {
     if books.len() < 2 {
         return NOT_EXACT;
     }
-    fit_number(memory, books, map, books[0] as usize, books[1] as usize)
+    let arenas = words::word(books, 0);
+    let pools = words::word(books, 1);
+    if !in_range(arenas, pools) {
+        return OUT_OF_RANGE;
+    }
+    if !exact(memory, books, map, arenas, pools) {
+        return wrong_length(books);
+    }
+    if 1 < words::word(books, words::EDITION) {
+        return OUT_OF_RANGE;
+    }
+    0
 }
 
 // The number of an offset where a block of its pool would start, but is not live: whether there is a block at all.
-fn dead_number(books: &[u32], arenas: usize, pools: usize, offset: usize) -> u32
+fn dead_number(books: &[u32], arenas: usize, pools: usize, edition: usize, offset: usize) -> u32
     requires { ⌜ (1 ≤ pools) × (arenas ≤ 16) × (arenas * pools ≤ 1024) × (length (now books) ≡ booksLength arenas pools)
-        × (atStart 8 arenas pools (now books) offset ≡ true) ⌝ }
-    ensures { λ r. ⌜ (r ≡ deadNumber 8 arenas pools (now (books .entry)) offset) × (r ≤ 10) ⌝ }
+        × (atStart (alignmentOf edition) arenas pools (now books) offset ≡ true) ⌝ }
+    ensures { λ r. ⌜ (r ≡ deadNumber (alignmentOf edition) arenas pools (now (books .entry)) offset) × (r ≤ 10) ⌝ }
 {
     let p = offset / 4096;
     let next = words::word(
@@ -94,8 +133,6 @@ fn dead_number(books: &[u32], arenas: usize, pools: usize, offset: usize) -> u32
 // pool has so many blocks.
 pub const REFUSED: usize = 512;
 
-const NOTHING_THERE: usize = REFUSED + NO_BLOCK as usize;
-
 // The number of the refusal that stands there.
 pub fn refusal(k: usize) -> u32
     requires { ⌜ (512 ≤ k) × (k < 2 ^ 32) ⌝ }
@@ -104,35 +141,51 @@ pub fn refusal(k: usize) -> u32
     (k - REFUSED) as u32
 }
 
-// Which block of its pool is live at the offset, or the refusal. Whoever gives it back need not divide again.
+// A block: its number in its pool, and its size. Where an offset is refused, the refusal is in the number's place.
+pub struct Block {
+    pub number: usize,
+    pub size: usize,
+}
+
+const NOTHING_THERE: Block = Block {
+    number: REFUSED + NO_BLOCK as usize,
+    size: 0,
+};
+
+// The block that is live at the offset, or the refusal. Whoever gives it back need not divide again.
 pub fn live_block(
     memory: &[u8],
     books: &[u32],
     map: &[u64],
     arenas: usize,
     pools: usize,
+    edition: usize,
     offset: usize,
-) -> usize
+) -> Block
     requires { ⌜ Shaped arenas pools (length (now memory)) (length (now books)) (length (now map)) ⌝ }
-    ensures { λ r. ⌜ r ≡ blockAt 8 arenas pools (now (books .entry)) (now (map .entry)) offset ⌝ }
+    ensures { λ r. ⌜ (r .number
+        ≡ blockAt (alignmentOf edition) arenas pools (now (books .entry)) (now (map .entry)) offset)
+        × (r .number < 512 → r .size ≡ sizeAt (alignmentOf edition) arenas (now (books .entry)) offset) ⌝ }
 {
     if memory.len() <= offset {
         return NOTHING_THERE;
     }
-    let class = blocks::class_at(books, arenas, offset);
-    if blocks::LAST_CLASS < class {
+    let size = blocks::size_of(edition, blocks::class_at(books, arenas, offset));
+    if blocks::LARGEST < size {
         return NOTHING_THERE;
     }
-    let size = blocks::size_of(class);
     let o = offset % 4096;
     if !blocks::is_start(size, o) {
         return NOTHING_THERE;
     }
     let k = blocks::block_no(size, o);
     if bits::is_set(map, offset / 4096, k) {
-        return k;
+        return Block { number: k, size };
     }
-    REFUSED + dead_number(books, arenas, pools, offset) as usize
+    Block {
+        number: REFUSED + dead_number(books, arenas, pools, edition, offset) as usize,
+        size,
+    }
 }
 
 // 5 or 10, unless the offset is that of a live block.
@@ -142,15 +195,17 @@ pub fn live_number(
     map: &[u64],
     arenas: usize,
     pools: usize,
+    edition: usize,
     offset: usize,
 ) -> u32
     requires { ⌜ Shaped arenas pools (length (now memory)) (length (now books)) (length (now map)) ⌝ }
-    ensures { λ r. ⌜ (r ≡ liveNumber 8 arenas pools (now (books .entry)) (now (map .entry)) offset)
-        × (r ≡ 0 → LiveBlock 8 arenas pools (now (books .entry)) (now (map .entry)) offset) ⌝ }
+    ensures { λ r. ⌜ (r
+        ≡ liveNumber (alignmentOf edition) arenas pools (now (books .entry)) (now (map .entry)) offset)
+        × (r ≡ 0 → LiveBlock (alignmentOf edition) arenas pools (now (books .entry)) (now (map .entry)) offset) ⌝ }
 {
-    let k = live_block(memory, books, map, arenas, pools, offset);
-    if REFUSED <= k {
-        return refusal(k);
+    let block = live_block(memory, books, map, arenas, pools, edition, offset);
+    if REFUSED <= block.number {
+        return refusal(block.number);
     }
     0
 }

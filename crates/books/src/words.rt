@@ -4,6 +4,7 @@ ghost use mathlib.Core.Path.{_≡_};
 ghost use Prim.Native.Nat.{_*_, _/_, _^_, _<_, _≤_};
 ghost use lib.ListN.{length};
 ghost use Rattle.rules.specs.Books.{at, arenaWord, arena, carved};
+ghost use Rattle.books.specs.Known.{shapeOf};
 
 // The heads of the lists, and the first record.
 pub const USABLE_HEAD: usize = 2;
@@ -11,6 +12,9 @@ pub const USABLE_HEAD: usize = 2;
 pub const UNUSED_HEAD: usize = 3;
 
 pub const CLASS_HEADS: usize = 4;
+
+// Which edition the heap is of: 0 for blocks of multiples of eight bytes, 1 for sixteen.
+pub const EDITION: usize = 68;
 
 pub const RECORDS: usize = 72;
 
@@ -59,6 +63,24 @@ pub fn word(books: &[u32], i: usize) -> usize
     ensures { λ r. ⌜ (r ≡ at (now (books .entry)) i) × (r < 2 ^ 32) ⌝ }
 {
     index(books[i])
+}
+
+// What the books say of their heap: how many arenas, of how many pools, and the edition.
+pub struct Shape {
+    pub arenas: usize,
+    pub pools: usize,
+    pub edition: usize,
+}
+
+pub fn shape_of(books: &[u32]) -> Shape
+    requires { ⌜ 68 < length (now books) ⌝ }
+    ensures { λ r. ⌜ r ≡ shapeOf (now (books .entry)) ⌝ }
+{
+    Shape {
+        arenas: word(books, 0),
+        pools: word(books, 1),
+        edition: word(books, EDITION),
+    }
 }
 
 // Word w of arena a's record.

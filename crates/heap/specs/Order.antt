@@ -5,21 +5,22 @@ use mathlib.Core.List.{List}
 use Prim.Native.Nat.{ℕ, zero, suc, _≤_, _<_}
 use lib.ListN.{length}
 use borrow.Author.Tests.{lt-ltb, le-ltb}
-use Rattle.rules.specs.Books.{at}
+use Rattle.rules.specs.Books.{at, alignmentOf}
 use Rattle.rules.specs.Outcome.{passing}
 use Rattle.rules.specs.Numbers.{inOrder, roomNumber}
 use Rattle.books.specs.Known.{Shaped, LiveBlock}
 
--- a heap of the right shape, and a size that can be asked for
+-- a heap of the right shape and edition, and a size that can be asked for
 pub record Askable (m b k : List ℕ) (n : ℕ) : Type 0 where
   pub shaped : Shaped (at b 0) (at b 1) (length m) (length b) (length k)
+  pub edition : at b 68 ≤ 1
   pub low : 1 ≤ n
   pub high : n ≤ 512
 
 -- a heap of the right shape, and a live offset in it
 pub record Passed (m b k : List ℕ) (o : ℕ) : Type 0 where
   pub shaped : Shaped (at b 0) (at b 1) (length m) (length b) (length k)
-  pub live : LiveBlock 8 (at b 0) (at b 1) b k o
+  pub live : LiveBlock (alignmentOf (at b 68)) (at b 0) (at b 1) b k o
 
 -- ---- 5 and 7 come after the tests before them
 pub offset-after : (shape size offset : ℕ)

@@ -31,20 +31,21 @@ one x r s g k e f = let t = e ∙ sym f in (ap (λ (o : Outcome). o .answer) t, 
 -- h is the heap that the call finds; g and k are what two runs of it leave, r and s what they answer
 module _ (h g k : Heap) where
   module _ (r s : Answer) where
-    pub format-one : (A P : ℕ) → FormatPromise h g A P r → FormatPromise h k A P s → (r ≡ s) × (g ≡ k)
-    format-one A P = one (format h A P) r s g k
+    pub format-one : (A P edition : ℕ) → FormatPromise h g A P edition r → FormatPromise h k A P edition s
+        → (r ≡ s) × (g ≡ k)
+    format-one A P edition = one (format h A P edition) r s g k
 
     pub ask-one : (n : ℕ) → AskPromise h g n r → AskPromise h k n s → (r ≡ s) × (g ≡ k)
-    ask-one n = one (ask 8 h n) r s g k
+    ask-one n = one (ask h n) r s g k
 
     pub give-back-one : (o : ℕ) → GiveBackPromise h g o r → GiveBackPromise h k o s → (r ≡ s) × (g ≡ k)
-    give-back-one o = one (giveBack 8 h o) r s g k
+    give-back-one o = one (giveBack h o) r s g k
 
     pub resize-one : (o n : ℕ) → ResizePromise h g o n r → ResizePromise h k o n s → (r ≡ s) × (g ≡ k)
-    resize-one o n = one (resize 8 h o n) r s g k
+    resize-one o n = one (resize h o n) r s g k
 
     pub write-one : (o : ℕ) (text : List ℕ) → WritePromise h g o text r → WritePromise h k o text s → (r ≡ s) × (g ≡ k)
-    write-one o text = one (write 8 h o text) r s g k
+    write-one o text = one (write h o text) r s g k
 
   -- view's part: its bytes, and its place, `memory` being where memory lies
   pub view-one : (o : ℕ) (memory : ℕ × ℕ) (part other : List ℕ) (at to : ℕ × ℕ)

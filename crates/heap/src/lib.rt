@@ -13,7 +13,7 @@ use books::numbers::DOES_NOT_FIT;
 use books::numbers::fit_number;
 use books::numbers::live_number;
 use books::numbers::shape_number;
-use books::words::word;
+use books::words::shape_of;
 use loops::copy_in;
 use loops::fresh_books;
 use loops::has_room;
@@ -28,8 +28,8 @@ ghost use mathlib.Core.Path.{_≡_};
 ghost use Prim.Native.Nat.{_/_, _<_, _≤_};
 ghost use denote.Ref.{ptr};
 ghost use lib.ListN.{length};
-ghost use Rattle.rules.specs.Books.{at, poolWord};
-ghost use Rattle.rules.specs.Blocks.{classAt, sizeAt};
+ghost use Rattle.rules.specs.Books.{at, alignmentOf, poolWord};
+ghost use Rattle.rules.specs.Blocks.{lastClass, classAt, sizeAt};
 ghost use Rattle.rules.specs.Outcome.{heapOf};
 ghost use Rattle.rules.specs.Numbers.{inOrder, shapeNumber, sizeNumber, offsetTests};
 ghost use Rattle.rules.specs.Promises.{
@@ -47,22 +47,23 @@ ghost use Rattle.rules.specs.Promises.{
 };
 ghost use Rattle.heap.specs.Order.{Askable, Passed};
 
-// Format: makes a fresh heap of so many arenas and pools. All books and map are written, and no memory.
+// Format: makes a fresh heap of so many arenas and pools, of the edition. All books and map are written, and no memory.
 pub fn format(
     memory: &[u8],
     books: &mut [u32],
     map: &mut [u64],
     arenas: usize,
     pools: usize,
+    edition: usize,
 ) -> Answer
     ensures { λ r. ⌜ FormatPromise (heapOf (now (memory .entry)) (now (books .entry)) (now (map .entry)))
-        (heapOf (now (memory .exit)) (now (books .exit)) (now (map .exit))) arenas pools r ⌝ }
+        (heapOf (now (memory .exit)) (now (books .exit)) (now (map .exit))) arenas pools edition r ⌝ }
 {
-    let number = fit_number(memory, books, map, arenas, pools);
+    let number = fit_number(memory, books, map, arenas, pools, edition);
     if number != 0 {
         return refuse(number);
     }
-    fresh_books(books, arenas, pools);
+    fresh_books(books, arenas, pools, edition);
     wipe(map);
     Answer {
         number: 0,
@@ -72,14 +73,15 @@ pub fn format(
 
 // The number of the tests of a call on an offset: 1, 2, 5 or 10, and 0 where the offset is live.
 fn offset_test(memory: &[u8], books: &[u32], map: &[u64], offset: usize) -> u32
-    ensures { λ r. ⌜ (r ≡ offsetTests 8 (heapOf (now (memory .entry)) (now (books .entry)) (now (map .entry))) offset)
+    ensures { λ r. ⌜ (r ≡ offsetTests (heapOf (now (memory .entry)) (now (books .entry)) (now (map .entry))) offset)
         × (r ≡ 0 → Passed (now (memory .entry)) (now (books .entry)) (now (map .entry)) offset) ⌝ }
 {
     let number = shape_number(memory, books, map);
     if number != 0 {
         return number;
     }
-    live_number(memory, books, map, word(books, 0), word(books, 1), offset)
+    let s = shape_of(books);
+    live_number(memory, books, map, s.arenas, s.pools, s.edition, offset)
 }
 
 // 3, unless the size is one of a block.
@@ -114,9 +116,8 @@ pub fn ask(memory: &mut [u8], books: &mut [u32], map: &mut [u64], size: usize) -
     if number != 0 {
         return refuse(number);
     }
-    let arenas = word(books, 0);
-    let pools = word(books, 1);
-    answer(ask_step(memory, books, map, arenas, pools, size))
+    let s = shape_of(books);
+    answer(ask_step(memory, books, map, s.arenas, s.pools, size))
 }
 
 // Give back: the block is live no more; the answer is the offset.
@@ -128,9 +129,8 @@ pub fn give_back(memory: &mut [u8], books: &mut [u32], map: &mut [u64], offset: 
     if number != 0 {
         return refuse(number);
     }
-    let arenas = word(books, 0);
-    let pools = word(books, 1);
-    let given = give_old(memory, books, map, arenas, pools, offset);
+    let s = shape_of(books);
+    let given = give_old(memory, books, map, s.arenas, s.pools, s.edition, offset);
     if given != 0 {
         return refuse(given);
     }
@@ -156,22 +156,33 @@ pub fn resize(
     if number != 0 {
         return refuse(number);
     }
-    let arenas = word(books, 0);
-    let pools = word(books, 1);
-    let dead = live_number(memory, books, map, arenas, pools, offset);
+    let s = shape_of(books);
+    let dead = live_number(memory, books, map, s.arenas, s.pools, s.edition, offset);
     if dead != 0 {
         return refuse(dead);
     }
-    resize_step(memory, books, map, arenas, pools, offset, size)
+    resize_step(
+        memory,
+        books,
+        map,
+        s.arenas,
+        s.pools,
+        s.edition,
+        offset,
+        size,
+    )
 }
 
 // The block size at a live offset.
 fn block_size(books: &[u32], offset: usize) -> usize
-    requires { ⌜ (0 < length (now books)) × (poolWord (at (now books) 0) 8 (offset / 4096) ≤ length (now books))
-        × (classAt (at (now books) 0) (now books) offset ≤ 63) ⌝ }
-    ensures { λ r. ⌜ (r ≡ sizeAt 8 (at (now (books .entry)) 0) (now (books .entry)) offset) × (r ≤ 512) ⌝ }
+    requires { ⌜ (68 < length (now books)) × (poolWord (at (now books) 0) 8 (offset / 4096) ≤ length (now books))
+        × (classAt (at (now books) 0) (now books) offset ≤ lastClass (alignmentOf (at (now books) 68))) ⌝ }
+    ensures { λ r. ⌜ (r
+        ≡ sizeAt (alignmentOf (at (now (books .entry)) 68)) (at (now (books .entry)) 0) (now (books .entry)) offset)
+        × (r ≤ 512) ⌝ }
 {
-    size_of(class_at(books, word(books, 0), offset))
+    let s = shape_of(books);
+    size_of(s.edition, class_at(books, s.arenas, offset))
 }
 
 // View: the block's own part of memory, from its offset on for its size, or the empty part at memory's start. It is the
@@ -201,10 +212,11 @@ pub fn view_size(memory: &[u8], books: &[u32], map: &[u64], offset: usize) -> Si
     if number != 0 {
         return Sized { number, size: 0 };
     }
-    let dead = live_number(memory, books, map, word(books, 0), word(books, 1), offset);
-    if dead != 0 {
+    let s = shape_of(books);
+    let not_live = live_number(memory, books, map, s.arenas, s.pools, s.edition, offset);
+    if not_live != 0 {
         return Sized {
-            number: dead,
+            number: not_live,
             size: 0,
         };
     }
@@ -268,15 +280,15 @@ pub fn roll_call(memory: &[u8], books: &[u32], map: &[u64], roll: &mut [u32]) ->
     if number != 0 {
         return Rolled { number, count: 0 };
     }
-    let arenas = word(books, 0);
-    let all = arenas * word(books, 1);
-    if !has_room(books, map, arenas, all, roll.len()) {
+    let s = shape_of(books);
+    let all = s.arenas * s.pools;
+    if !has_room(books, map, s.arenas, s.edition, all, roll.len()) {
         return Rolled {
             number: DOES_NOT_FIT,
             count: 0,
         };
     }
-    let words = put_roll(books, map, arenas, all, roll);
+    let words = put_roll(books, map, s.arenas, s.edition, all, roll);
     Rolled {
         number: 0,
         count: (words / 2) as u32,

@@ -30,9 +30,9 @@ module _ (h g k : Heap) (r s : HeskavernAnswer) where
   both : (answerIn r ≡ answerIn s) × (g ≡ k) → (r ≡ s) × (g ≡ k)
   both t = (same (t .0), t .1)
 
-  pub format-one : (A P : ℕ)
-      → FormatPromise h g A P (answerIn r) → FormatPromise h k A P (answerIn s) → (r ≡ s) × (g ≡ k)
-  format-one A P e f = both (H.format-one h g k (answerIn r) (answerIn s) A P e f)
+  pub format-one : (A P edition : ℕ)
+      → FormatPromise h g A P edition (answerIn r) → FormatPromise h k A P edition (answerIn s) → (r ≡ s) × (g ≡ k)
+  format-one A P edition e f = both (H.format-one h g k (answerIn r) (answerIn s) A P edition e f)
 
   pub ask-one : (n : ℕ)
       → AskPromise h g n (answerIn r) → AskPromise h k n (answerIn s) → (r ≡ s) × (g ≡ k)

@@ -21,7 +21,7 @@ pub struct HeskavernAnswer {
     pub value: u32,
 }
 
-// Format: makes a fresh heap of so many arenas and pools.
+// Format: makes a fresh heap of so many arenas and pools, of the edition 0, eight, or 1, sixteen.
 #[no_mangle]
 pub extern "C" fn heskavern_format(
     memory: &[u8],
@@ -29,11 +29,12 @@ pub extern "C" fn heskavern_format(
     map: &mut [u64],
     arenas: usize,
     pools: usize,
+    edition: usize,
 ) -> HeskavernAnswer
     ensures { λ r. ⌜ FormatPromise (heapOf (now (memory .entry)) (now (books .entry)) (now (map .entry)))
-        (heapOf (now (memory .exit)) (now (books .exit)) (now (map .exit))) arenas pools (answerIn r) ⌝ }
+        (heapOf (now (memory .exit)) (now (books .exit)) (now (map .exit))) arenas pools edition (answerIn r) ⌝ }
 {
-    let answer = heap::format(memory, books, map, arenas, pools);
+    let answer = heap::format(memory, books, map, arenas, pools, edition);
     HeskavernAnswer {
         number: answer.number,
         value: answer.offset,

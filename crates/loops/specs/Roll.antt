@@ -8,7 +8,6 @@ use native.Mathlib.Nat.{mul-le-mul}
 use native.Mathlib.Omega.{arith}
 use lib.Dec.{leb}
 use lib.ListN.{length, length-append}
-use borrow.Author.Tests.{le-leb, lt-leb}
 use Rattle.rules.specs.Say.{if_then_else_}
 use Rattle.rules.specs.Books.{isSet, class, poolWord, pool, offsetOf}
 use Rattle.rules.specs.Blocks.{sizeOf, lastClass, startOf, capacity, classAt}
@@ -16,6 +15,7 @@ use Rattle.rules.specs.View.{rollBlocks, rollPool, rollPools}
 use Rattle.loops.specs.Left.{Parts, counted}
 use Rattle.loops.specs.Word.{noneSet, not-set, none-rolled}
 use Rattle.books.specs.Starts.{capacity-le}
+use Rattle.books.specs.Sizes.{Aligned, no-class, a-class}
 
 -- pool p has its record in the books of A arenas, and its words in the map
 pub record Stands (A p : ℕ) (b m : List ℕ) : Type 0 where
@@ -56,20 +56,20 @@ no-bits al A b m p h e =
     go true f = f
     go false f = refl
 
--- pool p, whose class c is read at its first byte
-module _ (al A : ℕ) (b m : List ℕ) (p c : ℕ) (e : c ≡ classAt A b (4096 * p)) where
-  its-class : pool A b class p ≡ c
-  its-class = let f : p ≡ 4096 * p / 4096 = omega arith in ap (pool A b class) f ∙ sym e
+-- pool p, of whose class, read at its first byte, s is the size
+module _ {al : ℕ} (L : Aligned al) (A : ℕ) (b m : List ℕ) (p s : ℕ) (e : s ≡ sizeOf al (classAt A b (4096 * p))) where
+  its-class : pool A b class p ≡ classAt A b (4096 * p)
+  its-class = let f : p ≡ 4096 * p / 4096 = omega arith in ap (pool A b class) f
 
-  -- above the last class it has no blocks
-  pub no-class : lastClass al < c → rollPool al A b m p ≡ []
+  -- above the largest it has no blocks
+  pub no-size : 512 < s → rollPool al A b m p ≡ []
   unfolding rollPool
-  no-class h = rw (its-class, lt-leb c (lastClass al) h)
+  no-size h = rw (its-class, no-class L (classAt A b (4096 * p)) (omega (arith, e)))
 
-  -- otherwise it has those of that class's size s
-  pub of-class : (s : ℕ) → s ≡ sizeOf al c → c ≤ lastClass al → rollPool al A b m p ≡ rollBlocks m p s 0 (capacity s)
+  -- otherwise it has those of that size
+  pub of-size : s ≤ 512 → rollPool al A b m p ≡ rollBlocks m p s 0 (capacity s)
   unfolding rollPool
-  of-class s f h = rw (its-class, le-leb c (lastClass al) h, f)
+  of-size h = rw (its-class, a-class L (classAt A b (4096 * p)) (omega (arith, e)), e)
 
 -- ---- so the roll of n pools has 1,012 words for each of them at most
 module _ (al A : ℕ) (b m : List ℕ) (h : 8 ≤ al) where

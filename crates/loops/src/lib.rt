@@ -1,7 +1,8 @@
 // The loops of format, write, resize and roll call.
-use books::blocks::LAST_CLASS;
+use books::blocks::LARGEST;
 use books::blocks::class_at;
 use books::blocks::size_of;
+use books::words::EDITION;
 use books::words::NO_CLASS;
 use books::words::RECORDS;
 use books::words::UNUSED_HEAD;
@@ -10,7 +11,7 @@ ghost use Prim.Native.Nat.{_+_, _*_, _≤_, _<_};
 ghost use lib.Dec.{leb};
 ghost use lib.ListN.{length, take, drop, replicate};
 ghost use lib.Seq.{sets};
-ghost use Rattle.rules.specs.Books.{booksLength};
+ghost use Rattle.rules.specs.Books.{alignmentOf, booksLength};
 ghost use Rattle.rules.specs.Format.{freshArenas, freshPools, freshBooks};
 ghost use Rattle.rules.specs.Blocks.{capacity};
 ghost use Rattle.rules.specs.View.{rollBlocks, rollPool, rollPools};
@@ -65,15 +66,16 @@ fn fresh_pools(books: &mut [u32], at: usize, n: usize)
     }
 }
 
-// The books of a fresh heap: the numbers and heads, the arena records, the pool records.
-pub fn fresh_books(books: &mut [u32], arenas: usize, pools: usize)
-    requires { ⌜ (arenas ≤ 16) × (pools ≤ 64) × (length (now books) ≡ booksLength arenas pools) ⌝ }
-    ensures { λ _. ⌜ now (books .exit) ≡ freshBooks arenas pools ⌝ }
+// The books of a fresh heap: the numbers, heads and edition, the arena records, the pool records.
+pub fn fresh_books(books: &mut [u32], arenas: usize, pools: usize, edition: usize)
+    requires { ⌜ (arenas ≤ 16) × (pools ≤ 64) × (edition ≤ 1) × (length (now books) ≡ booksLength arenas pools) ⌝ }
+    ensures { λ _. ⌜ now (books .exit) ≡ freshBooks arenas pools edition ⌝ }
 {
     let mut heads: [u32; RECORDS] = [0; RECORDS];
     heads[0] = arenas as u32;
     heads[1] = pools as u32;
     heads[UNUSED_HEAD] = 1;
+    heads[EDITION] = edition as u32;
     put_words(books, 0, &heads);
     fresh_arenas(books, arenas);
     fresh_pools(books, RECORDS + 8 * arenas, arenas * pools);
@@ -112,7 +114,8 @@ pub fn copy_within(memory: &mut [u8], from: usize, to: usize, n: usize)
 
 // ---- roll call
 
-// Two roll words for each of the most blocks that a pool can hold, 506 of 8 bytes.
+// Two roll words for each of the most blocks that a pool can hold, 506 of 8 bytes. At sixteen 253 are the most; there
+// too the words that the header's macro says are so many.
 const MOST_WORDS: usize = 1012;
 
 // No bit of the pool is set, at a block or at none: so it has no live block, whatever its class.
@@ -157,42 +160,50 @@ fn count_blocks(map: &[u64], pool: usize, size: usize) -> usize
 }
 
 // How many roll words the live blocks of the pool take.
-fn count_pool(books: &[u32], map: &[u64], arenas: usize, pool: usize) -> usize
+fn count_pool(books: &[u32], map: &[u64], arenas: usize, edition: usize, pool: usize) -> usize
     requires { ⌜ Stands arenas pool (now books) (now map) ⌝ }
-    ensures { λ r. ⌜ r ≡ length (rollPool 8 arenas (now (books .entry)) (now (map .entry)) pool) ⌝ }
+    ensures { λ r. ⌜ r ≡ length (rollPool (alignmentOf edition) arenas (now (books .entry)) (now (map .entry)) pool) ⌝ }
 {
     if none_set(map, pool) {
         return 0;
     }
-    let class = class_at(books, arenas, 4096 * pool);
-    if LAST_CLASS < class {
+    let size = size_of(edition, class_at(books, arenas, 4096 * pool));
+    if LARGEST < size {
         return 0;
     }
-    count_blocks(map, pool, size_of(class))
+    count_blocks(map, pool, size)
 }
 
 // How many roll words the live blocks of the n pools take.
-pub fn count_words(books: &[u32], map: &[u64], arenas: usize, n: usize) -> usize
+pub fn count_words(books: &[u32], map: &[u64], arenas: usize, edition: usize, n: usize) -> usize
     requires { ⌜ (n ≤ 1024) × (length (now books) ≡ 72 + 8 * arenas + 8 * n) × (length (now map) ≡ 8 * n) ⌝ }
-    ensures { λ r. ⌜ r ≡ length (rollPools 8 arenas (now (books .entry)) (now (map .entry)) 0 n) ⌝ }
+    ensures { λ r. ⌜ r ≡ length (rollPools (alignmentOf edition) arenas (now (books .entry)) (now (map .entry)) 0 n) ⌝ }
 {
     let mut words: usize = 0;
     for pool in 0..n {
-        words += count_pool(books, map, arenas, pool);
+        words += count_pool(books, map, arenas, edition, pool);
     }
     words
 }
 
 // The roll of the n pools fits into so many words. No block is counted where there is room for every block that the
 // pools could hold.
-pub fn has_room(books: &[u32], map: &[u64], arenas: usize, n: usize, room: usize) -> bool
+pub fn has_room(
+    books: &[u32],
+    map: &[u64],
+    arenas: usize,
+    edition: usize,
+    n: usize,
+    room: usize,
+) -> bool
     requires { ⌜ (n ≤ 1024) × (length (now books) ≡ 72 + 8 * arenas + 8 * n) × (length (now map) ≡ 8 * n) ⌝ }
-    ensures { λ r. ⌜ r ≡ leb (length (rollPools 8 arenas (now (books .entry)) (now (map .entry)) 0 n)) room ⌝ }
+    ensures { λ r. ⌜ r
+        ≡ leb (length (rollPools (alignmentOf edition) arenas (now (books .entry)) (now (map .entry)) 0 n)) room ⌝ }
 {
     if MOST_WORDS * n <= room {
         return true;
     }
-    count_words(books, map, arenas, n) <= room
+    count_words(books, map, arenas, edition, n) <= room
 }
 
 // Offset and size of each live block of a map word, whose first block is at `first`, from roll word `at` on: the place
@@ -251,35 +262,45 @@ fn roll_pool(
     books: &[u32],
     map: &[u64],
     arenas: usize,
+    edition: usize,
     pool: usize,
     roll: &mut [u32],
     at: usize,
 ) -> usize
     requires { ⌜ Stands arenas pool (now books) (now map)
-        × (at + length (rollPool 8 arenas (now books) (now map) pool) ≤ length (now roll)) ⌝ }
-    ensures { λ r. ⌜ Stored (now (roll .entry)) at (rollPool 8 arenas (now (books .entry)) (now (map .entry)) pool)
+        × (at + length (rollPool (alignmentOf edition) arenas (now books) (now map) pool) ≤ length (now roll)) ⌝ }
+    ensures { λ r. ⌜ Stored (now (roll .entry)) at
+        (rollPool (alignmentOf edition) arenas (now (books .entry)) (now (map .entry)) pool)
         (now (roll .exit)) r ⌝ }
 {
     if none_set(map, pool) {
         return at;
     }
-    let class = class_at(books, arenas, 4096 * pool);
-    if LAST_CLASS < class {
+    let size = size_of(edition, class_at(books, arenas, 4096 * pool));
+    if LARGEST < size {
         return at;
     }
-    roll_blocks(map, pool, size_of(class), roll, at)
+    roll_blocks(map, pool, size, roll, at)
 }
 
 // Offset and size of each live block of the n pools, at the front of the roll: how many words they take.
-pub fn put_roll(books: &[u32], map: &[u64], arenas: usize, n: usize, roll: &mut [u32]) -> usize
+pub fn put_roll(
+    books: &[u32],
+    map: &[u64],
+    arenas: usize,
+    edition: usize,
+    n: usize,
+    roll: &mut [u32],
+) -> usize
     requires { ⌜ (n ≤ 1024) × (length (now books) ≡ 72 + 8 * arenas + 8 * n) × (length (now map) ≡ 8 * n)
-        × (length (rollPools 8 arenas (now books) (now map) 0 n) ≤ length (now roll)) ⌝ }
-    ensures { λ r. ⌜ Stored (now (roll .entry)) 0 (rollPools 8 arenas (now (books .entry)) (now (map .entry)) 0 n)
+        × (length (rollPools (alignmentOf edition) arenas (now books) (now map) 0 n) ≤ length (now roll)) ⌝ }
+    ensures { λ r. ⌜ Stored (now (roll .entry)) 0
+        (rollPools (alignmentOf edition) arenas (now (books .entry)) (now (map .entry)) 0 n)
         (now (roll .exit)) r ⌝ }
 {
     let mut place: usize = 0;
     for pool in 0..n {
-        place = roll_pool(books, map, arenas, pool, roll, place);
+        place = roll_pool(books, map, arenas, edition, pool, roll, place);
     }
     place
 }

@@ -17,7 +17,9 @@ pub record Range (A P : ℕ) : Type 0 where
 pub ranged : {A P m b k : ℕ} → Shaped A P m b k → Range A P
 ranged t = record { arenas-low = t .arenas-low; arenas-high = t .arenas-high; pools-low = t .pools-low; pools-high = t .pools-high; all = t .all }
 
--- s is the block size of class c, at the alignment of 8
-pub record Class (c s : ℕ) : Type 0 where
+-- s is the block size of class c, at the alignment al
+pub record Class (al c s : ℕ) : Type 0 where
   pub class : c ≤ 63
-  pub size : s ≡ sizeOf 8 c
+  pub size : s ≡ sizeOf al c
+  pub low : 8 ≤ s
+  pub high : s ≤ 512

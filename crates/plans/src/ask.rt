@@ -23,7 +23,7 @@ ghost use mathlib.Core.Bool.{_&&_, _||_, not};
 ghost use Prim.Native.Nat.{_+_, _*_, _<_, _≤_};
 ghost use lib.Dec.{leb, eqb};
 ghost use lib.ListN.{length};
-ghost use Rattle.rules.specs.Books.{at, isSet, none?, unusedHead, freePools, arena};
+ghost use Rattle.rules.specs.Books.{at, alignmentOf, isSet, none?, unusedHead, freePools, arena};
 ghost use Rattle.rules.specs.Blocks.{isStart, blockNo};
 ghost use Rattle.rules.specs.Lists.{mayLeave, arenaLinks};
 ghost use Rattle.rules.specs.Outcome.{heapOf};
@@ -79,6 +79,7 @@ fn same_class(
     map: &[u64],
     arenas: usize,
     pools: usize,
+    edition: usize,
     class: usize,
     size: usize,
     a: usize,
@@ -86,9 +87,9 @@ fn same_class(
     pool: Pool,
 ) -> AskPlan
     requires { ⌜ Shaped arenas pools (length (now memory)) (length (now books)) (length (now map))
-        × Class class size × (p < arenas * pools) × (pool ≡ poolAt arenas (now books) p) ⌝ }
-    ensures { λ r. ⌜ r
-        ≡ sameClass 8 arenas pools (heapOf (now (memory .entry)) (now (books .entry)) (now (map .entry))) class a p ⌝ }
+        × Class (alignmentOf edition) class size × (p < arenas * pools) × (pool ≡ poolAt arenas (now books) p) ⌝ }
+    ensures { λ r. ⌜ r ≡ sameClass (alignmentOf edition) arenas pools
+        (heapOf (now (memory .entry)) (now (books .entry)) (now (map .entry))) class a p ⌝ }
 {
     let f = index(pool.freeblock);
     if spare(map, p, size, f) {
@@ -105,6 +106,7 @@ fn take_again(
     map: &[u64],
     arenas: usize,
     pools: usize,
+    edition: usize,
     class: usize,
     size: usize,
     a: usize,
@@ -112,12 +114,24 @@ fn take_again(
     pool: Pool,
 ) -> AskPlan
     requires { ⌜ Shaped arenas pools (length (now memory)) (length (now books)) (length (now map))
-        × Class class size × (p < arenas * pools) × (pool ≡ poolAt arenas (now books) p) ⌝ }
-    ensures { λ r. ⌜ r
-        ≡ takeAgain 8 arenas pools (heapOf (now (memory .entry)) (now (books .entry)) (now (map .entry))) class a p ⌝ }
+        × Class (alignmentOf edition) class size × (p < arenas * pools) × (pool ≡ poolAt arenas (now books) p) ⌝ }
+    ensures { λ r. ⌜ r ≡ takeAgain (alignmentOf edition) arenas pools
+        (heapOf (now (memory .entry)) (now (books .entry)) (now (map .entry))) class a p ⌝ }
 {
     if index(pool.class) == class {
-        return same_class(memory, books, map, arenas, pools, class, size, a, p, pool);
+        return same_class(
+            memory,
+            books,
+            map,
+            arenas,
+            pools,
+            edition,
+            class,
+            size,
+            a,
+            p,
+            pool,
+        );
     }
     set_anew(map, size, Source::Freed(a), p)
 }
@@ -151,14 +165,15 @@ fn from_mark(
     map: &[u64],
     arenas: usize,
     pools: usize,
+    edition: usize,
     class: usize,
     size: usize,
     a: usize,
 ) -> AskPlan
     requires { ⌜ Shaped arenas pools (length (now memory)) (length (now books)) (length (now map))
-        × Class class size × (a < arenas) ⌝ }
-    ensures { λ r. ⌜ r
-        ≡ fromMark 8 arenas pools (heapOf (now (memory .entry)) (now (books .entry)) (now (map .entry))) class a ⌝ }
+        × Class (alignmentOf edition) class size × (a < arenas) ⌝ }
+    ensures { λ r. ⌜ r ≡ fromMark (alignmentOf edition) arenas pools
+        (heapOf (now (memory .entry)) (now (books .entry)) (now (map .entry))) class a ⌝ }
 {
     let mark = arena_word(books, CARVE_MARK, a);
     if mark < pools {
@@ -181,18 +196,31 @@ fn from_freed(
     map: &[u64],
     arenas: usize,
     pools: usize,
+    edition: usize,
     class: usize,
     size: usize,
     a: usize,
     p: usize,
 ) -> AskPlan
     requires { ⌜ Shaped arenas pools (length (now memory)) (length (now books)) (length (now map))
-        × Class class size × (a < arenas) × (p < arenas * pools) ⌝ }
-    ensures { λ r. ⌜ r
-        ≡ fromFreed 8 arenas pools (heapOf (now (memory .entry)) (now (books .entry)) (now (map .entry))) class a p ⌝ }
+        × Class (alignmentOf edition) class size × (a < arenas) × (p < arenas * pools) ⌝ }
+    ensures { λ r. ⌜ r ≡ fromFreed (alignmentOf edition) arenas pools
+        (heapOf (now (memory .entry)) (now (books .entry)) (now (map .entry))) class a p ⌝ }
 {
     let pool = load_pool(books, arenas, p);
-    let again = take_again(memory, books, map, arenas, pools, class, size, a, p, pool);
+    let again = take_again(
+        memory,
+        books,
+        map,
+        arenas,
+        pools,
+        edition,
+        class,
+        size,
+        a,
+        p,
+        pool,
+    );
     keeps(
         index(pool.next) <= arenas * pools,
         counted(books, arenas, pools, a, again),
@@ -206,21 +234,33 @@ fn from_usable(
     map: &[u64],
     arenas: usize,
     pools: usize,
+    edition: usize,
     class: usize,
     size: usize,
     a: usize,
 ) -> AskPlan
     requires { ⌜ Shaped arenas pools (length (now memory)) (length (now books)) (length (now map))
-        × Class class size × (a < arenas) ⌝ }
-    ensures { λ r. ⌜ r
-        ≡ fromUsable 8 arenas pools (heapOf (now (memory .entry)) (now (books .entry)) (now (map .entry))) class a ⌝ }
+        × Class (alignmentOf edition) class size × (a < arenas) ⌝ }
+    ensures { λ r. ⌜ r ≡ fromUsable (alignmentOf edition) arenas pools
+        (heapOf (now (memory .entry)) (now (books .entry)) (now (map .entry))) class a ⌝ }
 {
     let l = arena_word(books, FREED_HEAD, a);
     if l == 0 {
-        return from_mark(memory, books, map, arenas, pools, class, size, a);
+        return from_mark(memory, books, map, arenas, pools, edition, class, size, a);
     }
     if l <= arenas * pools {
-        return from_freed(memory, books, map, arenas, pools, class, size, a, l - 1);
+        return from_freed(
+            memory,
+            books,
+            map,
+            arenas,
+            pools,
+            edition,
+            class,
+            size,
+            a,
+            l - 1,
+        );
     }
     AskPlan::Damaged
 }
@@ -232,14 +272,15 @@ fn from_unused(
     map: &[u64],
     arenas: usize,
     pools: usize,
+    edition: usize,
     class: usize,
     size: usize,
     a: usize,
 ) -> AskPlan
     requires { ⌜ Shaped arenas pools (length (now memory)) (length (now books)) (length (now map))
-        × Class class size × (a < arenas) ⌝ }
-    ensures { λ r. ⌜ r
-        ≡ fromUnused 8 arenas pools (heapOf (now (memory .entry)) (now (books .entry)) (now (map .entry))) class a ⌝ }
+        × Class (alignmentOf edition) class size × (a < arenas) ⌝ }
+    ensures { λ r. ⌜ r ≡ fromUnused (alignmentOf edition) arenas pools
+        (heapOf (now (memory .entry)) (now (books .entry)) (now (map .entry))) class a ⌝ }
 {
     let p = pool_at(arenas, pools, a, 0);
     keeps(
@@ -255,13 +296,15 @@ fn plan_unused(
     map: &[u64],
     arenas: usize,
     pools: usize,
+    edition: usize,
     class: usize,
     size: usize,
 ) -> AskPlan
     requires { ⌜ Shaped arenas pools (length (now memory)) (length (now books)) (length (now map))
-        × Class class size ⌝ }
+        × Class (alignmentOf edition) class size ⌝ }
     ensures { λ r. ⌜ r ≡ frontOf (at (now (books .entry)) unusedHead) arenas
-        (fromUnused 8 arenas pools (heapOf (now (memory .entry)) (now (books .entry)) (now (map .entry))) class)
+        (fromUnused (alignmentOf edition) arenas pools
+        (heapOf (now (memory .entry)) (now (books .entry)) (now (map .entry))) class)
         AskPlan.NoRoom ⌝ }
 {
     let l = word(books, UNUSED_HEAD);
@@ -269,7 +312,17 @@ fn plan_unused(
         return AskPlan::NoRoom;
     }
     if l <= arenas {
-        return from_unused(memory, books, map, arenas, pools, class, size, l - 1);
+        return from_unused(
+            memory,
+            books,
+            map,
+            arenas,
+            pools,
+            edition,
+            class,
+            size,
+            l - 1,
+        );
     }
     AskPlan::Damaged
 }
@@ -281,20 +334,31 @@ pub fn plan_new(
     map: &[u64],
     arenas: usize,
     pools: usize,
+    edition: usize,
     class: usize,
     size: usize,
 ) -> AskPlan
     requires { ⌜ Shaped arenas pools (length (now memory)) (length (now books)) (length (now map))
-        × Class class size ⌝ }
-    ensures { λ r. ⌜ r
-        ≡ planNew 8 arenas pools (heapOf (now (memory .entry)) (now (books .entry)) (now (map .entry))) class ⌝ }
+        × Class (alignmentOf edition) class size ⌝ }
+    ensures { λ r. ⌜ r ≡ planNew (alignmentOf edition) arenas pools
+        (heapOf (now (memory .entry)) (now (books .entry)) (now (map .entry))) class ⌝ }
 {
     let l = word(books, USABLE_HEAD);
     if l == 0 {
-        return plan_unused(memory, books, map, arenas, pools, class, size);
+        return plan_unused(memory, books, map, arenas, pools, edition, class, size);
     }
     if l <= arenas {
-        return from_usable(memory, books, map, arenas, pools, class, size, l - 1);
+        return from_usable(
+            memory,
+            books,
+            map,
+            arenas,
+            pools,
+            edition,
+            class,
+            size,
+            l - 1,
+        );
     }
     AskPlan::Damaged
 }

@@ -1,5 +1,5 @@
--- 01, "Classes and blocks", at the alignment al (8 in 01): classes, block starts, a freed block's link, the live test;
--- and 02's dead block (W-206).
+-- 01, "Classes and blocks", at the alignment al (8 in 01; 8 or 16 by W-211): classes, block starts, a freed block's
+-- link, the live test; and 02's dead block (W-206).
 -- Assumes nothing.
 use mathlib.Core.Bool.{Bool, _&&_}
 use mathlib.Core.List.{List}
@@ -9,6 +9,7 @@ use Rattle.rules.specs.Say.{if_then_else_, _▷_}
 use Rattle.rules.specs.Books.{at, put, memoryLength, isSet, class, nextoffset, pool, carved}
 
 -- "Size n from 1 to 512 has class (n − 1) div 8 and block size 8 × (class + 1)."
+-- 02, W-211: "class (n − 1) div 16, block size 16 × (class + 1)"
 abbrev pub largest : ℕ
 largest = 512
 
@@ -18,7 +19,7 @@ classOf al n = (n - 1) / al
 abbrev pub sizeOf : ℕ → ℕ → ℕ
 sizeOf al c = al * (c + 1)
 
--- the class of the largest size: 63
+-- the class of the largest size: 63; "Wherever 01 or a request says 63 it reads 31 here", at 16
 abbrev pub lastClass : ℕ → ℕ
 lastClass al = classOf al largest
 

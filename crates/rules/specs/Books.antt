@@ -5,6 +5,7 @@ use mathlib.Core.List.{List}
 use Prim.Native.Nat.{ℕ, _+_, _*_, _-_, _/_, _%_, _^_}
 use lib.Dec.{leb, ltb, eqb}
 use lib.ListN.{length, getD, set}
+use Rattle.rules.specs.Say.{if_then_else_}
 
 -- A heap is what its three lent buffers hold.
 pub record Heap : Type 0 where
@@ -77,6 +78,24 @@ arenas h = at (h .books) 0
 
 abbrev pub pools : Heap → ℕ
 pools h = at (h .books) 1
+
+-- 02, W-211: "Spare word 68 says which: 0 for eight, 1 for sixteen": the edition, and the alignment of its blocks.
+-- A heap that was made before has 0 there
+abbrev pub editionWord : ℕ
+editionWord = 68
+
+abbrev pub edition : Heap → ℕ
+edition h = at (h .books) editionWord
+
+abbrev pub isEdition : ℕ → Bool
+isEdition e = leb e 1
+
+unfoldable pub alignmentOf : ℕ → ℕ
+alignmentOf e = if eqb e 0 then 8 else 16
+
+-- the one place where it is read
+abbrev pub alignment : Heap → ℕ
+alignment h = alignmentOf (edition h)
 
 abbrev pub usableHead : ℕ
 usableHead = 2

@@ -49,7 +49,7 @@ cases =
 
 -- the table holds of a fresh heap over these three buffers
 abbrev pub Holds : List ℕ → List ℕ → List ℕ → Type 0
-Holds m b k = T (every cases (fresh 1 16 m b k))
+Holds m b k = T (every cases (fresh 1 16 0 m b k))
 
 computed : (f g k : ℕ → ℕ) → Holds (tab (memoryLength 1 16) 0 f) (tab (booksLength 1 16) 0 g) (tab (mapLength 1 16) 0 k)
 unfolding every

@@ -94,7 +94,7 @@ mapWord? i v = has (λ h. at (h .map) i) v
 
 -- the part that view hands back of offset o begins there in memory
 abbrev viewAt? : ℕ → ℕ → Line
-viewAt? o place = has (λ h. viewAt 8 h o) place
+viewAt? o place = has (λ h. viewAt h o) place
 
 -- ==== format
 -- "all closed and on the unused list, linked both ways, in rising order with arena 0 first, every other head and
@@ -103,7 +103,7 @@ abbrev formatWords : List Line
 formatWords =
     word= usableHead 9 ∷ word= unusedHead 9 ∷ word= (classHead 63) 9 ∷ word= 68 9 ∷ word= 71 9
     ∷ word= (inArena 1 openWord) 9 ∷ word= (inArena 2 7) 9 ∷ word= (inPool 0 class) 9 ∷ word= (inPool 8 7) 9
-    ∷ bit= 8 511 1 ∷ link= 48 12345 ∷ formats 3 3 0
+    ∷ bit= 8 511 1 ∷ link= 48 12345 ∷ formats 3 3 0 0
     ∷ word? 0 3 ∷ word? 1 3 ∷ word? usableHead 0 ∷ word? unusedHead 1 ∷ word? (classHead 63) 0 ∷ word? 68 0 ∷ word? 71 0
     ∷ word? (inArena 1 openWord) 0 ∷ word? (inArena 2 7) 0
     ∷ word? (inArena 0 arenaNext) 2 ∷ word? (inArena 0 arenaPrevious) 0
@@ -120,13 +120,19 @@ formatRecords =
     ∷ word? 160 0 ∷ word? 161 0 ∷ word? 162 0 ∷ word? 163 0 ∷ word? 164 65535 ∷ word? 165 0 ∷ word? 166 0 ∷ word? 167 0
     ∷ []
 
+-- W-211: "Format .. told the edition (another value is 1 there too)": word 68 says it, and the words beside it stay 0
+abbrev formatEdition : List Line
+formatEdition =
+    formats 3 3 1 0 ∷ word? 67 0 ∷ word? 68 1 ∷ word? 69 0 ∷ word? 71 0
+    ∷ formats 3 3 2 1 ∷ formats 3 3 4294967296 1 ∷ word? 68 1 ∷ formats 3 3 0 0 ∷ word? 68 0 ∷ []
+
 -- ==== the lengths, in numbers
 -- "exactly A × P × 4,096", "exactly 72 + 8A + 8AP", "exactly 8 for each pool":
 -- of three arenas of three pools, and of one arena of nine
 abbrev lengths : List Line
 lengths =
     has (λ h. length (h .memory)) 36864 ∷ has (λ h. length (h .books)) 168 ∷ has (λ h. length (h .map)) 72 ∷ asks 1 0 48
-    ∷ spoil (onBooks (take 152)) ∷ formats 1 9 0 ∷ asks 1 0 48 ∷ []
+    ∷ spoil (onBooks (take 152)) ∷ formats 1 9 0 0 ∷ asks 1 0 48 ∷ []
 
 -- ==== the books' words, by their numbers
 -- "word 0 is A, 1 is P, 2 the usable-arena head, 3 the unused-arena head, 4 to 67 the 64 class heads";
@@ -426,10 +432,10 @@ againUntested =
     ∷ word? (inPool 0 count) 1 ∷ word? (inPool 0 freeblock) 0 ∷ word? (classHead 0) 1
     ∷ word? (inPool 0 nextoffset) 7 ∷ word? (inPool 0 maxnextoffset) 9 ∷ [])
 
--- R12: open, spare words and a pool's eighth word are not read
+-- R12: open, spare words and a pool's eighth word are not read. (W-211: but for word 68, which is spare no more)
 abbrev spareWords : List Line
 spareWords =
-    asks 1 0 48 ∷ word= (inArena 0 openWord) 9 ∷ word= (inArena 0 6) 9 ∷ word= (inPool 0 7) 9 ∷ word= 68 9
+    asks 1 0 48 ∷ word= (inArena 0 openWord) 9 ∷ word= (inArena 0 6) 9 ∷ word= (inPool 0 7) 9 ∷ word= 69 9
     ∷ asks 1 0 56 ∷ asks 9 0 4144 ∷ gives 4144 0 4144
     ∷ word? (inArena 0 openWord) 9 ∷ word? (inPool 0 7) 9 ∷ []
 
@@ -661,7 +667,7 @@ abbrev orderTwoWords : List Line
 orderTwoWords =
     spoil (onBooks (take 1)) ∷ asks 0 2 0 ∷ gives 48 2 0 ∷ resizes 48 0 2 0
     ∷ writes 48 (1 ∷ []) 2 0 ∷ views 48 2 0 [] ∷ rolls [] 2 0 []
-    ∷ formats 0 3 1 ∷ formats 3 3 2 ∷ []
+    ∷ formats 0 3 0 1 ∷ formats 3 3 0 2 ∷ []
 
 -- two words are enough to tell 1
 abbrev twoWords : List Line
@@ -672,19 +678,40 @@ abbrev orderOne : List Line
 orderOne =
     memoryShort ∷ word= 0 0 ∷ asks 0 1 0 ∷ word= 0 17 ∷ asks 0 1 0
     ∷ word= 0 3 ∷ word= 1 1 ∷ gives 48 1 0 ∷ word= 1 65 ∷ gives 48 1 0
-    ∷ formats 0 3 1 ∷ formats 17 3 1 ∷ formats 3 1 1 ∷ formats 3 65 1 ∷ []
+    ∷ formats 0 3 0 1 ∷ formats 17 3 0 1 ∷ formats 3 1 0 1 ∷ formats 3 65 0 1 ∷ []
+
+-- W-211: "Spare word 68 says which: 0 for eight, 1 for sixteen, another value is 1", of every call, before 3, 5 and 7.
+-- It is read at each call
+abbrev orderEdition : List Line
+orderEdition =
+    word= 68 2 ∷ asks 0 1 0 ∷ gives 48 1 0 ∷ resizes 48 0 1 0 ∷ writes 48 (1 ∷ []) 1 0
+    ∷ views 48 1 0 [] ∷ viewAt? 48 0 ∷ rolls [] 1 0 [] ∷ word= 68 4294967295 ∷ asks 1 1 0
+    ∷ word= 68 1 ∷ asks 1 0 48 ∷ rolls (0 ∷ 0 ∷ []) 0 1 (48 ∷ 16 ∷ [])
+    ∷ word= 68 0 ∷ rolls (0 ∷ 0 ∷ []) 0 1 (48 ∷ 8 ∷ []) ∷ []
+
+-- ".. after A and P are tested": those of books that do not reach word 68 are 1 all the same
+abbrev orderReach : List Line
+orderReach =
+    word= 68 2 ∷ spoil (onBooks (take 69)) ∷ asks 1 1 0 ∷ word= 68 1 ∷ asks 1 2 0
+    ∷ spoil (onBooks (take 68)) ∷ asks 1 2 0 ∷ word= 0 0 ∷ asks 1 1 0 ∷ word= 0 3 ∷ word= 1 65 ∷ asks 1 1 0 ∷ []
+
+-- .. and before the lengths; the same of format, which reads none of the books
+abbrev editionLengths : List Line
+editionLengths =
+    memoryShort ∷ word= 68 2 ∷ asks 1 1 0 ∷ word= 0 0 ∷ asks 1 1 0 ∷ word= 0 3 ∷ word= 68 1 ∷ asks 1 2 0
+    ∷ formats 3 3 2 1 ∷ formats 0 3 2 1 ∷ formats 3 3 1 2 ∷ spoil (onBooks (take 68)) ∷ formats 3 3 2 1 ∷ []
 
 -- a heap in range that the lengths do not fit: A 1 and 16, P 2 and 64
 abbrev rangeEnds : List Line
 rangeEnds =
     word= 0 1 ∷ asks 1 2 0 ∷ word= 0 16 ∷ asks 1 2 0 ∷ word= 1 2 ∷ asks 1 2 0 ∷ word= 1 64 ∷ asks 1 2 0
-    ∷ formats 1 2 2 ∷ formats 16 64 2 ∷ formats 3 3 0 ∷ asks 1 0 48 ∷ []
+    ∷ formats 1 2 0 2 ∷ formats 16 64 0 2 ∷ formats 3 3 0 0 ∷ asks 1 0 48 ∷ []
 
 -- 2 before 3, 5 and 7, for each buffer that is one element short
 abbrev wrongLength : List Line
 wrongLength =
     asks 0 2 0 ∷ gives 56 2 0 ∷ resizes 48 0 2 0 ∷ writes 48 (1 ∷ 2 ∷ 3 ∷ 4 ∷ 5 ∷ 6 ∷ 7 ∷ 8 ∷ 9 ∷ []) 2 0
-    ∷ views 48 2 0 [] ∷ viewAt? 48 0 ∷ rolls [] 2 0 [] ∷ formats 3 3 2 ∷ []
+    ∷ views 48 2 0 [] ∷ viewAt? 48 0 ∷ rolls [] 2 0 [] ∷ formats 3 3 0 2 ∷ []
 
 abbrev orderTwo : List Line
 orderTwo = asks 1 0 48 ∷ memoryShort ∷ wrongLength
@@ -839,7 +866,7 @@ rollingOnes =
 
 abbrev pub damaged : List (List Line)
 damaged =
-    formatWords ∷ formatRecords ∷ lengths ∷ bookWords ∷ bookLinks ∷ mapWords
+    formatWords ∷ formatRecords ∷ formatEdition ∷ lengths ∷ bookWords ∷ bookLinks ∷ mapWords
     ∷ askClassHead ∷ askClass ∷ askMaxnextoffset ∷ askBothRead ∷ askCount
     ∷ askCountOfSeven ∷ askFreeblock ∷ askFreeblockOfSeven ∷ askFreeblockBit
     ∷ askLink ∷ askNextBit ∷ askNextoffset ∷ askReadyOfSeven ∷ askNextoffsetUnread
@@ -855,14 +882,14 @@ damaged =
     ∷ otherArena ∷ otherArenaAgain ∷ otherArenaLinks ∷ otherClass
     ∷ resizeAskSix ∷ resizeNoRoom ∷ resizeCopies ∷ resizeKeeps
     ∷ halfDoneSix ∷ halfDoneFive ∷ halfDoneTen ∷ resizeByNewClass
-    ∷ orderTwoWords ∷ twoWords ∷ orderOne ∷ rangeEnds ∷ orderTwo
+    ∷ orderTwoWords ∷ twoWords ∷ orderOne ∷ orderEdition ∷ orderReach ∷ editionLengths ∷ rangeEnds ∷ orderTwo
     ∷ orderTwoBooks ∷ orderTwoMap ∷ longMemory ∷ longBooks ∷ longMap ∷ orderRest
     ∷ notLive ∷ deadBlock ∷ deadOpen ∷ deadMark ∷ deadNextoffset ∷ deadClass ∷ deadBit ∷ lastBlock
     ∷ writing ∷ standing ∷ standingShape ∷ rolling ∷ rollingLast ∷ rollingStray ∷ rollingOnes ∷ []
 
 -- the table holds of a fresh heap over these three buffers
 abbrev pub Holds : List ℕ → List ℕ → List ℕ → Type 0
-Holds m b k = T (every damaged (fresh 3 3 m b k))
+Holds m b k = T (every damaged (fresh 3 3 0 m b k))
 
 computed : (f g k : ℕ → ℕ) → Holds (tab (memoryLength 3 3) 0 f) (tab (booksLength 3 3) 0 g) (tab (mapLength 3 3) 0 k)
 unfolding every

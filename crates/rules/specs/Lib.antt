@@ -1,4 +1,4 @@
--- 01 as definitions, in its order, what each call promises, and the three tables that the prover computes about them.
+-- 01 as definitions, in its order, what each call promises, and the four tables that the prover computes about them.
 pub mod Say
 pub mod Books
 pub mod Blocks
@@ -16,4 +16,5 @@ pub mod Whole
 pub mod Lines
 pub mod Cases
 pub mod Damaged
+pub mod Sixteen
 pub mod Replays

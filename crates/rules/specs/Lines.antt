@@ -7,7 +7,7 @@ use lib.Dec.{eqb}
 use Rattle.rules.specs.declared.Answer.{Answer}
 use Rattle.rules.specs.declared.Sized.{Sized}
 use Rattle.rules.specs.declared.Rolled.{Rolled}
-use Rattle.rules.specs.Books.{Heap, at, inRange, exact, bit, putBit, mapWord, carved}
+use Rattle.rules.specs.Books.{Heap, at, inRange, exact, alignmentOf, bit, putBit, mapWord, carved}
 use Rattle.rules.specs.Blocks.{isStart, linkAt, putLink, live, isBlock, liveNumber}
 use Rattle.rules.specs.Lists.{leaveBy, joinBy}
 use Rattle.rules.specs.Outcome.{heapOf}
@@ -33,6 +33,10 @@ use Rattle.rules.specs.GiveBack.{emptying, planBack, afterBack, backAnsw
 use Rattle.rules.specs.Resize.{giveOld, moved, resizeStep}
 use Rattle.rules.specs.View.{rollBlocks, rollPool, rollPools}
 use Rattle.rules.specs.Numbers.{
+  rangeNumber,
+  editionNumber,
+  lengthNumber,
+  reachNumber,
   fitNumber,
   shapeNumber,
   sizeNumber,
@@ -51,7 +55,7 @@ use Rattle.rules.specs.Numbers.{
 
 -- a line of a case: a call with its answer, a look, or damage that is done
 pub data Line : Type 0 where
-  formats : ℕ → ℕ → ℕ → Line  -- A P k: format gives number k, and offset 0
+  formats : ℕ → ℕ → ℕ → ℕ → Line  -- A P e k: format gives number k, and offset 0
   asks : ℕ → ℕ → ℕ → Line  -- n k o: ask n gives number k and offset o
   gives : ℕ → ℕ → ℕ → Line  -- o k r: give back o gives number k and offset r
   resizes : ℕ → ℕ → ℕ → ℕ → Line  -- o n k r: resize o to n gives number k and offset r
@@ -96,20 +100,21 @@ same (x ∷ xs) (y ∷ ys) = eqb x y && same xs ys
 
 -- every line holds, each over the heap that those before it leave
 unfoldable pub runs : List Line → Heap → Bool
-unfolding inRange exact bit putBit carved isStart linkAt putLink live isBlock liveNumber leaveBy joinBy freshBooks
-    noLink fromFreeblock fromListed setAnew sameClass takeAgain fromMark fromFreed fromUsable fromUnused
+unfolding inRange exact alignmentOf bit putBit carved isStart linkAt putLink live isBlock liveNumber leaveBy joinBy
+    freshBooks noLink fromFreeblock fromListed setAnew sameClass takeAgain fromMark fromFreed fromUsable fromUnused
     planAsk takeFrom afterAsk askAnswer askStep emptying planBack afterBack backAnswer backStep
-    giveOld moved resizeStep rollBlocks rollPool rollPools fitNumber shapeNumber sizeNumber roomNumber
+    giveOld moved resizeStep rollBlocks rollPool rollPools rangeNumber editionNumber lengthNumber reachNumber
+    fitNumber shapeNumber sizeNumber roomNumber
     format ask giveBack resize view viewSize standIn write rollCall link bitIn
 runs [] h = true
-runs (formats A P k ∷ ls) h = answers k 0 (format h A P .answer) && runs ls (format h A P .heap)
-runs (asks n k o ∷ ls) h = answers k o (ask 8 h n .answer) && runs ls (ask 8 h n .heap)
-runs (gives o k r ∷ ls) h = answers k r (giveBack 8 h o .answer) && runs ls (giveBack 8 h o .heap)
-runs (resizes o n k r ∷ ls) h = answers k r (resize 8 h o n .answer) && runs ls (resize 8 h o n .heap)
-runs (writes o t k r ∷ ls) h = answers k r (write 8 h o t .answer) && runs ls (write 8 h o t .heap)
-runs (views o k s t ∷ ls) h = sizedAs k s (viewSize 8 h o) && same (view 8 h o) t && runs ls h
-runs (standsIn o t u b i ∷ ls) h = same (standIn 8 h o t) u && placedAs b i (standInAt 8 h o) && runs ls h
-runs (rolls w k n v ∷ ls) h = rolledAs k n (rollCall 8 h w .answer) && same (rollCall 8 h w .words) v && runs ls h
+runs (formats A P e k ∷ ls) h = answers k 0 (format h A P e .answer) && runs ls (format h A P e .heap)
+runs (asks n k o ∷ ls) h = answers k o (ask h n .answer) && runs ls (ask h n .heap)
+runs (gives o k r ∷ ls) h = answers k r (giveBack h o .answer) && runs ls (giveBack h o .heap)
+runs (resizes o n k r ∷ ls) h = answers k r (resize h o n .answer) && runs ls (resize h o n .heap)
+runs (writes o t k r ∷ ls) h = answers k r (write h o t .answer) && runs ls (write h o t .heap)
+runs (views o k s t ∷ ls) h = sizedAs k s (viewSize h o) && same (view h o) t && runs ls h
+runs (standsIn o t u b i ∷ ls) h = same (standIn h o t) u && placedAs b i (standInAt h o) && runs ls h
+runs (rolls w k n v ∷ ls) h = rolledAs k n (rollCall h w .answer) && same (rollCall h w .words) v && runs ls h
 runs (has f v ∷ ls) h = eqb (f h) v && runs ls h
 runs (spoil f ∷ ls) h = runs ls (f h)
 
@@ -120,5 +125,5 @@ every [] h = true
 every (r ∷ rs) h = runs r h && every rs h
 
 -- the heap that format leaves of three lent buffers
-abbrev pub fresh : ℕ → ℕ → List ℕ → List ℕ → List ℕ → Heap
-fresh A P m b k = format (heapOf m b k) A P .heap
+abbrev pub fresh : ℕ → ℕ → ℕ → List ℕ → List ℕ → List ℕ → Heap
+fresh A P e m b k = format (heapOf m b k) A P e .heap

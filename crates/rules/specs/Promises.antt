@@ -1,6 +1,6 @@
 -- What each call promises, once for all who say it: the contracts of crates heap and heskavern, that each determines
 -- its call, and the runs of crate laws. `found` is the heap as the call finds it, `left` as it leaves it, in every byte
--- and word; then its arguments and its answer. The alignment is 01's, 8.
+-- and word; then its arguments and its answer.
 -- Assumes nothing.
 use mathlib.Core.Path.{_≡_}
 use mathlib.Core.List.{List}
@@ -31,43 +31,43 @@ abbrev pub _beside_ : {Answered Lent : Type 0} → Answered → Lent → Answere
 answer beside lent = (answer, lent)
 
 module _ (found left : Heap) where
-  abbrev pub FormatPromise : ℕ → ℕ → Answer → Type 0
-  FormatPromise A P answer = outcome answer left ≡ format found A P
+  abbrev pub FormatPromise : ℕ → ℕ → ℕ → Answer → Type 0
+  FormatPromise A P edition answer = outcome answer left ≡ format found A P edition
 
   abbrev pub AskPromise : ℕ → Answer → Type 0
-  AskPromise size answer = outcome answer left ≡ ask 8 found size
+  AskPromise size answer = outcome answer left ≡ ask found size
 
   abbrev pub GiveBackPromise : ℕ → Answer → Type 0
-  GiveBackPromise offset answer = outcome answer left ≡ giveBack 8 found offset
+  GiveBackPromise offset answer = outcome answer left ≡ giveBack found offset
 
   abbrev pub ResizePromise : ℕ → ℕ → Answer → Type 0
-  ResizePromise offset size answer = outcome answer left ≡ resize 8 found offset size
+  ResizePromise offset size answer = outcome answer left ≡ resize found offset size
 
   -- view's part, by its bytes
   abbrev pub ViewPromise : ℕ → List ℕ → Type 0
-  ViewPromise offset part = part beside left ≡ view 8 found offset beside found
+  ViewPromise offset part = part beside left ≡ view found offset beside found
 
   abbrev pub ViewSizePromise : ℕ → Sized → Type 0
-  ViewSizePromise offset answer = answer beside left ≡ viewSize 8 found offset beside found
+  ViewSizePromise offset answer = answer beside left ≡ viewSize found offset beside found
 
   -- the stand-in, by its bytes; the lent phrase as it finds and as it leaves it
   abbrev pub StandInPromise : ℕ → List ℕ → List ℕ → List ℕ → Type 0
   StandInPromise offset phrase kept part =
-      part beside kept beside left ≡ standIn 8 found offset phrase beside phrase beside found
+      part beside kept beside left ≡ standIn found offset phrase beside phrase beside found
 
   abbrev pub WritePromise : ℕ → List ℕ → Answer → Type 0
-  WritePromise offset text answer = outcome answer left ≡ write 8 found offset text
+  WritePromise offset text answer = outcome answer left ≡ write found offset text
 
   -- the lent words as it finds and as it leaves them
   abbrev pub RollCallPromise : List ℕ → List ℕ → Rolled → Type 0
   RollCallPromise words rolled answer =
-      rollOutcome (answer .number) (answer .count) rolled beside left ≡ rollCall 8 found words beside found
+      rollOutcome (answer .number) (answer .count) rolled beside left ≡ rollCall found words beside found
 
 -- and by its place: the part lies where memory does, from the byte that `viewAt` says. A place is a buffer and a
 -- position in it
 abbrev pub ViewPlace : Heap → ℕ → ℕ × ℕ → ℕ × ℕ → Type 0
-ViewPlace found offset memory part = (part .0 ≡ memory .0) × (part .1 ≡ viewAt 8 found offset + memory .1)
+ViewPlace found offset memory part = (part .0 ≡ memory .0) × (part .1 ≡ viewAt found offset + memory .1)
 
 -- and the stand-in lies where `standInAt` says, by where memory and the phrase are lent
 abbrev pub StandInPlace : Heap → ℕ → ℕ × ℕ → ℕ × ℕ → ℕ × ℕ → Type 0
-StandInPlace found offset memory lent part = part ≡ standInAt 8 found offset memory lent
+StandInPlace found offset memory lent part = part ≡ standInAt found offset memory lent

@@ -41,46 +41,45 @@ pub record Replied : Type 0 where
   pub reply : List ℕ
   pub heap : Heap
 
-module _ (al : ℕ) where
-  abbrev pub replied : ℕ → ℕ → ℕ → ℕ → Heap → Replied
-  replied op number offset size h =
-      record { reply = replyBytes op number offset size (length (rollOf al h) / 2); heap = h }
+abbrev pub replied : ℕ → ℕ → ℕ → ℕ → Heap → Replied
+replied op number offset size h =
+    record { reply = replyBytes op number offset size (length (rollOf h) / 2); heap = h }
 
-  -- "A refusal repeats the record's offset (0 for ask) and size 0": op is repeated as it came
-  abbrev pub refusedRecord : List ℕ → ℕ → Heap → Replied
-  refusedRecord r k h = replied (opOf r) k (if eqb (opOf r) 1 then 0 else offsetIn r) 0 h
+-- "A refusal repeats the record's offset (0 for ask) and size 0": op is repeated as it came
+abbrev pub refusedRecord : List ℕ → ℕ → Heap → Replied
+refusedRecord r k h = replied (opOf r) k (if eqb (opOf r) 1 then 0 else offsetIn r) 0 h
 
-  -- what a call left; size is the done call's block size
-  abbrev pub called : List ℕ → Outcome → ℕ → Replied
-  called r x size =
-      passing (x .answer .number) (λ k. refusedRecord r k (x .heap))
-      (replied (opOf r) 0 (x .answer .offset) size (x .heap))
+-- what a call left; size is the done call's block size
+abbrev pub called : List ℕ → Outcome → ℕ → Replied
+called r x size =
+    passing (x .answer .number) (λ k. refusedRecord r k (x .heap))
+    (replied (opOf r) 0 (x .answer .offset) size (x .heap))
 
-  -- an ask or a resize answers a block, whose size the reply gives;
-  -- a give-back's reply gives the size of the block given back
-  abbrev pub calledFor : List ℕ → Outcome → Replied
-  calledFor r x = called r x (blockSize al (x .heap) (x .answer .offset))
+-- an ask or a resize answers a block, whose size the reply gives;
+-- a give-back's reply gives the size of the block given back
+abbrev pub calledFor : List ℕ → Outcome → Replied
+calledFor r x = called r x (blockSize (x .heap) (x .answer .offset))
 
-  unfoldable pub replayCall : Heap → List ℕ → Replied
-  replayCall h r =
-      if eqb (opOf r) 1 then calledFor r (ask al h (sizeIn r))
-      else if eqb (opOf r) 2 then called r (giveBack al h (offsetIn r)) (blockSize al h (offsetIn r))
-      else calledFor r (resize al h (offsetIn r) (sizeIn r))
+unfoldable pub replayCall : Heap → List ℕ → Replied
+replayCall h r =
+    if eqb (opOf r) 1 then calledFor r (ask h (sizeIn r))
+    else if eqb (opOf r) 2 then called r (giveBack h (offsetIn r)) (blockSize h (offsetIn r))
+    else calledFor r (resize h (offsetIn r) (sizeIn r))
 
-  -- 8: "A short last record gets op 0, number 8, offset 0, size 0." 9: "tested before any call"
-  unfoldable pub replayRecord : Heap → List ℕ → Replied
-  replayRecord h r =
-      if ltb (length r) 16 then replied 0 8 0 0 h
-      else if wellMade r then replayCall h r
-      else refusedRecord r 9 h
+-- 8: "A short last record gets op 0, number 8, offset 0, size 0." 9: "tested before any call"
+unfoldable pub replayRecord : Heap → List ℕ → Replied
+replayRecord h r =
+    if ltb (length r) 16 then replied 0 8 0 0 h
+    else if wellMade r then replayCall h r
+    else refusedRecord r 9 h
 
-  -- k whole records, and what is left
-  unfoldable pub replayRecords : ℕ → Heap → List ℕ → List ℕ
-  replayRecords zero h bytes = if eqb (length bytes) 0 then [] else replayRecord h bytes .reply
-  replayRecords (suc k) h bytes =
-      let r = replayRecord h (take 16 bytes) in
-      r .reply ++ replayRecords k (r .heap) (drop 16 bytes)
+-- k whole records, and what is left
+unfoldable pub replayRecords : ℕ → Heap → List ℕ → List ℕ
+replayRecords zero h bytes = if eqb (length bytes) 0 then [] else replayRecord h bytes .reply
+replayRecords (suc k) h bytes =
+    let r = replayRecord h (take 16 bytes) in
+    r .reply ++ replayRecords k (r .heap) (drop 16 bytes)
 
--- "The program has A = 1, P = 16", over any three buffers of that shape
+-- "The program has A = 1, P = 16", over any three buffers of that shape; it stays at edition eight
 unfoldable pub replay : Heap → List ℕ → List ℕ
-replay h input = replayRecords 8 (length input / 16) (format h 1 16 .heap) input
+replay h input = replayRecords (length input / 16) (format h 1 16 0 .heap) input

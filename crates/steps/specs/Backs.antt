@@ -30,11 +30,12 @@ use Rattle.rules.specs.Books.{
   poolWord,
   pool,
 }
-use Rattle.rules.specs.Blocks.{sizeOf, blockNo, sizeAt}
+use Rattle.rules.specs.Blocks.{sizeOf, blockNo, classAt, sizeAt}
 use Rattle.rules.specs.Lists.{nextAt, previousAt, leave, join, mayLeave, mayJoin, arenaLinks, poolLinks}
 use Rattle.rules.specs.GiveBack.{takeBack, empty, release}
 use Rattle.rules.specs.Outcome.{heapOf, answerOf, passing}
 use Rattle.books.specs.declared.pool.Pool.{Pool}
+use Rattle.books.specs.Sizes.{Aligned, size-low, size-high, class-low}
 use Rattle.books.specs.Known.{LiveBlock}
 use Rattle.books.specs.Records.{poolAt, mayGive, linksLead, leads}
 use Rattle.books.specs.Starts.{Start}
@@ -56,23 +57,27 @@ pub heap-is : {m m′ b b′ k k′ : List ℕ} → m ≡ m′ → b ≡ b′ �
 heap-is {m} {m′} {b} {b′} {k} {k′} e f g = cc
 
 -- ---- what a give-back knows once its tests have passed
--- block k of pool p, at f, p's record being q: it is there, and its pool counts it
-pub record Counted (A P p f k : ℕ) (q : Pool) (b : List ℕ) : Type 0 where
+-- block k of pool p, at f, p's record being q: it is there, and its pool counts it, at the alignment al
+pub record Counted (al A P p f k : ℕ) (q : Pool) (b : List ℕ) : Type 0 where
   pub loaded : q ≡ poolAt A b p
   pub class : q .class ≤ 63
+  pub low : 8 ≤ sizeOf al (q .class)
+  pub high : sizeOf al (q .class) ≤ 512
   pub there : p < A * P
-  pub start : Start (sizeOf 8 (q .class)) f
-  pub number : k ≡ blockNo (sizeOf 8 (q .class)) f
+  pub start : Start (sizeOf al (q .class)) f
+  pub number : k ≡ blockNo (sizeOf al (q .class)) f
   pub some : 1 ≤ q .count
 
 -- a live block is one if the test of the count has passed
-pub counted : (A P k o : ℕ) (q : Pool) (b m : List ℕ) → q ≡ poolAt A b (o / 4096) → LiveBlock 8 A P b m o
-    → k ≡ blockNo (sizeAt 8 A b o) (o % 4096)
-    → mayGive q ≡ true → Counted A P (o / 4096) (o % 4096) k q b
-counted A P k o q b m loaded live number t =
+pub counted : {al : ℕ} → Aligned al → (A P k o : ℕ) (q : Pool) (b m : List ℕ) → q ≡ poolAt A b (o / 4096)
+    → LiveBlock al A P b m o → k ≡ blockNo (sizeAt al A b o) (o % 4096)
+    → mayGive q ≡ true → Counted al A P (o / 4096) (o % 4096) k q b
+counted L A P k o q b m loaded live number t =
     record {
       loaded = loaded;
-      class = rw loaded (live .class);
+      class = rw loaded (omega (arith, class-low L (classAt A b o) (live .class)));
+      low = rw loaded (size-low L (classAt A b o) (live .class));
+      high = rw loaded (size-high L (classAt A b o) (live .class));
       there = live .pool;
       start = rw loaded (live .start);
       number = rw loaded number;
@@ -107,7 +112,7 @@ fits-empty A P a p free q b loaded home so-many e =
 
 -- ---- the books' part of each write
 abbrev pub takenBack : ℕ → ℕ → ℕ → List ℕ → List ℕ
-takenBack A p f b = takeBack 8 A 0 0 p f (heapOf [] b []) .books
+takenBack A p f b = takeBack 0 A 0 0 p f (heapOf [] b []) .books
 
 -- pool p at the front of arena a's freed pools: what `empty` writes after leaving
 abbrev pub freedFirst : ℕ → ℕ → ℕ → List ℕ → List ℕ
@@ -119,10 +124,10 @@ freedFirst A a p b =
     ▷ (λ x. put (arenaWord freePools a) (at x (arenaWord freePools a) + 1) x)
 
 abbrev pub emptied : ℕ → ℕ → ℕ → ℕ → List ℕ → List ℕ
-emptied A P c p b = empty 8 A P c p 0 (heapOf [] b []) .books
+emptied A P c p b = empty 0 A P c p 0 (heapOf [] b []) .books
 
 abbrev pub released : ℕ → List ℕ → List ℕ
-released a b = release 8 0 0 0 0 0 a (heapOf [] b []) .books
+released a b = release 0 0 0 0 0 0 a (heapOf [] b []) .books
 
 -- ---- arena a, which had so many free pools, has one more: all are free and it is released, or it had none and is
 -- usable again, or neither

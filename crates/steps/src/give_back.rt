@@ -3,7 +3,6 @@
 // is a number, which comes back in a register.
 use bits::clear_bit;
 use books::blocks::is_start;
-use books::blocks::size_of;
 use books::links::put_link;
 use books::lists::join;
 use books::lists::leave;
@@ -12,6 +11,7 @@ use books::lists::link_to;
 use books::lists::may_join;
 use books::lists::may_leave;
 use books::lists::pool_links;
+use books::numbers::Block;
 use books::numbers::DAMAGED;
 use books::numbers::REFUSED;
 use books::numbers::live_block;
@@ -37,7 +37,16 @@ ghost use mathlib.Core.Path.{_≡_};
 ghost use mathlib.Core.Bool.{true};
 ghost use Prim.Native.Nat.{_+_, _*_, _-_, _/_, _%_, _^_, _<_, _≤_};
 ghost use lib.ListN.{length};
-ghost use Rattle.rules.specs.Books.{at, memoryLength, booksLength, unusedHead, freePools, arena, poolWord};
+ghost use Rattle.rules.specs.Books.{
+  at,
+  alignmentOf,
+  memoryLength,
+  booksLength,
+  unusedHead,
+  freePools,
+  arena,
+  poolWord,
+};
 ghost use Rattle.rules.specs.Blocks.{blockNo, sizeAt};
 ghost use Rattle.rules.specs.Lists.{arenaLinks};
 ghost use Rattle.rules.specs.Outcome.{heapOf, outcome};
@@ -56,15 +65,16 @@ fn take_back(
     map: &mut [u64],
     arenas: usize,
     pools: usize,
+    edition: usize,
     p: usize,
     pool: Pool,
     f: usize,
     k: usize,
 )
     requires { ⌜ Shaped arenas pools (length (now memory)) (length (now books)) (length (now map))
-        × Counted arenas pools p f k pool (now books) ⌝ }
+        × Counted (alignmentOf edition) arenas pools p f k pool (now books) ⌝ }
     ensures { λ _. ⌜ heapOf (now (memory .exit)) (now (books .exit)) (now (map .exit))
-        ≡ takeBack 8 arenas pools (pool .class) p f
+        ≡ takeBack (alignmentOf edition) arenas pools (pool .class) p f
         (heapOf (now (memory .entry)) (now (books .entry)) (now (map .entry))) ⌝ }
 {
     store_pool(books, arenas, p, pool.give(f as u32));
@@ -163,16 +173,17 @@ fn back_last(
     map: &mut [u64],
     arenas: usize,
     pools: usize,
+    edition: usize,
     pool: Pool,
     offset: usize,
     k: usize,
 ) -> u32
     requires { ⌜ Shaped arenas pools (length (now memory)) (length (now books)) (length (now map))
-        × Counted arenas pools (offset / 4096) (offset % 4096) k pool (now books) ⌝ }
+        × Counted (alignmentOf edition) arenas pools (offset / 4096) (offset % 4096) k pool (now books) ⌝ }
     ensures { λ r. ⌜ outcome (gave offset r) (heapOf (now (memory .exit)) (now (books .exit)) (now (map .exit)))
-        ≡ givenBack 8 arenas pools (pool .class)
+        ≡ givenBack (alignmentOf edition) arenas pools (pool .class)
         (heapOf (now (memory .entry)) (now (books .entry)) (now (map .entry))) offset
-        (emptying 8 arenas pools (now (books .entry)) (pool .class) (offset / 4096)) ⌝ }
+        (emptying (alignmentOf edition) arenas pools (now (books .entry)) (pool .class) (offset / 4096)) ⌝ }
 {
     let p = offset / 4096;
     let a = arena_of(arenas, pools, p);
@@ -182,27 +193,41 @@ fn back_last(
     if !may {
         return DAMAGED;
     }
-    take_back(memory, books, map, arenas, pools, p, pool, offset % 4096, k);
+    take_back(
+        memory,
+        books,
+        map,
+        arenas,
+        pools,
+        edition,
+        p,
+        pool,
+        offset % 4096,
+        k,
+    );
     empty_pool(books, arenas, pools, a, p, pool);
     settle(books, arenas, pools, a, free);
     0
 }
 
-// A give-back of a live offset, that of block k of its pool: 0, or the number of the refusal.
+// A give-back of a live offset, that of the block: 0, or the number of the refusal.
 fn back_step(
     memory: &mut [u8],
     books: &mut [u32],
     map: &mut [u64],
     arenas: usize,
     pools: usize,
+    edition: usize,
     offset: usize,
-    k: usize,
+    block: Block,
 ) -> u32
     requires { ⌜ Shaped arenas pools (length (now memory)) (length (now books)) (length (now map))
-        × LiveBlock 8 arenas pools (now books) (now map) offset
-        × (k ≡ blockNo (sizeAt 8 arenas (now books) offset) (offset % 4096)) ⌝ }
+        × LiveBlock (alignmentOf edition) arenas pools (now books) (now map) offset
+        × (block .number ≡ blockNo (sizeAt (alignmentOf edition) arenas (now books) offset) (offset % 4096))
+        × (block .size ≡ sizeAt (alignmentOf edition) arenas (now books) offset) ⌝ }
     ensures { λ r. ⌜ outcome (gave offset r) (heapOf (now (memory .exit)) (now (books .exit)) (now (map .exit)))
-        ≡ backStep 8 arenas pools (heapOf (now (memory .entry)) (now (books .entry)) (now (map .entry))) offset ⌝ }
+        ≡ backStep (alignmentOf edition) arenas pools
+        (heapOf (now (memory .entry)) (now (books .entry)) (now (map .entry))) offset ⌝ }
 {
     let p = offset / 4096;
     let f = offset % 4096;
@@ -210,12 +235,23 @@ fn back_step(
     if !pool.may_give() {
         return DAMAGED;
     }
-    let class = index(pool.class);
     if pool.freeblock == 0 {
+        let class = index(pool.class);
         if !may_join(books, arenas * pools, CLASS_HEADS + class) {
             return DAMAGED;
         }
-        take_back(memory, books, map, arenas, pools, p, pool, f, k);
+        take_back(
+            memory,
+            books,
+            map,
+            arenas,
+            pools,
+            edition,
+            p,
+            pool,
+            f,
+            block.number,
+        );
         join(
             books,
             arenas * pools,
@@ -225,13 +261,34 @@ fn back_step(
         );
         return 0;
     }
-    if !is_start(size_of(class), index(pool.freeblock)) {
+    if !is_start(block.size, index(pool.freeblock)) {
         return DAMAGED;
     }
     if pool.count == 1 {
-        return back_last(memory, books, map, arenas, pools, pool, offset, k);
+        return back_last(
+            memory,
+            books,
+            map,
+            arenas,
+            pools,
+            edition,
+            pool,
+            offset,
+            block.number,
+        );
     }
-    take_back(memory, books, map, arenas, pools, p, pool, f, k);
+    take_back(
+        memory,
+        books,
+        map,
+        arenas,
+        pools,
+        edition,
+        p,
+        pool,
+        f,
+        block.number,
+    );
     0
 }
 
@@ -242,16 +299,18 @@ pub fn give_old(
     map: &mut [u64],
     arenas: usize,
     pools: usize,
+    edition: usize,
     offset: usize,
 ) -> u32
     requires { ⌜ Shaped arenas pools (length (now memory)) (length (now books)) (length (now map)) ⌝ }
     ensures { λ r. ⌜ (outcome (gave offset r) (heapOf (now (memory .exit)) (now (books .exit)) (now (map .exit)))
-        ≡ giveOld 8 arenas pools (heapOf (now (memory .entry)) (now (books .entry)) (now (map .entry))) offset)
+        ≡ giveOld (alignmentOf edition) arenas pools
+        (heapOf (now (memory .entry)) (now (books .entry)) (now (map .entry))) offset)
         × (r ≡ 0 → offset < memoryLength arenas pools) ⌝ }
 {
-    let k = live_block(memory, books, map, arenas, pools, offset);
-    if REFUSED <= k {
-        return refusal(k);
+    let block = live_block(memory, books, map, arenas, pools, edition, offset);
+    if REFUSED <= block.number {
+        return refusal(block.number);
     }
-    back_step(memory, books, map, arenas, pools, offset, k)
+    back_step(memory, books, map, arenas, pools, edition, offset, block)
 }

@@ -10,6 +10,7 @@ use rules::Answer;
 ghost use mathlib.Core.Path.{_≡_};
 ghost use Prim.Native.Nat.{_+_, _<_, _≤_, _^_, min};
 ghost use lib.ListN.{length};
+ghost use Rattle.rules.specs.Books.{at, alignmentOf};
 ghost use Rattle.rules.specs.Outcome.{heapOf, outcome};
 ghost use Rattle.rules.specs.Resize.{copy, giveOld, halfDone, resizeStep};
 ghost use Rattle.books.specs.Known.{Shaped, LiveBlock};
@@ -23,6 +24,7 @@ fn move_block(
     map: &mut [u64],
     arenas: usize,
     pools: usize,
+    edition: usize,
     from: usize,
     to: usize,
     k: usize,
@@ -30,11 +32,11 @@ fn move_block(
     requires { ⌜ Shaped arenas pools (length (now memory)) (length (now books)) (length (now map))
         × (from + k ≤ length (now memory)) × (to + k ≤ length (now memory)) × Apart from to k × (to < 2 ^ 32) ⌝ }
     ensures { λ r. ⌜ outcome r (heapOf (now (memory .exit)) (now (books .exit)) (now (map .exit)))
-        ≡ halfDone 8 arenas pools to (giveOld 8 arenas pools
+        ≡ halfDone (alignmentOf edition) arenas pools to (giveOld (alignmentOf edition) arenas pools
         (copy from to k (heapOf (now (memory .entry)) (now (books .entry)) (now (map .entry)))) from) ⌝ }
 {
     copy_within(memory, from, to, k);
-    let given = give_old(memory, books, map, arenas, pools, from);
+    let given = give_old(memory, books, map, arenas, pools, edition, from);
     if given != 0 {
         return Answer {
             number: DAMAGED,
@@ -61,15 +63,18 @@ pub fn resize_step(
     map: &mut [u64],
     arenas: usize,
     pools: usize,
+    edition: usize,
     offset: usize,
     n: usize,
 ) -> Answer
     requires { ⌜ Shaped arenas pools (length (now memory)) (length (now books)) (length (now map))
-        × LiveBlock 8 arenas pools (now books) (now map) offset × (1 ≤ n) × (n ≤ 512) ⌝ }
+        × LiveBlock (alignmentOf edition) arenas pools (now books) (now map) offset × (1 ≤ n) × (n ≤ 512)
+        × (edition ≡ at (now books) 68) × (edition ≤ 1) ⌝ }
     ensures { λ r. ⌜ outcome r (heapOf (now (memory .exit)) (now (books .exit)) (now (map .exit)))
-        ≡ resizeStep 8 arenas pools (heapOf (now (memory .entry)) (now (books .entry)) (now (map .entry))) offset n ⌝ }
+        ≡ resizeStep (alignmentOf edition) arenas pools
+        (heapOf (now (memory .entry)) (now (books .entry)) (now (map .entry))) offset n ⌝ }
 {
-    let size = size_of(class_at(books, arenas, offset));
+    let size = size_of(edition, class_at(books, arenas, offset));
     if (n <= size) & (3 * size < 4 * n) {
         return Answer {
             number: 0,
@@ -87,6 +92,7 @@ pub fn resize_step(
         map,
         arenas,
         pools,
+        edition,
         offset,
         to,
         least(n, size),

@@ -1,12 +1,13 @@
 -- `heap::ask` meets its contract: it tests and then takes the step.
 -- Assumes nothing.
-use mathlib.Core.Path.{ap, ap₂, _∙_}
-use Prim.Native.Nat.{ℕ}
+use mathlib.Core.Path.{ap, _∙_}
 use native.Mathlib.Omega.{arith}
+use Rattle.rules.specs.Books.{alignment}
 use Rattle.rules.specs.declared.Answer.{Answer}
 use Rattle.rules.specs.Ask.{askStep}
 use Rattle.rules.specs.Numbers.{ask}
 use Rattle.rules.specs.Outcome.{heapOf, outcome}
+use Rattle.books.specs.declared.words.Shape.{Shape}
 use Rattle.books.specs.Passing.{refusal, step}
 use borrow.Author.Needs.{needs}
 use Rattle.heap.proofs.ask.Statement.{statement}
@@ -43,25 +44,18 @@ returns c =
     let h = heapOf (a .memory .now) (a .books .now) (a .map .now) in
     refusal h _ (c .refuse .result) (at-size-test .size-test .result) _ (c .refuse .ensures) (at-size-test .size-test .ensures .0) (c .before .if1 .taken)
 
-word-requires : tie.Need-word-requires
-word-requires c κs =
+shape-of-requires : tie.Need-shape-of-requires
+shape-of-requires c κs =
     let at-size-test = c .before .before in
     let t = at-size-test .size-test .ensures .1 (c .before .if1 .left) in omega (arith, t .shaped .books)
 
-word-requires-2 : tie.Need-word-requires-2
-word-requires-2 c κs =
-    let at-if1 = c .before .before .before in
-    let at-size-test = at-if1 .before in
-    let t = at-size-test .size-test .ensures .1 (at-if1 .if1 .left) in omega (arith, t .shaped .books)
-
 ask-step-requires : tie.Need-ask-step-requires
 ask-step-requires c κs =
-    let at-word2 = c .before .before .before in
-    let at-word = at-word2 .before .before in
-    let at-if1 = at-word .before .before in
+    let at-shape = c .before .before .before in
+    let at-if1 = at-shape .before .before in
     let at-size-test = at-if1 .before in
     let t = at-size-test .size-test .ensures .1 (at-if1 .if1 .left) in
-    (rw (at-word .word .ensures .0, at-word2 .word2 .ensures .0) (t .shaped), t .low, t .high)
+    (rw (at-shape .shape-of .ensures) (t .shaped), t .low, t .high, t .edition)
 
 answer-requires : tie.Need-answer-requires
 answer-requires c κs = search needs
@@ -79,9 +73,8 @@ returns-2 : tie.Need-returns-2
 unfolding ask
 returns-2 c =
     let at-ask-step = stepped c in
-    let at-word2 = at-ask-step .before .before .before .before in
-    let at-word = at-word2 .before .before in
-    let at-if1 = at-word .before .before in
+    let at-shape = at-ask-step .before .before .before .before in
+    let at-if1 = at-shape .before .before in
     let at-size-test = at-if1 .before in
     let a = start at-size-test .args in
     let h = heapOf (a .memory .now) (a .books .now) (a .map .now) in
@@ -89,7 +82,7 @@ returns-2 c =
     step h _ _ (at-size-test .size-test .result) _
     (ap (λ (x : Answer). outcome x after) (c .answer .ensures)
     ∙ at-ask-step .ask-step .ensures
-    ∙ ap₂ (λ (x y : ℕ). askStep 8 x y h (a .size)) (at-word .word .ensures .0) (at-word2 .word2 .ensures .0))
+    ∙ ap (λ (s : Shape). askStep (alignment h) (s .arenas) (s .pools) h (a .size)) (at-shape .shape-of .ensures))
     (at-size-test .size-test .ensures .0)
     (at-if1 .if1 .left)
 
@@ -103,8 +96,7 @@ ask-spec =
     same-length-2
     same-length-3
     returns
-    word-requires
-    word-requires-2
+    shape-of-requires
     ask-step-requires
     answer-requires
     same-length-4

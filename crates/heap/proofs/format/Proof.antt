@@ -38,7 +38,7 @@ returns c =
 fresh-books-requires : tie.Need-fresh-books-requires
 fresh-books-requires c κs =
     let at-fit-number = c .before .before in
-    let s = at-fit-number .fit-number .ensures .1 (c .before .if1 .left) in (s .arenas-high, s .pools-high, s .books)
+    let s = at-fit-number .fit-number .ensures .1 (c .before .if1 .left) in (s .0 .arenas-high, s .0 .pools-high, s .1, s .0 .books)
 
 wipe-requires : tie.Need-wipe-requires
 wipe-requires c κs = search needs
@@ -57,7 +57,7 @@ returns-2 c =
     let at-if1 = at-fresh-books .before .before in
     let at-fit-number = at-if1 .before in
     let a = start at-fit-number .args in
-    let s = at-fit-number .fit-number .ensures .1 (at-if1 .if1 .left) in
+    let s = at-fit-number .fit-number .ensures .1 (at-if1 .if1 .left) .0 in
     step (heapOf (a .memory .now) (a .books .now) (a .map .now)) _ _ (at-fit-number .fit-number .result) _
     (ap₂ (λ (x y : List ℕ). done 0 (heapOf (a .memory .now) x y)) (at-fresh-books .fresh-books .ensures)
     (at-wipe .wipe .ensures ∙ ap (λ (n : ℕ). replicate n 0) (s .map)))

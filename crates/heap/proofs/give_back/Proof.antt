@@ -1,12 +1,14 @@
 -- `heap::give_back` meets its contract: it tests the shape, and gives back by what the books and the map then show.
 -- Assumes nothing.
-use mathlib.Core.Path.{sym, ap, ap₂, _∙_}
+use mathlib.Core.Path.{sym, ap, _∙_}
 use Prim.Native.Nat.{ℕ, _*_}
 use native.Mathlib.Omega.{arith}
+use Rattle.rules.specs.Books.{alignmentOf}
 use Rattle.rules.specs.declared.Answer.{Answer}
 use Rattle.rules.specs.Numbers.{shapeNumber, offsetNumber, giveBack}
 use Rattle.rules.specs.Outcome.{heapOf, outcome, answerOf, refused}
 use Rattle.rules.specs.Resize.{giveOld}
+use Rattle.books.specs.declared.words.Shape.{Shape}
 use Rattle.books.specs.Passing.{stopped, passed, refusal}
 use Rattle.heap.specs.Order.{shape-first}
 use borrow.Author.Needs.{needs}
@@ -44,27 +46,20 @@ returns c =
     let h = heapOf (a .memory .now) (a .books .now) (a .map .now) in
     refusal h _ (c .refuse .result) (at-shape-number .shape-number .result) _ (c .refuse .ensures) (at-shape-number .shape-number .ensures .0)
     (c .before .if1 .taken)
-    ∙ shape-first (shapeNumber h) (offsetNumber 8 h (a .offset)) (λ k. refused k h) _
+    ∙ shape-first (shapeNumber h) (offsetNumber h (a .offset)) (λ k. refused k h) _
 
-word-requires : tie.Need-word-requires
-word-requires c κs =
+shape-of-requires : tie.Need-shape-of-requires
+shape-of-requires c κs =
     let at-shape-number = c .before .before in
-    let s = at-shape-number .shape-number .ensures .1 (c .before .if1 .left) in omega (arith, s .books)
-
-word-requires-2 : tie.Need-word-requires-2
-word-requires-2 c κs =
-    let at-if1 = c .before .before .before in
-    let at-shape-number = at-if1 .before in
-    let s = at-shape-number .shape-number .ensures .1 (at-if1 .if1 .left) in omega (arith, s .books)
+    let s = at-shape-number .shape-number .ensures .1 (c .before .if1 .left) in omega (arith, s .0 .books)
 
 give-old-requires : tie.Need-give-old-requires
 give-old-requires c κs =
-    let at-word2 = c .before .before .before in
-    let at-word = at-word2 .before .before in
-    let at-if1 = at-word .before .before in
+    let at-shape = c .before .before .before in
+    let at-if1 = at-shape .before .before in
     let at-shape-number = at-if1 .before in
     let s = at-shape-number .shape-number .ensures .1 (at-if1 .if1 .left) in
-    rw (at-word .word .ensures .0, at-word2 .word2 .ensures .0) s
+    rw (at-shape .shape-of .ensures) (s .0)
 
 refuse-requires-2 : tie.Need-refuse-requires-2
 refuse-requires-2 c κs = search needs
@@ -82,9 +77,8 @@ returns-2 : tie.Need-returns-2
 unfolding giveBack giveOld
 returns-2 c =
     let at-give-old = stepped (c .before .before) in
-    let at-word2 = at-give-old .before .before .before .before in
-    let at-word = at-word2 .before .before in
-    let at-if1 = at-word .before .before in
+    let at-shape = at-give-old .before .before .before .before in
+    let at-if1 = at-shape .before .before in
     let at-shape-number = at-if1 .before in
     let a = start at-shape-number .args in
     let h = heapOf (a .memory .now) (a .books .now) (a .map .now) in
@@ -92,20 +86,19 @@ returns-2 c =
     ap (λ (x : Answer). outcome x after)
     (c .refuse2 .ensures ∙ sym (stopped (λ n. answerOf n 0) (answerOf 0 (a .offset)) (at-give-old .give-old .result) (c .before .if2 .taken)))
     ∙ at-give-old .give-old .ensures .0
-    ∙ ap₂ (λ (x y : ℕ). giveOld 8 x y h (a .offset)) (at-word .word .ensures .0) (at-word2 .word2 .ensures .0)
+    ∙ ap (λ (s : Shape). giveOld (alignmentOf (s .edition)) (s .arenas) (s .pools) h (a .offset)) (at-shape .shape-of .ensures)
     ∙ sym (passed (λ k. refused k h) _ (shapeNumber h) (sym (at-shape-number .shape-number .ensures .0) ∙ at-if1 .if1 .left))
-    ∙ shape-first (shapeNumber h) (offsetNumber 8 h (a .offset)) (λ k. refused k h) _
+    ∙ shape-first (shapeNumber h) (offsetNumber h (a .offset)) (λ k. refused k h) _
 
-cast-t26 : tie.Need-cast-t26
-cast-t26 c =
+cast-t23 : tie.Need-cast-t23
+cast-t23 c =
     let at-give-old = stepped (c .before) in
-    let at-word2 = at-give-old .before .before .before .before in
-    let at-word = at-word2 .before .before in
-    let at-if1 = at-word .before .before in
+    let at-shape = at-give-old .before .before .before .before in
+    let at-if1 = at-shape .before .before in
     let at-shape-number = at-if1 .before in
     let s = at-shape-number .shape-number .ensures .1 (at-if1 .if1 .left) in
-    let e = ap₂ (λ (x y : ℕ). x * y) (at-word .word .ensures .0) (at-word2 .word2 .ensures .0) in
-    omega (arith, at-give-old .give-old .ensures .1 (c .if2 .left), s .all)
+    let e = ap (λ (s : Shape). s .arenas * s .pools) (at-shape .shape-of .ensures) in
+    omega (arith, at-give-old .give-old .ensures .1 (c .if2 .left), s .0 .all)
 
 same-length-7 : tie.Need-same-length-7
 same-length-7 c = search needs
@@ -120,18 +113,17 @@ returns-3 : tie.Need-returns-3
 unfolding giveBack giveOld
 returns-3 c =
     let at-give-old = stepped (c .before) in
-    let at-word2 = at-give-old .before .before .before .before in
-    let at-word = at-word2 .before .before in
-    let at-if1 = at-word .before .before in
+    let at-shape = at-give-old .before .before .before .before in
+    let at-if1 = at-shape .before .before in
     let at-shape-number = at-if1 .before in
     let a = start at-shape-number .args in
     let h = heapOf (a .memory .now) (a .books .now) (a .map .now) in
     let after = heapOf (at-give-old .give-old .last .0) (at-give-old .give-old .last .1 .0) (at-give-old .give-old .last .1 .1 .0) in
     ap (λ (x : Answer). outcome x after) (sym (passed (λ n. answerOf n 0) (answerOf 0 (a .offset)) (at-give-old .give-old .result) (c .if2 .left)))
     ∙ at-give-old .give-old .ensures .0
-    ∙ ap₂ (λ (x y : ℕ). giveOld 8 x y h (a .offset)) (at-word .word .ensures .0) (at-word2 .word2 .ensures .0)
+    ∙ ap (λ (s : Shape). giveOld (alignmentOf (s .edition)) (s .arenas) (s .pools) h (a .offset)) (at-shape .shape-of .ensures)
     ∙ sym (passed (λ k. refused k h) _ (shapeNumber h) (sym (at-shape-number .shape-number .ensures .0) ∙ at-if1 .if1 .left))
-    ∙ shape-first (shapeNumber h) (offsetNumber 8 h (a .offset)) (λ k. refused k h) _
+    ∙ shape-first (shapeNumber h) (offsetNumber h (a .offset)) (λ k. refused k h) _
 
 pub give-back-spec : {M : Type 1} → statement M
 give-back-spec =
@@ -143,15 +135,14 @@ give-back-spec =
     same-length-2
     same-length-3
     returns
-    word-requires
-    word-requires-2
+    shape-of-requires
     give-old-requires
     refuse-requires-2
     same-length-4
     same-length-5
     same-length-6
     returns-2
-    cast-t26
+    cast-t23
     same-length-7
     same-length-8
     same-length-9

@@ -1,12 +1,13 @@
 -- `heap::resize` meets its contract: it tests the shape and the size, then the offset, and then takes the step.
 -- Assumes nothing.
-use mathlib.Core.Path.{sym, ap₂, _∙_}
-use Prim.Native.Nat.{ℕ}
+use mathlib.Core.Path.{sym, ap, _∙_}
 use native.Mathlib.Omega.{arith}
+use Rattle.rules.specs.Books.{alignmentOf}
 use Rattle.rules.specs.Blocks.{liveNumber}
 use Rattle.rules.specs.Numbers.{shapeNumber, sizeNumber, offsetNumber, resize}
 use Rattle.rules.specs.Outcome.{heapOf}
 use Rattle.rules.specs.Resize.{resizeStep}
+use Rattle.books.specs.declared.words.Shape.{Shape}
 use Rattle.books.specs.Passing.{stopped, passed, refusal, step}
 use Rattle.heap.specs.Order.{offset-after}
 use borrow.Author.Needs.{needs}
@@ -46,28 +47,21 @@ returns c =
     refusal h _ (c .refuse .result) (at-size-test .size-test .result) _ (c .refuse .ensures)
     (at-size-test .size-test .ensures .0
     ∙ sym (stopped (λ n. n) _ _ (λ z. at-if1 .if1 .taken (at-size-test .size-test .ensures .0 ∙ z)))
-    ∙ sym (offset-after (shapeNumber h) (sizeNumber (a .size)) (offsetNumber 8 h (a .offset))))
+    ∙ sym (offset-after (shapeNumber h) (sizeNumber (a .size)) (offsetNumber h (a .offset))))
     (at-if1 .if1 .taken)
 
-word-requires : tie.Need-word-requires
-word-requires c κs =
+shape-of-requires : tie.Need-shape-of-requires
+shape-of-requires c κs =
     let at-size-test = c .before .before in
     let t = at-size-test .size-test .ensures .1 (c .before .if1 .left) in omega (arith, t .shaped .books)
 
-word-requires-2 : tie.Need-word-requires-2
-word-requires-2 c κs =
-    let at-if1 = c .before .before .before in
-    let at-size-test = at-if1 .before in
-    let t = at-size-test .size-test .ensures .1 (at-if1 .if1 .left) in omega (arith, t .shaped .books)
-
 live-number-requires : tie.Need-live-number-requires
 live-number-requires c κs =
-    let at-word2 = c .before .before .before in
-    let at-word = at-word2 .before .before in
-    let at-if1 = at-word .before .before in
+    let at-shape = c .before .before .before in
+    let at-if1 = at-shape .before .before in
     let at-size-test = at-if1 .before in
     let t = at-size-test .size-test .ensures .1 (at-if1 .if1 .left) in
-    rw (at-word .word .ensures .0, at-word2 .word2 .ensures .0) (t .shaped)
+    rw (at-shape .shape-of .ensures) (t .shaped)
 
 refuse-requires-2 : tie.Need-refuse-requires-2
 refuse-requires-2 c κs = search needs
@@ -85,29 +79,33 @@ returns-2 : tie.Need-returns-2
 unfolding resize
 returns-2 c =
     let at-live-number = c .before .before in
-    let at-word2 = at-live-number .before .before .before .before in
-    let at-word = at-word2 .before .before in
-    let at-if1 = at-word .before .before in
+    let at-shape = at-live-number .before .before .before .before in
+    let at-if1 = at-shape .before .before in
     let at-size-test = at-if1 .before in
     let a = start at-size-test .args in
     let h = heapOf (a .memory .now) (a .books .now) (a .map .now) in
     refusal h _ (c .refuse2 .result) (at-live-number .live-number .result) _ (c .refuse2 .ensures)
     (at-live-number .live-number .ensures .0
-    ∙ ap₂ (λ (x y : ℕ). liveNumber 8 x y (a .books .now) (a .map .now) (a .offset)) (at-word .word .ensures .0) (at-word2 .word2 .ensures .0)
+    ∙ ap (λ (s : Shape). liveNumber (alignmentOf (s .edition)) (s .arenas) (s .pools) (a .books .now) (a .map .now) (a .offset)) (at-shape .shape-of .ensures)
     ∙ sym (passed (λ n. n) _ _ (sym (at-size-test .size-test .ensures .0) ∙ at-if1 .if1 .left))
-    ∙ sym (offset-after (shapeNumber h) (sizeNumber (a .size)) (offsetNumber 8 h (a .offset))))
+    ∙ sym (offset-after (shapeNumber h) (sizeNumber (a .size)) (offsetNumber h (a .offset))))
     (c .before .if2 .taken)
 
 resize-step-requires : tie.Need-resize-step-requires
 resize-step-requires c κs =
     let at-if2 = c .before .before .before in
     let at-live-number = at-if2 .before in
-    let at-word2 = at-live-number .before .before .before .before in
-    let at-word = at-word2 .before .before in
-    let at-if1 = at-word .before .before in
+    let at-shape = at-live-number .before .before .before .before in
+    let at-if1 = at-shape .before .before in
     let at-size-test = at-if1 .before in
-    let t = at-size-test .size-test .ensures .1 (at-if1 .if1 .left) in
-    (rw (at-word .word .ensures .0, at-word2 .word2 .ensures .0) (t .shaped), at-live-number .live-number .ensures .1 (at-if2 .if2 .left), t .low, t .high)
+    let t = at-size-test .size-test .ensures .1 (at-if1 .if1 .left) in (
+      rw (at-shape .shape-of .ensures) (t .shaped),
+      at-live-number .live-number .ensures .1 (at-if2 .if2 .left),
+      t .low,
+      t .high,
+      rw (at-shape .shape-of .ensures),
+      rw (at-shape .shape-of .ensures) (t .edition),
+    )
 
 same-length-7 : tie.Need-same-length-7
 same-length-7 c = search needs
@@ -124,19 +122,18 @@ returns-3 c =
     let at-resize-step = stepped c in
     let at-if2 = at-resize-step .before .before .before .before in
     let at-live-number = at-if2 .before in
-    let at-word2 = at-live-number .before .before .before .before in
-    let at-word = at-word2 .before .before in
-    let at-if1 = at-word .before .before in
+    let at-shape = at-live-number .before .before .before .before in
+    let at-if1 = at-shape .before .before in
     let at-size-test = at-if1 .before in
     let a = start at-size-test .args in
     let h = heapOf (a .memory .now) (a .books .now) (a .map .now) in
     step h _ _ (at-live-number .live-number .result) _
     (at-resize-step .resize-step .ensures
-    ∙ ap₂ (λ (x y : ℕ). resizeStep 8 x y h (a .offset) (a .size)) (at-word .word .ensures .0) (at-word2 .word2 .ensures .0))
+    ∙ ap (λ (s : Shape). resizeStep (alignmentOf (s .edition)) (s .arenas) (s .pools) h (a .offset) (a .size)) (at-shape .shape-of .ensures))
     (at-live-number .live-number .ensures .0
-    ∙ ap₂ (λ (x y : ℕ). liveNumber 8 x y (a .books .now) (a .map .now) (a .offset)) (at-word .word .ensures .0) (at-word2 .word2 .ensures .0)
+    ∙ ap (λ (s : Shape). liveNumber (alignmentOf (s .edition)) (s .arenas) (s .pools) (a .books .now) (a .map .now) (a .offset)) (at-shape .shape-of .ensures)
     ∙ sym (passed (λ n. n) _ _ (sym (at-size-test .size-test .ensures .0) ∙ at-if1 .if1 .left))
-    ∙ sym (offset-after (shapeNumber h) (sizeNumber (a .size)) (offsetNumber 8 h (a .offset))))
+    ∙ sym (offset-after (shapeNumber h) (sizeNumber (a .size)) (offsetNumber h (a .offset))))
     (at-if2 .if2 .left)
 
 pub resize-spec : {M : Type 1} → statement M
@@ -149,8 +146,7 @@ resize-spec =
     same-length-2
     same-length-3
     returns
-    word-requires
-    word-requires-2
+    shape-of-requires
     live-number-requires
     refuse-requires-2
     same-length-4

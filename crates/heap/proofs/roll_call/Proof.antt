@@ -13,10 +13,14 @@ use borrow.Author.Needs.{needs}
 use borrow.Author.Tests.{leb-true, leb-false}
 use Rattle.rules.specs.Numbers.{RollOutcome, inOrder, shapeNumber, roomNumber, rollOf, rollOutcome, rollCall}
 use Rattle.rules.specs.Promises.{_beside_}
+use Rattle.rules.specs.Books.{alignmentOf}
 use Rattle.rules.specs.Outcome.{heapOf}
 use Rattle.rules.specs.View.{rollPools}
 use Rattle.loops.specs.Roll.{length-roll}
 use Rattle.loops.specs.Sets.{sets-front}
+use Rattle.books.specs.declared.words.Shape.{Shape}
+use Rattle.books.specs.Sizes.{aligned}
+use Rattle.books.specs.Known.{Shaped}
 use Rattle.books.specs.Passing.{stopped, passed}
 use Rattle.books.specs.Tests.{held, failed}
 use Rattle.heap.specs.Order.{too-little, enough}
@@ -27,9 +31,9 @@ use Rattle.heap.proofs.roll_call.Tie as tie
 abbrev start : tie.After-shape-number → tie.Start
 start c = c .before .before .before .before .before
 
--- the last word read, seen from the roll
-abbrev read : tie.After-put-roll → tie.After-word2
-read c = c .before .before .before .before
+-- the shape that was read, seen from the roll
+abbrev read : tie.After-put-roll → tie.After-shape-of
+read c = c .before .before .before .before .before
 
 shape-number-requires : tie.Need-shape-number-requires
 shape-number-requires c κs = search needs
@@ -40,65 +44,59 @@ returns c =
     let at-shape-number = c .before in
     let a = start at-shape-number .args in
     let h = heapOf (a .memory .now) (a .books .now) (a .map .now) in
-    let room = roomNumber (length (rollOf 8 h)) (length (a .roll .now)) in
+    let room = roomNumber (length (rollOf h)) (length (a .roll .now)) in
     let first : inOrder (shapeNumber h) 0 0 room ≡ shapeNumber h =
     stopped (λ n. n) _ (shapeNumber h) (λ z. c .if1 .taken (at-shape-number .shape-number .ensures .0 ∙ z)) in
     ap (λ (r : RollOutcome). r beside h)
     (ap (λ (k : ℕ). rollOutcome k 0 (a .roll .now)) (at-shape-number .shape-number .ensures .0 ∙ sym first)
     ∙ sym (stopped (λ k. rollOutcome k 0 (a .roll .now)) _ _ (λ z. c .if1 .taken (at-shape-number .shape-number .ensures .0 ∙ sym first ∙ z))))
 
-word-requires : tie.Need-word-requires
-word-requires c κs = let s = c .before .shape-number .ensures .1 (c .if1 .left) in omega (arith, s .books)
+shape-of-requires : tie.Need-shape-of-requires
+shape-of-requires c κs = let s = c .before .shape-number .ensures .1 (c .if1 .left) in omega (arith, s .0 .books)
 
-word-requires-2 : tie.Need-word-requires-2
-word-requires-2 c κs =
-    let at-shape-number = c .before .before in
-    let s = at-shape-number .shape-number .ensures .1 (c .before .if1 .left) in omega (arith, s .books)
+-- what is known of the shape that was read
+shaped : (c : tie.After-shape-of)
+    → let a = start (c .before .before) .args in
+    let s = c .shape-of .result in
+    Shaped (s .arenas) (s .pools) (length (a .memory .now)) (length (a .books .now)) (length (a .map .now))
+shaped c = rw (c .shape-of .ensures) (c .before .before .shape-number .ensures .1 (c .before .if1 .left) .0)
 
 mul-all : tie.Need-mul-all
-mul-all c =
-    let at-if1 = c .before .before in
-    let at-shape-number = at-if1 .before in
-    let s = at-shape-number .shape-number .ensures .1 (at-if1 .if1 .left) in
-    let e = ap₂ (λ (x y : ℕ). x * y) (c .before .word .ensures .0) (c .word2 .ensures .0) in omega (arith, s .all)
+mul-all c = omega (arith, shaped (c .before) .all)
 
--- A and P are what was read, so the pools' roll is the heap's
-the-roll : (c : tie.After-word2)
-    → let a = start (c .before .before .before) .args in
-    let A = c .before .word .result in
-    rollPools 8 A (a .books .now) (a .map .now) 0 (A * c .word2 .result) ≡ rollOf 8 (heapOf (a .memory .now) (a .books .now) (a .map .now))
+-- the shape is what was read, so the pools' roll is the heap's
+the-roll : (c : tie.After-shape-of)
+    → let a = start (c .before .before) .args in
+    let s = c .shape-of .result in
+    rollPools (alignmentOf (s .edition)) (s .arenas) (a .books .now) (a .map .now) 0 (s .arenas * s .pools)
+    ≡ rollOf (heapOf (a .memory .now) (a .books .now) (a .map .now))
 the-roll c =
-    let a = start (c .before .before .before) .args in
-    ap₂ (λ (x y : ℕ). rollPools 8 x (a .books .now) (a .map .now) 0 (x * y)) (c .before .word .ensures .0) (c .word2 .ensures .0)
+    let a = start (c .before .before) .args in
+    ap (λ (s : Shape). rollPools (alignmentOf (s .edition)) (s .arenas) (a .books .now) (a .map .now) 0 (s .arenas * s .pools)) (c .shape-of .ensures)
 
 has-room-requires : tie.Need-has-room-requires
 has-room-requires c κs =
-    let at-word = c .before in
-    let at-if1 = at-word .before in
-    let at-shape-number = at-if1 .before in
-    let s = at-shape-number .shape-number .ensures .1 (at-if1 .if1 .left) in
-    let e = ap₂ (λ (x y : ℕ). x * y) (at-word .word .ensures .0) (c .word2 .ensures .0) in
-    (omega (arith, s .all), omega (arith, s .books, at-word .word .ensures .0), omega (arith, s .map))
+    let s = shaped (c .before) in
+    (s .all, s .books, s .map)
 
 -- the test's answer says whether that roll fits
 answered : (c : tie.After-has-room)
     → let a = start (c .before .before .before .before) .args in
-    let all = rollOf 8 (heapOf (a .memory .now) (a .books .now) (a .map .now)) in
+    let all = rollOf (heapOf (a .memory .now) (a .books .now) (a .map .now)) in
     c .has-room .result ≡ leb (length all) (length (a .roll .now))
 answered c =
     let a = start (c .before .before .before .before) .args in
-    c .has-room .ensures ∙ ap (λ (l : List ℕ). leb (length l) (length (a .roll .now))) (the-roll (c .before))
+    c .has-room .ensures ∙ ap (λ (l : List ℕ). leb (length l) (length (a .roll .now))) (the-roll (c .before .before))
 
 returns-2 : tie.Need-returns-2
 unfolding rollCall
 returns-2 c =
     let at-has-room = c .before in
-    let at-word2 = at-has-room .before in
-    let at-if1 = at-word2 .before .before in
+    let at-if1 = at-has-room .before .before .before in
     let at-shape-number = at-if1 .before in
     let a = start at-shape-number .args in
     let h = heapOf (a .memory .now) (a .books .now) (a .map .now) in
-    let wanted = length (rollOf 8 h) in
+    let wanted = length (rollOf h) in
     let short = leb-false wanted (length (a .roll .now)) (failed (answered at-has-room) (c .if2 .taken)) in
     let seven : inOrder (shapeNumber h) 0 0 (roomNumber wanted (length (a .roll .now))) ≡ 7 =
     passed (λ n. n) _ (shapeNumber h) (sym (at-shape-number .shape-number .ensures .0) ∙ at-if1 .if1 .left)
@@ -109,42 +107,30 @@ returns-2 c =
 -- past the test, the roll fits
 fits : (c : tie.Else2)
     → let a = start (c .before .before .before .before .before) .args in
-    length (rollOf 8 (heapOf (a .memory .now) (a .books .now) (a .map .now))) ≤ length (a .roll .now)
+    length (rollOf (heapOf (a .memory .now) (a .books .now) (a .map .now))) ≤ length (a .roll .now)
 fits c =
     let a = start (c .before .before .before .before .before) .args in
-    let all = rollOf 8 (heapOf (a .memory .now) (a .books .now) (a .map .now)) in
+    let all = rollOf (heapOf (a .memory .now) (a .books .now) (a .map .now)) in
     leb-true (length all) (length (a .roll .now)) (held (answered (c .before)) (c .if2 .left))
 
 put-roll-requires : tie.Need-put-roll-requires
 put-roll-requires c κs =
     let at-if2 = c .before in
-    let at-word2 = at-if2 .before .before in
-    let at-word = at-word2 .before in
-    let at-if1 = at-word .before in
-    let at-shape-number = at-if1 .before in
-    let s = at-shape-number .shape-number .ensures .1 (at-if1 .if1 .left) in
-    let e = ap₂ (λ (x y : ℕ). x * y) (at-word .word .ensures .0) (at-word2 .word2 .ensures .0) in (
-      omega (arith, s .all),
-      omega (arith, s .books, at-word .word .ensures .0),
-      omega (arith, s .map),
-      omega (arith, fits at-if2, ap length (the-roll at-word2)),
-    )
+    let at-shape = at-if2 .before .before .before in
+    let s = shaped at-shape in
+    (s .all, s .books, s .map, omega (arith, fits at-if2, ap length (the-roll at-shape)))
 
 cast-t14 : tie.Need-cast-t14
 cast-t14 c =
     let at-put-roll = c .before .before in
-    let at-word2 = read at-put-roll in
-    let at-word = at-word2 .before in
-    let at-if1 = at-word .before in
-    let at-shape-number = at-if1 .before in
-    let a = start at-shape-number .args in
-    let s = at-shape-number .shape-number .ensures .1 (at-if1 .if1 .left) in
-    let e = ap₂ (λ (x y : ℕ). x * y) (at-word .word .ensures .0) (at-word2 .word2 .ensures .0) in
+    let at-shape = read at-put-roll in
+    let a = start (at-shape .before .before) .args in
+    let s = at-shape .shape-of .result in
     omega (
       arith,
-      s .all,
+      shaped at-shape .all,
       at-put-roll .put-roll .ensures .place,
-      length-roll 8 (at-word .word .result) (a .books .now) (a .map .now) (omega arith) 0 (at-word .word .result * at-word2 .word2 .result),
+      length-roll (alignmentOf (s .edition)) (s .arenas) (a .books .now) (a .map .now) (aligned (s .edition) .low) 0 (s .arenas * s .pools),
     )
 
 same-length : tie.Need-same-length
@@ -155,19 +141,19 @@ unfolding rollCall
 returns-3 c =
     let at-put-roll = c .before .before in
     let at-if2 = at-put-roll .before .before in
-    let at-word2 = read at-put-roll in
-    let at-if1 = at-word2 .before .before in
+    let at-shape = read at-put-roll in
+    let at-if1 = at-shape .before in
     let at-shape-number = at-if1 .before in
     let a = start at-shape-number .args in
     let h = heapOf (a .memory .now) (a .books .now) (a .map .now) in
-    let all = rollOf 8 h in
+    let all = rollOf h in
     let stored = at-put-roll .put-roll .ensures in
     let go : inOrder (shapeNumber h) 0 0 (roomNumber (length all) (length (a .roll .now))) ≡ 0 =
     passed (λ n. n) _ (shapeNumber h) (sym (at-shape-number .shape-number .ensures .0) ∙ at-if1 .if1 .left)
     ∙ enough (length all) (length (a .roll .now)) (fits at-if2) in
     ap (λ (r : RollOutcome). r beside h)
-    (ap₂ (λ (n : ℕ) (w : List ℕ). rollOutcome 0 (n / 2) w) (stored .place ∙ zero-add _ ∙ ap length (the-roll at-word2))
-    (stored .same ∙ ap (sets (a .roll .now) 0) (the-roll at-word2) ∙ sets-front (a .roll .now) all (fits at-if2))
+    (ap₂ (λ (n : ℕ) (w : List ℕ). rollOutcome 0 (n / 2) w) (stored .place ∙ zero-add _ ∙ ap length (the-roll at-shape))
+    (stored .same ∙ ap (sets (a .roll .now) 0) (the-roll at-shape) ∙ sets-front (a .roll .now) all (fits at-if2))
     ∙ sym (passed (λ k. rollOutcome k 0 (a .roll .now)) _ _ go))
 
 pub roll-call-spec : {M : Type 1} → statement M
@@ -176,8 +162,7 @@ roll-call-spec =
     (tie.spec
     shape-number-requires
     returns
-    word-requires
-    word-requires-2
+    shape-of-requires
     mul-all
     has-room-requires
     returns-2

@@ -27,7 +27,8 @@ returns-2 c =
     let at-shape-number = at-if1 .before in (
       c .size-number .ensures .0 ∙ sym (last-test _) ∙ sym (passed (λ n. n) _ _ (sym (at-shape-number .shape-number .ensures .0) ∙ at-if1 .if1 .left)),
       λ z. record {
-        shaped = at-shape-number .shape-number .ensures .1 (at-if1 .if1 .left);
+        shaped = at-shape-number .shape-number .ensures .1 (at-if1 .if1 .left) .0;
+        edition = at-shape-number .shape-number .ensures .1 (at-if1 .if1 .left) .1;
         low = c .size-number .ensures .1 z .0;
         high = c .size-number .ensures .1 z .1;
       },

@@ -40,7 +40,7 @@ returns c =
     refusal h _ (c .refuse .result) (at-offset-test .offset-test .result) _ (c .refuse .ensures)
     (at-offset-test .offset-test .ensures .0
     ∙ sym (stopped (λ n. n) _ _ (λ z. at-if1 .if1 .taken (at-offset-test .offset-test .ensures .0 ∙ z)))
-    ∙ sym (room-after (shapeNumber h) (offsetNumber 8 h (a .offset)) (roomNumber (length (a .text .now)) (blockSize 8 h (a .offset)))))
+    ∙ sym (room-after (shapeNumber h) (offsetNumber h (a .offset)) (roomNumber (length (a .text .now)) (blockSize h (a .offset)))))
     (at-if1 .if1 .taken)
 
 block-size-requires : tie.Need-block-size-requires
@@ -63,9 +63,9 @@ returns-2 c =
     let a = start at-offset-test .args in
     let h = heapOf (a .memory .now) (a .books .now) (a .map .now) in
     refusal h _ (c .refuse2 .result) 7 _ (c .refuse2 .ensures)
-    (sym (too-little (length (a .text .now)) (blockSize 8 h (a .offset)) (omega (arith, at-block-size .block-size .ensures .0)))
+    (sym (too-little (length (a .text .now)) (blockSize h (a .offset)) (omega (arith, at-block-size .block-size .ensures .0)))
     ∙ sym (passed (λ n. n) _ _ (sym (at-offset-test .offset-test .ensures .0) ∙ at-if1 .if1 .left))
-    ∙ sym (room-after (shapeNumber h) (offsetNumber 8 h (a .offset)) (roomNumber (length (a .text .now)) (blockSize 8 h (a .offset))))) (omega arith)
+    ∙ sym (room-after (shapeNumber h) (offsetNumber h (a .offset)) (roomNumber (length (a .text .now)) (blockSize h (a .offset))))) (omega arith)
 
 copy-in-requires : tie.Need-copy-in-requires
 copy-in-requires c κs =
@@ -95,9 +95,9 @@ returns-3 c =
     let a = start at-offset-test .args in
     let h = heapOf (a .memory .now) (a .books .now) (a .map .now) in
     step h _ _ 0 _ (ap (λ (x : List ℕ). done (a .offset) (heapOf x (a .books .now) (a .map .now))) (at-copy-in .copy-in .ensures))
-    (sym (enough (length (a .text .now)) (blockSize 8 h (a .offset)) (omega (arith, at-block-size .block-size .ensures .0)))
+    (sym (enough (length (a .text .now)) (blockSize h (a .offset)) (omega (arith, at-block-size .block-size .ensures .0)))
     ∙ sym (passed (λ n. n) _ _ (sym (at-offset-test .offset-test .ensures .0) ∙ at-if1 .if1 .left))
-    ∙ sym (room-after (shapeNumber h) (offsetNumber 8 h (a .offset)) (roomNumber (length (a .text .now)) (blockSize 8 h (a .offset))))) refl
+    ∙ sym (room-after (shapeNumber h) (offsetNumber h (a .offset)) (roomNumber (length (a .text .now)) (blockSize h (a .offset))))) refl
 
 pub write-spec : {M : Type 1} → statement M
 write-spec =

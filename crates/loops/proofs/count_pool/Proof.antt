@@ -1,9 +1,13 @@
 -- `loops::count_pool` counts the words of its live blocks where the pool has a bit set and a class, and none elsewhere.
 -- Assumes nothing.
 use native.Mathlib.Omega.{arith}
-use mathlib.Core.Path.{sym, _∙_}
+use mathlib.Core.Path.{_≡_, sym, ap, _∙_}
+use Prim.Native.Nat.{_*_}
 use borrow.Author.Needs.{needs}
-use Rattle.loops.specs.Roll.{no-bits, no-class, of-class}
+use Rattle.rules.specs.Books.{alignmentOf}
+use Rattle.rules.specs.Blocks.{sizeOf, classAt}
+use Rattle.books.specs.Sizes.{aligned}
+use Rattle.loops.specs.Roll.{no-bits, no-size, of-size}
 use Rattle.loops.proofs.count_pool.Statement.{statement}
 use Rattle.loops.proofs.count_pool.Tie as tie
 
@@ -18,7 +22,7 @@ returns : tie.Need-returns
 returns c =
     let a = start (c .before) .args in
     let e = sym (c .before .none-set .ensures) ∙ c .if1 .taken in
-    rw (no-bits 8 (a .arenas) (a .books .now) (a .map .now) (a .pool) (omega arith) e)
+    rw (no-bits (alignmentOf (a .edition)) (a .arenas) (a .books .now) (a .map .now) (a .pool) (aligned (a .edition) .low) e)
 
 mul-class-at : tie.Need-mul-class-at
 mul-class-at c = search needs
@@ -26,27 +30,31 @@ mul-class-at c = search needs
 class-at-requires : tie.Need-class-at-requires
 class-at-requires c κs = search needs
 
-returns-2 : tie.Need-returns-2
-returns-2 c =
-    let a = start (c .before .before .before) .args in
-    let r = c .before .class-at in
-    rw (no-class 8 (a .arenas) (a .books .now) (a .map .now) (a .pool) (r .result) (r .ensures) (c .if2 .taken))
-
 size-of-requires : tie.Need-size-of-requires
 size-of-requires c κs = search needs
+
+-- the size is that of the pool's class
+size-is : (c : tie.After-size-of)
+    → let a = start (c .before .before .before) .args in
+    c .size-of .result ≡ sizeOf (alignmentOf (a .edition)) (classAt (a .arenas) (a .books .now) (4096 * a .pool))
+size-is c =
+    let a = start (c .before .before .before) .args in
+    c .size-of .ensures .0 ∙ ap (sizeOf (alignmentOf (a .edition))) (c .before .class-at .ensures .0)
+
+returns-2 : tie.Need-returns-2
+returns-2 c =
+    let a = start (c .before .before .before .before) .args in
+    rw (no-size (aligned (a .edition)) (a .arenas) (a .books .now) (a .map .now) (a .pool) _ (size-is (c .before)) (c .if2 .taken))
 
 count-blocks-requires : tie.Need-count-blocks-requires
 count-blocks-requires c κs = search needs
 
 returns-3 : tie.Need-returns-3
 returns-3 c =
-    let at-if2 = c .before .before in
-    let at-class-at = at-if2 .before in
-    let a = start (at-class-at .before .before) .args in
-    let r = at-class-at .class-at in
-    let s = c .before .size-of in
-    let e = of-class 8 (a .arenas) (a .books .now) (a .map .now) (a .pool) (r .result) (r .ensures) (s .result) (s .ensures .0) in
-    rw (e (at-if2 .if2 .left))
+    let at-if2 = c .before in
+    let at-size-of = at-if2 .before in
+    let a = start (at-size-of .before .before .before) .args in
+    rw (of-size (aligned (a .edition)) (a .arenas) (a .books .now) (a .map .now) (a .pool) _ (size-is at-size-of) (at-if2 .if2 .left))
     (c .count-blocks .ensures)
 
 pub count-pool-spec : {M : Type 1} → statement M
@@ -57,7 +65,7 @@ count-pool-spec =
     returns
     mul-class-at
     class-at-requires
-    returns-2
     size-of-requires
+    returns-2
     count-blocks-requires
     returns-3)

@@ -26,6 +26,12 @@ array-write-heads-2 c = search needs
 array-write-heads-3 : tie.Need-array-write-heads-3
 array-write-heads-3 c = search needs
 
+cast-heads-3 : tie.Need-cast-heads-3
+cast-heads-3 c = search needs
+
+array-write-heads-4 : tie.Need-array-write-heads-4
+array-write-heads-4 c = search needs
+
 slice-aggregate-put-words : tie.Need-slice-aggregate-put-words
 slice-aggregate-put-words c = search needs
 
@@ -61,7 +67,7 @@ returns c =
     at-fresh-pools .fresh-pools .ensures
     ∙ ap (λ (x : List ℕ). sets x (72 + 8 * a .arenas) (freshPools (a .arenas * a .pools)))
     (arenas ∙ ap (λ (x : List ℕ). sets x 72 (freshArenas 0 (a .arenas))) (at-put-words .put-words .ensures))
-    ∙ fresh-whole (a .books .now) (a .arenas) (a .pools) (at-start .pre .2)
+    ∙ fresh-whole (a .books .now) (a .arenas) (a .pools) (a .edition) (at-start .pre .3)
 
 pub fresh-books-spec : {M : Type 1} → statement M
 fresh-books-spec =
@@ -72,6 +78,8 @@ fresh-books-spec =
     cast-heads-2
     array-write-heads-2
     array-write-heads-3
+    cast-heads-3
+    array-write-heads-4
     slice-aggregate-put-words
     put-words-requires
     fresh-arenas-requires

@@ -6,6 +6,8 @@ use native.Mathlib.Omega.{arith}
 use lib.Dec.{leb}
 use borrow.Author.Needs.{needs}
 use borrow.Author.Tests.{le-leb}
+use Rattle.rules.specs.Books.{alignmentOf}
+use Rattle.books.specs.Sizes.{aligned}
 use Rattle.loops.specs.Roll.{length-roll}
 use Rattle.loops.proofs.has_room.Statement.{statement}
 use Rattle.loops.proofs.has_room.Tie as tie
@@ -20,7 +22,8 @@ mul-if1 c = search needs
 returns : tie.Need-returns
 returns c =
     let a = start (c .before) .args in
-    sym (le-leb _ (a .room) (omega (arith, length-roll 8 (a .arenas) (a .books .now) (a .map .now) (omega arith) 0 (a .n))))
+    let most = length-roll (alignmentOf (a .edition)) (a .arenas) (a .books .now) (a .map .now) (aligned (a .edition) .low) 0 (a .n) in
+    sym (le-leb _ (a .room) (omega (arith, most)))
 
 count-words-requires : tie.Need-count-words-requires
 count-words-requires c κs = search needs

@@ -30,7 +30,7 @@ mul-all : tie.Need-mul-all
 mul-all c = omega (arith, shaped (c .before) .all)
 
 count-words-requires : tie.Need-count-words-requires
-count-words-requires c κs = let s = shaped (c .before) in (s .all, s .books, s .map, s .edition)
+count-words-requires c κs = let s = shaped (c .before) in (s .all, s .books, s .map)
 
 cast-result : tie.Need-cast-result
 cast-result c =

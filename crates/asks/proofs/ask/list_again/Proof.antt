@@ -40,7 +40,7 @@ same-length : tie.Need-same-length
 same-length c = simp (length-set, c .before .before .store-pool .kept .0)
 
 returns : tie.Need-returns
-returns c P =
+returns c al P =
     let at-store-pool = c .before .before in
     let at-again = at-store-pool .before in
     let at-load-pool = at-again .before .before in

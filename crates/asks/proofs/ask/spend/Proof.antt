@@ -50,19 +50,19 @@ same-length : tie.Need-same-length
 same-length c = simp (length-set, c .before .before .leave .kept .0)
 
 returns : tie.Need-returns
-returns c P class =
+returns c al P class =
     let at-leave = c .before .before in
     let a = start (at-leave .before .before .before) .args in
-    let left = spend-leaves (a .arenas) (a .a) (a .books .now) (omega arith) P class (omega arith) in
+    let left = spend-leaves (a .arenas) (a .a) (a .books .now) (omega arith) al P class (omega arith) in
     record { same = λ m k. ap (λ (x : List ℕ). heapOf m x k) (at-leave .leave .ensures) ∙ left .same m k }
 
 same-length-2 : tie.Need-same-length-2
 same-length-2 c = search needs
 
 returns-2 : tie.Need-returns-2
-returns-2 c P class =
+returns-2 c al P class =
     let a = start (c .before) .args in
-    spend-stays (a .arenas) (a .a) (a .books .now) (omega arith) P class (c .if1 .left)
+    spend-stays (a .arenas) (a .a) (a .books .now) (omega arith) al P class (c .if1 .left)
 
 pub spend-spec : {M : Type 1} → statement M
 spend-spec =

@@ -40,7 +40,7 @@ same-length c = search needs
 
 returns : tie.Need-returns
 unfolding takeFrom
-returns c class =
+returns c al class =
     let at-take-freed = c .before .before in
     let at-source = at-take-freed .before .before .before in
     rw (at-source .source .given .1) (refl, at-take-freed .take-freed .ensures)
@@ -60,11 +60,11 @@ same-length-2 c = search needs
 
 returns-2 : tie.Need-returns-2
 unfolding takeFrom
-returns-2 c class =
+returns-2 c al class =
     let at-carve = c .before .before in
     let at-source2 = at-carve .before .before .before in
     let at-start = start (at-source2 .before .before) in
-    rw (at-source2 .source2 .given .1) (refl, at-carve .carve .ensures (at-start .args .pools) class)
+    rw (at-source2 .source2 .given .1) (refl, at-carve .carve .ensures al (at-start .args .pools) class)
 
 enum-known-source-3 : tie.Need-enum-known-source-3
 enum-known-source-3 c = search needs
@@ -91,13 +91,13 @@ same-length-3 c = search needs
 
 returns-3 : tie.Need-returns-3
 unfolding takeFrom
-returns-3 c class =
+returns-3 c al class =
     let at-carve2 = c .before .before in
     let at-open-arena = at-carve2 .before .before .before .before in
     let at-source3 = at-open-arena .before .before .before in
     let at-start = start (at-source3 .before .before) in
     rw (at-source3 .source3 .given .1)
-    (refl, chain (at-open-arena .open-arena .ensures) (at-carve2 .carve2 .ensures (at-start .args .pools) class))
+    (refl, chain (at-open-arena .open-arena .ensures) (at-carve2 .carve2 .ensures al (at-start .args .pools) class))
 
 pub take-from-spec : {M : Type 1} → statement M
 take-from-spec =

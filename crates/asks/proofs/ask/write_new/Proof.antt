@@ -12,7 +12,7 @@ use Rattle.rules.proofs.AskPlan.{the-type}
 use Rattle.rules.specs.declared.AskPlan.{AskPlan}
 use Rattle.rules.specs.declared.AskPlan.the-variants.{NoRoom, Damaged, Again, Anew}
 use Rattle.rules.specs.declared.Source.the-variants.{Freed}
-use Rattle.rules.specs.Books.{Heap}
+use Rattle.rules.specs.Books.{Heap, alignmentOf}
 use Rattle.rules.specs.Outcome.{heapOf, outcome}
 use Rattle.rules.specs.Blocks.{putLink}
 use Rattle.rules.specs.Ask.{takeFrom, askAnswer, afterAsk, asked}
@@ -44,13 +44,13 @@ between tag (inr (inl e)) = omega arith
 between tag (inr (inr (inl e))) = omega arith
 between tag (inr (inr (inr e))) = omega arith
 
-refused-path : (A P s c : ℕ) (h : Heap) (q : AskPlan) → (1 ≤ tagOf the-type q) × (tagOf the-type q ≤ 4) → FitsNew A P s c (h .books) (h .map) q
-    → outcome (answered 6) h ≡ asked 8 A P c h q
+refused-path : (al A P s c : ℕ) (h : Heap) (q : AskPlan) → (1 ≤ tagOf the-type q) × (tagOf the-type q ≤ 4) → FitsNew A P s c (h .books) (h .map) q
+    → outcome (answered 6) h ≡ asked al A P c h q
 unfolding askAnswer afterAsk
-refused-path A P s c h NoRoom tag fits = absurd (omega arith)
-refused-path A P s c h Damaged tag fits = refl
-refused-path A P s c h (Again a p f l) tag fits = absurd (omega arith)
-refused-path A P s c h (Anew source p) tag fits = absurd (omega arith)
+refused-path al A P s c h NoRoom tag fits = absurd (omega arith)
+refused-path al A P s c h Damaged tag fits = refl
+refused-path al A P s c h (Again a p f l) tag fits = absurd (omega arith)
+refused-path al A P s c h (Anew source p) tag fits = absurd (omega arith)
 
 -- what the path knows of its numbers, by the plan's form; `rw .. at` would rewrite the plan all over the start
 known : (c : tie.After-slice-known3) (q : AskPlan) → start c .args .plan ≡ q
@@ -85,7 +85,8 @@ spend-requires c κs =
     let a = at-start .args in
     let fits = known (at-plan .before .before) _ (at-plan .plan .given .1) in
     let values = at-plan .plan .given .0 in
-    let spends = taken-spends (a .arenas) (a .pools) (a .class) (values .1 .0) (a .books .now) _ (Freed (values .0)) (at-start .pre .0 .pools-low)
+    let al = alignmentOf (a .edition) in
+    let spends = taken-spends al (a .arenas) (a .pools) (a .class) (values .1 .0) (a .books .now) _ (Freed (values .0)) (at-start .pre .0 .pools-low)
     (omega arith) (fits .0) (at-take-freed .take-freed .ensures) in
     (at-start .pre .0 .arenas-high, omega arith, spends)
 
@@ -118,12 +119,11 @@ returns-2 c =
     let at-plan = at-take-freed .before .before .before in
     let at-start = start (at-plan .before .before) in
     let a = at-start .args in
-    let fits = known (at-plan .before .before) _ (at-plan .plan .given .1) in
-    let spent = at-spend .spend .ensures (a .pools) (a .class) in
+    let spent = at-spend .spend .ensures (alignmentOf (a .edition)) (a .pools) (a .class) in
     let listed = at-list-again .list-again in
     rw (at-plan .plan .given .1, ← at-start .pre .1 .size)
-    (handed (a .size) _ _ (heapOf (a .memory .now) (listed .last .0) (a .map .now)) _ _ _ (fits .1 .start .low)
-    (chain (chain (at-take-freed .take-freed .ensures) spent) (listed .ensures (a .pools)) .same (a .memory .now) (a .map .now))
+    (handed (a .size) _ _ (heapOf (a .memory .now) (listed .last .0) (a .map .now)) _ _ _
+    (chain (chain (at-take-freed .take-freed .ensures) spent) (listed .ensures (alignmentOf (a .edition)) (a .pools)) .same (a .memory .now) (a .map .now))
     (at-hand-out .hand-out .ensures .0)
     (at-hand-out .hand-out .ensures .1))
 
@@ -143,8 +143,9 @@ spend-requires-2 c κs =
     let at-start = start (at-plan2 .before .before) in
     let a = at-start .args in
     let fits = known (at-plan2 .before .before) _ (at-plan2 .plan2 .given .1) in
-    let taken = at-take-from .take-from .ensures (a .class) in
-    let spends = taken-spends (a .arenas) (a .pools) (a .class) _ (a .books .now) _ _ (at-start .pre .0 .pools-low) (omega arith) (fits .0) (taken .1) in
+    let taken = at-take-from .take-from .ensures (alignmentOf (a .edition)) (a .class) in
+    let spends = taken-spends (alignmentOf (a .edition)) (a .arenas) (a .pools) (a .class) _ (a .books .now) _ _ (at-start .pre .0 .pools-low)
+    (omega arith) (fits .0) (taken .1) in
     (at-start .pre .0 .arenas-high, omega arith, rw (taken .0) spends)
 
 list-anew-requires : tie.Need-list-anew-requires
@@ -200,14 +201,14 @@ returns-3 c =
     let at-plan2 = at-take-from .before .before .before in
     let at-start = start (at-plan2 .before .before) in
     let a = at-start .args in
-    let taken = at-take-from .take-from .ensures (a .class) in
-    let spent = rw (taken .0) at (at-spend2 .spend2 .ensures (a .pools) (a .class)) in
+    let taken = at-take-from .take-from .ensures (alignmentOf (a .edition)) (a .class) in
+    let spent = rw (taken .0) at (at-spend2 .spend2 .ensures (alignmentOf (a .edition)) (a .pools) (a .class)) in
     let listed = at-list-anew .list-anew in
     let linked = at-put-link .put-link in
     rw (at-plan2 .plan2 .given .1, ← at-start .pre .1 .size)
-    (handed (a .size) _ 48 (heapOf (linked .last .0) (listed .last .0) (a .map .now)) _ _ _ (omega arith)
+    (handed (a .size) _ 48 (heapOf (linked .last .0) (listed .last .0) (a .map .now)) _ _ _
     (with-link (putLink _ 0) (a .memory .now) _ _ _ _ (linked .ensures)
-    (chain (chain (taken .1) spent) (listed .ensures (a .pools)) .same (a .memory .now) (a .map .now)))
+    (chain (chain (taken .1) spent) (listed .ensures (alignmentOf (a .edition)) (a .pools)) .same (a .memory .now) (a .map .now)))
     (at-hand-out2 .hand-out2 .ensures .0)
     (at-hand-out2 .hand-out2 .ensures .1))
 
@@ -216,7 +217,7 @@ returns-4 c =
     let at-start = start (c .before) in
     let a = at-start .args in
     let h = heapOf (a .memory .now) (a .books .now) (a .map .now) in
-    refused-path (a .arenas) (a .pools) (a .size) (a .class) h (a .plan) (between _ (c .match .keys4)) (at-start .pre .2)
+    refused-path (alignmentOf (a .edition)) (a .arenas) (a .pools) (a .size) (a .class) h (a .plan) (between _ (c .match .keys4)) (at-start .pre .2)
 
 pub write-new-spec : {M : Type 1} → statement M
 write-new-spec =

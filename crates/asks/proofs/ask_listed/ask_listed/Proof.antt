@@ -4,6 +4,7 @@
 use mathlib.Core.Path.{_≡_, refl, sym, ap, _∙_}
 use mathlib.Core.Bool.{true}
 use native.Mathlib.Omega.{arith}
+use Rattle.rules.specs.Books.{alignmentOf}
 use Rattle.rules.specs.Ask.{asked, askAnswer, afterAsk}
 use Rattle.rules.specs.Outcome.{heapOf}
 use Rattle.books.specs.Records.{mayServe}
@@ -44,8 +45,8 @@ returns c =
     let at-start = start at-load-pool in
     let a = at-start .args in
     let h = heapOf (a .memory .now) (a .books .now) (a .map .now) in
-    damaged 8 (a .arenas) (a .pools) (a .class) h _
-    (not-serving 8 (a .arenas) (a .pools) h (a .class) (a .p) (a .size) (at-load-pool .load-pool .result)
+    damaged (alignmentOf (a .edition)) (a .arenas) (a .pools) (a .class) h _
+    (not-serving (alignmentOf (a .edition)) (a .arenas) (a .pools) h (a .class) (a .p) (a .size) (at-load-pool .load-pool .result)
     (at-start .pre .1 .size) (at-load-pool .load-pool .ensures)
     (failed (at-may-serve .may-serve .ensures) (c .if1 .taken)))
 
@@ -77,8 +78,8 @@ returns-2 c =
     let at-start = start at-load-pool in
     let a = at-start .args in
     let h = heapOf (a .memory .now) (a .books .now) (a .map .now) in
-    damaged 8 (a .arenas) (a .pools) (a .class) h _
-    (not-spare 8 (a .arenas) (a .pools) h (a .class) (a .p) (a .size) (at-load-pool .load-pool .result)
+    damaged (alignmentOf (a .edition)) (a .arenas) (a .pools) (a .class) h _
+    (not-spare (alignmentOf (a .edition)) (a .arenas) (a .pools) h (a .class) (a .p) (a .size) (at-load-pool .load-pool .result)
     (at-start .pre .1 .size) (at-load-pool .load-pool .ensures) (at-index .index .result) (at-index .index .ensures .0) _ refl
     (serves at-if1) (failed (at-spare .spare .ensures) (c .if2 .taken)))
 
@@ -100,7 +101,7 @@ passed c =
     let at-start = start at-load-pool in
     let a = at-start .args in
     let h = heapOf (a .memory .now) (a .books .now) (a .map .now) in
-    front 8 (a .arenas) (a .pools) h (a .class) (a .p) (a .size) (at-load-pool .load-pool .result)
+    front (alignmentOf (a .edition)) (a .arenas) (a .pools) h (a .class) (a .p) (a .size) (at-load-pool .load-pool .result)
     (at-start .pre .1 .size) (at-load-pool .load-pool .ensures) (at-index .index .result) (at-index .index .ensures .0)
     (omega (arith, at-start .pre .1 .size)) (at-start .pre .2)
     (serves (at-index .before)) (held (at-spare .spare .ensures) (c .if2 .left))
@@ -145,8 +146,8 @@ returns-3 c =
     let a = at-start .args in
     let h = heapOf (a .memory .now) (a .books .now) (a .map .now) in
     at-ask-unlinked .ask-unlinked .ensures
-    ∙ ap (asked 8 (a .arenas) (a .pools) (a .class) h)
-    (sym (unlinked 8 (a .arenas) (a .pools) h (a .class) (a .p) (a .size) (at-load-pool .load-pool .result)
+    ∙ ap (asked (alignmentOf (a .edition)) (a .arenas) (a .pools) (a .class) h)
+    (sym (unlinked (alignmentOf (a .edition)) (a .arenas) (a .pools) h (a .class) (a .p) (a .size) (at-load-pool .load-pool .result)
     (at-start .pre .1 .size) (at-load-pool .load-pool .ensures) (at-index .index .result) (at-index .index .ensures .0) (at-index2 .index2 .result)
     (at-index2 .index2 .ensures .0 ∙ at-link-at .link-at .ensures)
     (serves (at-index .before)) (held (at-spare .spare .ensures) (at-if2 .if2 .left)) (at-if3 .if3 .taken)))
@@ -176,8 +177,8 @@ returns-4 c =
     let at-start = start at-load-pool in
     let a = at-start .args in
     let h = heapOf (a .memory .now) (a .books .now) (a .map .now) in
-    damaged 8 (a .arenas) (a .pools) (a .class) h _
-    (linked-wrong 8 (a .arenas) (a .pools) h (a .class) (a .p) (a .size) (at-load-pool .load-pool .result)
+    damaged (alignmentOf (a .edition)) (a .arenas) (a .pools) (a .class) h _
+    (linked-wrong (alignmentOf (a .edition)) (a .arenas) (a .pools) h (a .class) (a .p) (a .size) (at-load-pool .load-pool .result)
     (at-start .pre .1 .size) (at-load-pool .load-pool .ensures) (at-index .index .result) (at-index .index .ensures .0) (at-index2 .index2 .result)
     (at-index2 .index2 .ensures .0 ∙ at-link-at .link-at .ensures)
     (serves (at-index .before)) (held (at-spare .spare .ensures) (at-if2 .if2 .left)) (at-if3 .if3 .left)
@@ -235,7 +236,7 @@ returns-5 c =
     let a = at-start .args in
     let h = heapOf (a .memory .now) (a .books .now) (a .map .now) in
     rw (
-      follows 8 (a .arenas) (a .pools) h (a .class) (a .p) (a .size) (at-load-pool .load-pool .result)
+      follows (alignmentOf (a .edition)) (a .arenas) (a .pools) h (a .class) (a .p) (a .size) (at-load-pool .load-pool .result)
           (at-start .pre .1 .size) (at-load-pool .load-pool .ensures) (at-index .index .result) (at-index .index .ensures .0) (at-index2 .index2 .result)
           (at-index2 .index2 .ensures .0 ∙ at-link-at .link-at .ensures)
           (serves (at-index .before)) (held (at-spare .spare .ensures) (at-if2 .if2 .left))
@@ -243,7 +244,6 @@ returns-5 c =
       ← at-start .pre .1 .size,
     )
     (handed (a .size) _ _ (heapOf (a .memory .now) (at-store-pool .store-pool .last .0) (a .map .now)) _ _ _
-    (omega (arith, passed at-if2 .start .low, at-index .index .ensures .0))
     (take-writes (a .arenas) (a .p) (at-load-pool .load-pool .result) (at-take .take .result) (a .books .now) _
     (at-load-pool .load-pool .ensures) (at-store-pool .store-pool .ensures) (at-index2 .index2 .result) (at-take .take .ensures)
     .same (a .memory .now) (a .map .now))

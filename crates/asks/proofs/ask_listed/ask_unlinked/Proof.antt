@@ -4,6 +4,7 @@
 use mathlib.Core.Path.{refl}
 use Prim.Native.Nat.{_*_}
 use native.Mathlib.Omega.{arith}
+use Rattle.rules.specs.Books.{alignmentOf}
 use Rattle.rules.specs.Ask.{askAnswer, afterAsk}
 use Rattle.rules.specs.Blocks.{putLink}
 use Rattle.rules.specs.Outcome.{heapOf}
@@ -51,8 +52,8 @@ returns c =
     let at-start = start at-index in
     let a = at-start .args in
     let h = heapOf (a .memory .now) (a .books .now) (a .map .now) in
-    damaged 8 (a .arenas) (a .pools) (a .class) h _
-    (not-ready 8 (a .arenas) (a .pools) h (a .class) (a .p) (a .size) (a .pool) (at-start .pre .1 .size) (at-start .pre .2 .loaded)
+    damaged (alignmentOf (a .edition)) (a .arenas) (a .pools) (a .class) h _
+    (not-ready (alignmentOf (a .edition)) (a .arenas) (a .pools) h (a .class) (a .p) (a .size) (a .pool) (at-start .pre .1 .size) (at-start .pre .2 .loaded)
     (at-index .index .result) (at-index .index .ensures .0)
     (at-index2 .index2 .result) (at-index2 .index2 .ensures .0) (at-if1 .if1 .taken) (failed (at-spare .spare .ensures) (c .if2 .taken)))
 
@@ -126,13 +127,12 @@ returns-2 c =
     let a = at-start .args in
     let h = heapOf (a .memory .now) (a .books .now) (a .map .now) in
     rw (
-      is-ready 8 (a .arenas) (a .pools) h (a .class) (a .p) (a .size) (a .pool) (at-start .pre .1 .size) (at-start .pre .2 .loaded)
+      is-ready (alignmentOf (a .edition)) (a .arenas) (a .pools) h (a .class) (a .p) (a .size) (a .pool) (at-start .pre .1 .size) (at-start .pre .2 .loaded)
           (at-index .index .result) (at-index .index .ensures .0)
           (at-index2 .index2 .result) (at-index2 .index2 .ensures .0) (at-if1 .if1 .taken) (held (at-spare .spare .ensures) (at-if2 .if2 .left)),
       ← at-start .pre .1 .size,
     )
     (handed (a .size) _ _ (heapOf (at-put-link .put-link .last .0) (at-store-pool .store-pool .last .0) (a .map .now)) _ _ _
-    (omega (arith, at-start .pre .2 .start .low, at-index .index .ensures .0))
     (with-link (putLink _ 0) (a .memory .now) _ _ _ _ (at-put-link .put-link .ensures)
     (expose-writes (a .arenas) (a .p) (a .pool) (at-expose .expose .result) (a .books .now) _ (at-start .pre .2 .loaded) (at-store-pool .store-pool .ensures)
     (at-index2 .index2 .result) (a .size) (at-index2 .index2 .ensures .0) (at-expose .expose .ensures) .same (a .memory .now) (a .map .now)))
@@ -153,8 +153,8 @@ returns-3 c =
     let at-start = start at-index in
     let a = at-start .args in
     let h = heapOf (a .memory .now) (a .books .now) (a .map .now) in
-    damaged 8 (a .arenas) (a .pools) (a .class) h _
-    (stuck 8 (a .arenas) (a .pools) h (a .class) (a .p) (a .size) (a .pool) (at-start .pre .1 .size) (at-start .pre .2 .loaded)
+    damaged (alignmentOf (a .edition)) (a .arenas) (a .pools) (a .class) h _
+    (stuck (alignmentOf (a .edition)) (a .arenas) (a .pools) h (a .class) (a .p) (a .size) (a .pool) (at-start .pre .1 .size) (at-start .pre .2 .loaded)
     (at-index .index .result) (at-index .index .ensures .0)
     (a .pool .nextoffset) refl (at-if1 .if1 .left) (failed (at-may-leave .may-leave .ensures) (c .if3 .taken)))
 
@@ -213,13 +213,12 @@ returns-4 c =
     let a = at-start .args in
     let h = heapOf (a .memory .now) (a .books .now) (a .map .now) in
     rw (
-      is-last 8 (a .arenas) (a .pools) h (a .class) (a .p) (a .size) (a .pool) (at-start .pre .1 .size) (at-start .pre .2 .loaded)
+      is-last (alignmentOf (a .edition)) (a .arenas) (a .pools) h (a .class) (a .p) (a .size) (a .pool) (at-start .pre .1 .size) (at-start .pre .2 .loaded)
           (at-index .index .result) (at-index .index .ensures .0)
           (a .pool .nextoffset) refl (at-if1 .if1 .left) (held (at-may-leave .may-leave .ensures) (at-if3 .if3 .left)),
       ← at-start .pre .1 .size,
     )
     (handed (a .size) _ _ (heapOf (a .memory .now) (at-leave-by .leave-by .last .0) (a .map .now)) _ _ _
-    (omega (arith, at-start .pre .2 .start .low, at-index .index .ensures .0))
     (last-writes (a .arenas) (a .p) (a .pool) (at-take .take .result) (a .books .now) _ (at-start .pre .2 .loaded) (at-store-pool2 .store-pool2 .ensures)
     (a .class) _ (at-take .take .ensures) (rw (← at-pool-links .pool-links .ensures) (at-leave-by .leave-by .ensures)) .same (a .memory .now) (a .map .now))
     (at-hand-out2 .hand-out2 .ensures .0)

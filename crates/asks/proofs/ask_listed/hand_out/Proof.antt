@@ -21,8 +21,8 @@ mul-result c = search needs
 add-result : tie.Need-add-result
 add-result c = search needs
 
-cast-result : tie.Need-cast-result
-cast-result c = search needs
+mul-result-2 : tie.Need-mul-result-2
+mul-result-2 c = search needs
 
 same-length : tie.Need-same-length
 same-length c = search needs
@@ -36,4 +36,4 @@ returns c =
 pub hand-out-spec : {M : Type 1} → statement M
 hand-out-spec =
     tie.close
-    (tie.spec block-no-requires set-bit-requires mul-result add-result cast-result same-length returns)
+    (tie.spec block-no-requires set-bit-requires mul-result add-result mul-result-2 same-length returns)

@@ -31,12 +31,13 @@ shared-slice-read-result c = search needs
 
 cast-result : tie.Need-cast-result
 cast-result c =
-    let at-start = c .before in
-    let a = at-start .args in
+    let a = c .before .args in
     omega (arith, c .shared-slice-known .given (poolWord (a .arenas) class (a .offset / 4096)))
 
 returns : tie.Need-returns
-returns c = search needs
+returns c =
+    let a = c .before .args in
+    (search needs, omega (arith, c .shared-slice-known .given (poolWord (a .arenas) class (a .offset / 4096))))
 
 pub class-at-spec : {M : Type 1} → statement M
 class-at-spec =

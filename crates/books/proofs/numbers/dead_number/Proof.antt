@@ -6,6 +6,7 @@ use mathlib.Core.Bool.{Bool}
 use Prim.Native.Nat.{ℕ, _/_, _*_, _<_}
 use native.Mathlib.Omega.{arith}
 use Rattle.rules.specs.Say.{if_then_else_}
+use Rattle.rules.specs.Books.{alignmentOf}
 use Rattle.rules.specs.Blocks.{isBlock}
 use Rattle.books.specs.Known.{at-start-is}
 use borrow.Author.Needs.{needs}
@@ -16,7 +17,7 @@ use Rattle.books.proofs.numbers.dead_number.Tie as tie
 inside : (c : tie.Start) → c .args .offset / 4096 < c .args .arenas * c .args .pools
 inside c =
     let a = c .args in
-    omega (arith, at-start-is 8 (a .arenas) (a .pools) (a .books .now) (a .offset) (c .pre .4) .0)
+    omega (arith, at-start-is (alignmentOf (a .edition)) (a .arenas) (a .pools) (a .books .now) (a .offset) (c .pre .4) .0)
 
 mul-word : tie.Need-mul-word
 mul-word c = search needs

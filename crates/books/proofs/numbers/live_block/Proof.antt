@@ -2,12 +2,14 @@
 -- the others fails there is no block, and where the bit is not set `dead_number` decides.
 -- Assumes nothing.
 use mathlib.Core.Path.{_≡_, sym, ap, _∙_}
-use mathlib.Core.Bool.{true, false}
+use mathlib.Core.Bool.{true}
 use Prim.Native.Nat.{ℕ, _%_}
 use native.Mathlib.Omega.{arith}
-use borrow.Author.Tests.{lt-ltb, le-ltb, lt-leb, le-leb}
-use Rattle.rules.specs.Books.{memoryLength}
-use Rattle.rules.specs.Blocks.{sizeOf, isStart, blockNo, sizeAt, atStart, live, isBlock}
+use lib.Dec.{leb, ltb}
+use borrow.Author.Tests.{lt-ltb, le-ltb}
+use Rattle.rules.specs.Books.{alignmentOf, memoryLength}
+use Rattle.rules.specs.Blocks.{sizeOf, lastClass, blockNo, classAt, sizeAt, atStart, live, isBlock}
+use Rattle.books.specs.Sizes.{aligned, no-class, a-class}
 use Rattle.books.specs.Tests.{held, failed}
 use Rattle.books.specs.Known.{blockAt, when-set, when-clear}
 use borrow.Author.Needs.{needs}
@@ -23,25 +25,46 @@ unfolding live isBlock blockAt
 returns c =
     let at-start = start (c .before) in
     let a = at-start .args in
-    simp (le-ltb (a .offset) (memoryLength (a .arenas) (a .pools)) (omega (arith, c .if1 .taken, at-start .pre .memory)))
+    (simp (le-ltb (a .offset) (memoryLength (a .arenas) (a .pools)) (omega (arith, c .if1 .taken, at-start .pre .memory))), λ l. absurd (omega arith))
 
 class-at-requires : tie.Need-class-at-requires
 class-at-requires c κs = search needs
 
+size-of-requires : tie.Need-size-of-requires
+size-of-requires c κs = search needs
+
+-- the size is that of the offset's pool
+size-is : (c : tie.After-size-of)
+    → let a = start (c .before .before .before) .args in c .size-of .result ≡ sizeAt (alignmentOf (a .edition)) (a .arenas) (a .books .now) (a .offset)
+size-is c =
+    let a = start (c .before .before .before) .args in
+    c .size-of .ensures .0 ∙ ap (sizeOf (alignmentOf (a .edition))) (c .before .class-at .ensures .0)
+
+-- past the first test the offset lies in memory
+inside : (c : tie.Else1)
+    → let a = start (c .before) .args in ltb (a .offset) (memoryLength (a .arenas) (a .pools)) ≡ true
+inside c =
+    let at-start = start (c .before) in
+    let a = at-start .args in
+    lt-ltb (a .offset) (memoryLength (a .arenas) (a .pools)) (omega (arith, c .if1 .left, at-start .pre .memory))
+
 returns-2 : tie.Need-returns-2
 unfolding live isBlock blockAt
 returns-2 c =
-    let at-if1 = c .before .before in
-    let at-start = start (at-if1 .before) in
-    let a = at-start .args in
-    simp (
-      lt-ltb (a .offset) (memoryLength (a .arenas) (a .pools)) (omega (arith, at-if1 .if1 .left, at-start .pre .memory)),
-      ← c .before .class-at .ensures,
-      lt-leb _ _ (c .if2 .taken),
-    )
+    let at-size-of = c .before in
+    let at-if1 = at-size-of .before .before in
+    let a = start (at-if1 .before) .args in
+    let large = no-class (aligned (a .edition)) (classAt (a .arenas) (a .books .now) (a .offset)) (omega (arith, size-is at-size-of, c .if2 .taken)) in
+    (simp (inside at-if1, large), λ l. absurd (omega arith))
 
-size-of-requires : tie.Need-size-of-requires
-size-of-requires c κs = search needs
+-- past the second its pool has a class
+classed : (c : tie.Else2)
+    → let a = start (c .before .before .before .before) .args in
+    leb (classAt (a .arenas) (a .books .now) (a .offset)) (lastClass (alignmentOf (a .edition))) ≡ true
+classed c =
+    let at-size-of = c .before in
+    let a = start (at-size-of .before .before .before) .args in
+    a-class (aligned (a .edition)) (classAt (a .arenas) (a .books .now) (a .offset)) (omega (arith, size-is at-size-of, c .if2 .left))
 
 is-start-requires : tie.Need-is-start-requires
 is-start-requires c κs = search needs
@@ -50,27 +73,16 @@ returns-3 : tie.Need-returns-3
 unfolding live isBlock blockAt
 returns-3 c =
     let at-is-start = c .before in
-    let at-size-of = at-is-start .before in
-    let at-if2 = at-size-of .before in
-    let at-class-at = at-if2 .before in
-    let at-if1 = at-class-at .before in
-    let at-start = start (at-if1 .before) in
-    let a = at-start .args in
-    let e : isStart (at-size-of .size-of .result) (a .offset % 4096) ≡ false = failed (at-is-start .is-start .ensures) (c .if3 .taken) in
-    simp (
-      lt-ltb (a .offset) (memoryLength (a .arenas) (a .pools)) (omega (arith, at-if1 .if1 .left, at-start .pre .memory)),
-      ← at-class-at .class-at .ensures,
-      le-leb _ _ (at-if2 .if2 .left),
-      ← at-size-of .size-of .ensures .0,
-      e,
-    )
+    let at-if2 = at-is-start .before in
+    let at-size-of = at-if2 .before in
+    let at-if1 = at-size-of .before .before in
+    (simp (inside at-if1, classed at-if2, ← size-is at-size-of, failed (at-is-start .is-start .ensures) (c .if3 .taken)), λ l. absurd (omega arith))
 
 block-no-requires : tie.Need-block-no-requires
 block-no-requires c κs =
     let at-is-start = c .before in
-    let at-size-of = at-is-start .before in
-    let s = at-size-of .size-of .ensures in
-    (s .1, s .2, held (at-is-start .is-start .ensures) (c .if3 .left))
+    let at-if2 = at-is-start .before in
+    (at-if2 .before .size-of .ensures .1, omega (arith, at-if2 .if2 .left), held (at-is-start .is-start .ensures) (c .if3 .left))
 
 is-set-requires : tie.Need-is-set-requires
 is-set-requires c κs = search needs
@@ -81,52 +93,47 @@ began c = start (c .before .before .before .before .before .before .before .befo
 
 -- the tests before it are passed: a block may start there
 starts : (c : tie.After-is-set)
-    → let a = began c .args in atStart 8 (a .arenas) (a .pools) (a .books .now) (a .offset) ≡ true
+    → let a = began c .args in atStart (alignmentOf (a .edition)) (a .arenas) (a .pools) (a .books .now) (a .offset) ≡ true
 starts c =
     let at-if3 = c .before .before in
     let at-is-start = at-if3 .before in
-    let at-size-of = at-is-start .before in
-    let at-if2 = at-size-of .before in
-    let at-class-at = at-if2 .before in
-    let at-if1 = at-class-at .before in
-    let a = began c .args in
-    let e : isStart (at-size-of .size-of .result) (a .offset % 4096) ≡ true = held (at-is-start .is-start .ensures) (at-if3 .if3 .left) in
-    simp (
-      lt-ltb (a .offset) (memoryLength (a .arenas) (a .pools)) (omega (arith, at-if1 .if1 .left, began c .pre .memory)),
-      ← at-class-at .class-at .ensures,
-      le-leb _ _ (at-if2 .if2 .left),
-      ← at-size-of .size-of .ensures .0,
-      e,
-    )
+    let at-if2 = at-is-start .before in
+    let at-size-of = at-if2 .before in
+    simp (inside (at-size-of .before .before), classed at-if2, ← size-is at-size-of, held (at-is-start .is-start .ensures) (at-if3 .if3 .left))
 
 -- and which
 block-is : (c : tie.After-is-set)
-    → let a = began c .args in c .before .block-no .result ≡ blockNo (sizeAt 8 (a .arenas) (a .books .now) (a .offset)) (a .offset % 4096)
+    → let a = began c .args in
+    c .before .block-no .result ≡ blockNo (sizeAt (alignmentOf (a .edition)) (a .arenas) (a .books .now) (a .offset)) (a .offset % 4096)
 block-is c =
     let at-block-no = c .before in
-    let at-size-of = at-block-no .before .before .before in
-    at-block-no .block-no .ensures .0
-    ∙ ap (λ (s : ℕ). blockNo s (began c .args .offset % 4096))
-    (at-size-of .size-of .ensures .0 ∙ ap (sizeOf 8) (at-size-of .before .before .class-at .ensures))
+    let at-size-of = at-block-no .before .before .before .before in
+    at-block-no .block-no .ensures .0 ∙ ap (λ (s : ℕ). blockNo s (began c .args .offset % 4096)) (size-is at-size-of)
 
 returns-4 : tie.Need-returns-4
-returns-4 c = let at-bit = c .before in when-set 8 _ _ _ _ _ _ (starts at-bit) (block-is at-bit) (sym (at-bit .is-set .ensures) ∙ c .if4 .taken)
+returns-4 c =
+    let at-bit = c .before in (
+      when-set _ _ _ _ _ _ _ (starts at-bit) (block-is at-bit) (sym (at-bit .is-set .ensures) ∙ c .if4 .taken),
+      λ l. size-is (at-bit .before .before .before .before .before),
+    )
 
 dead-number-requires : tie.Need-dead-number-requires
 dead-number-requires c κs =
     let h = began (c .before) .pre in
     (omega (arith, h .pools-low), h .arenas-high, h .all, h .books, starts (c .before))
 
-cast-result : tie.Need-cast-result
-cast-result c = search needs
+cast-t11 : tie.Need-cast-t11
+cast-t11 c = search needs
 
-add-result : tie.Need-add-result
-add-result c = search needs
+add-t16 : tie.Need-add-t16
+add-t16 c = search needs
 
 returns-5 : tie.Need-returns-5
 returns-5 c =
-    let at-bit = c .before .before in
-    when-clear 8 _ _ _ _ _ _ (starts at-bit) (block-is at-bit) (sym (at-bit .is-set .ensures) ∙ c .before .if4 .left) _ (c .dead-number .ensures .0)
+    let at-bit = c .before .before in (
+      when-clear _ _ _ _ _ _ _ (starts at-bit) (block-is at-bit) (sym (at-bit .is-set .ensures) ∙ c .before .if4 .left) _ (c .dead-number .ensures .0),
+      λ l. absurd (omega arith),
+    )
 
 pub live-block-spec : {M : Type 1} → statement M
 live-block-spec =
@@ -134,14 +141,14 @@ live-block-spec =
     (tie.spec
     returns
     class-at-requires
-    returns-2
     size-of-requires
+    returns-2
     is-start-requires
     returns-3
     block-no-requires
     is-set-requires
     returns-4
     dead-number-requires
-    cast-result
-    add-result
+    cast-t11
+    add-t16
     returns-5)

@@ -3,6 +3,7 @@
 -- Assumes nothing.
 use mathlib.Core.Path.{sym}
 use native.Mathlib.Omega.{arith}
+use Rattle.books.specs.Sizes.{aligned}
 use Rattle.books.specs.Known.{found, NotFound, not-found}
 use borrow.Author.Needs.{needs}
 use Rattle.books.proofs.numbers.live_number.Statement.{statement}
@@ -14,9 +15,9 @@ start c = c .before .before .before .before
 
 -- what is known where the offset is refused
 dead : (c : tie.Then1)
-    → let a = start (c .before) .args in
-    NotFound 8 (a .arenas) (a .pools) (a .books .now) (a .map .now) (a .offset) (omega arith) (omega arith) (c .before .live-block .result)
-dead c = not-found 8 _ _ _ _ _ (omega arith) (omega arith) _ (c .before .live-block .ensures) (c .if1 .taken)
+    → let a = start (c .before .before) .args in
+    NotFound (aligned (a .edition)) (a .arenas) (a .pools) (a .books .now) (a .map .now) (a .offset) (c .before .before .live-block .result .number)
+dead c = not-found (aligned (start (c .before .before) .args .edition)) _ _ _ _ _ _ (c .before .before .live-block .ensures .0) (c .if1 .taken)
 
 live-block-requires : tie.Need-live-block-requires
 live-block-requires c κs = search needs
@@ -29,9 +30,9 @@ returns c = let t = dead (c .before) .number (c .refusal .result) (c .refusal .e
 
 returns-2 : tie.Need-returns-2
 returns-2 c =
-    let a = start (c .before) .args in
-    let f = found 8 (a .arenas) (a .pools) (a .books .now) (a .map .now) (a .offset) (omega arith) (omega arith)
-    (omega (arith, c .if1 .left, c .before .live-block .ensures)) in
+    let a = start (c .before .before) .args in
+    let f = found (aligned (a .edition)) (a .arenas) (a .pools) (a .books .now) (a .map .now) (a .offset)
+    (omega (arith, c .if1 .left, c .before .before .live-block .ensures .0)) in
     (sym (f .number), λ z. f .live-block)
 
 pub live-number-spec : {M : Type 1} → statement M

@@ -28,9 +28,15 @@ keeps-requires c κs = search needs
 returns : tie.Need-returns
 unfolding fromFreed
 returns c =
-    let at-index = c .before .before in
-    let at-load-pool = at-index .before .before in
-    cc (at-index .index .ensures .0 ∙ ap (λ (q : Pool). q .next) (at-load-pool .load-pool .ensures))
+    let at-counted = c .before in
+    let at-index = at-counted .before in
+    let at-take-again = at-index .before in
+    let at-load-pool = at-take-again .before in
+    rw (
+      ← at-index .index .ensures .0 ∙ ap (λ (q : Pool). q .next) (at-load-pool .load-pool .ensures),
+      ← at-take-again .take-again .ensures,
+      ← at-counted .counted .ensures,
+    ) (c .keeps .ensures)
 
 pub from-freed-spec : {M : Type 1} → statement M
 from-freed-spec =

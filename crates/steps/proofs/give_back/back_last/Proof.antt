@@ -7,7 +7,7 @@ use mathlib.Core.Bool.{true, _&&_}
 use Prim.Native.Nat.{ℕ, _/_, _%_}
 use native.Mathlib.Omega.{arith}
 use lib.ListN.{length}
-use Rattle.rules.specs.Books.{Heap, onBooks}
+use Rattle.rules.specs.Books.{alignmentOf, Heap, onBooks}
 use Rattle.rules.specs.GiveBack.{givenBack}
 use Rattle.rules.specs.Outcome.{heapOf, outcome, answerOf}
 use Rattle.books.specs.Tests.{both, held, failed}
@@ -64,11 +64,11 @@ returns c =
     let at-start = start at-arena-of in
     let a = at-start .args in
     let h = heapOf (a .memory .now) (a .books .now) (a .map .now) in
-    let broken = stuck 8 (a .arenas) (a .pools) (a .books .now) (a .pool .class) (a .offset / 4096) (at-arena-of .arena-of .result)
+    let broken = stuck (alignmentOf (a .edition)) (a .arenas) (a .pools) (a .books .now) (a .pool .class) (a .offset / 4096) (at-arena-of .arena-of .result)
     (at-arena-word .arena-word .result) (a .pool) (at-start .pre .1 .loaded)
     (at-arena-of .arena-of .ensures .0) (at-arena-word .arena-word .ensures .0) (failed (tested (c .before)) (c .if1 .taken)) in
-    damaged 8 (a .arenas) (a .pools) (a .pool .class) h (a .offset)
-    ∙ ap (givenBack 8 (a .arenas) (a .pools) (a .pool .class) h (a .offset)) (sym broken)
+    damaged (alignmentOf (a .edition)) (a .arenas) (a .pools) (a .pool .class) h (a .offset)
+    ∙ ap (givenBack (alignmentOf (a .edition)) (a .arenas) (a .pools) (a .pool .class) h (a .offset)) (sym broken)
 
 -- once the test has passed, each of the two holds
 passed : (c : tie.Else1)
@@ -166,15 +166,16 @@ returns-2 c =
     let f = a .offset % 4096 in
     let h = heapOf (a .memory .now) (a .books .now) (a .map .now) in
     let free = at-arena-word .arena-word .result in
-    let path = settles 8 (a .arenas) (a .pools) (a .books .now) (a .pool .class) p (at-arena-of .arena-of .result) free (a .pool) (at-start .pre .1 .loaded)
+    let path = settles (alignmentOf (a .edition)) (a .arenas) (a .pools) (a .books .now) (a .pool .class) p (at-arena-of .arena-of .result) free (a .pool)
+    (at-start .pre .1 .loaded)
     (at-arena-of .arena-of .ensures .0) (at-arena-word .arena-word .ensures .0) (held (tested at-may-settle) (at-if1 .if1 .left)) in
     ap (λ (x : List ℕ). outcome (answerOf 0 (a .offset)) (heapOf (at-take-back .take-back .last .0) x (at-take-back .take-back .last .1 .1 .0)))
     (at-settle .settle .ensures
     ∙ ap₂ (λ (n : ℕ) (x : List ℕ). settled (a .pools) n free x) (at-arena-of .arena-of .ensures .0) (at-empty-pool .empty-pool .ensures))
     ∙ ap (λ (x : Heap). outcome (answerOf 0 (a .offset))
     (onBooks (λ b. settled (a .pools) (p / a .pools) free (emptied (a .arenas) (a .pools) (a .pool .class) p b)) x)) (at-take-back .take-back .ensures)
-    ∙ sym (emptied-settled 8 (a .arenas) (a .pools) (a .pool .class) h (a .offset) free)
-    ∙ ap (givenBack 8 (a .arenas) (a .pools) (a .pool .class) h (a .offset)) (sym path)
+    ∙ sym (emptied-settled (alignmentOf (a .edition)) (a .arenas) (a .pools) (a .pool .class) h (a .offset) free)
+    ∙ ap (givenBack (alignmentOf (a .edition)) (a .arenas) (a .pools) (a .pool .class) h (a .offset)) (sym path)
 
 pub back-last-spec : {M : Type 1} → statement M
 back-last-spec =

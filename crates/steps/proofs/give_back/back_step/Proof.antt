@@ -8,11 +8,12 @@ use Prim.Native.Nat.{ℕ, _+_, _*_, _/_, _%_, _≤_}
 use native.Mathlib.Omega.{arith}
 use lib.ListN.{length}
 use borrow.Author.Tests.{leb-true}
-use Rattle.rules.specs.Books.{Heap, at, onBooks, classHead}
+use Rattle.rules.specs.Books.{alignmentOf, Heap, at, onBooks, classHead}
 use Rattle.rules.specs.Blocks.{sizeOf}
 use Rattle.rules.specs.Lists as L
 use Rattle.rules.specs.GiveBack.{afterBack, backAnswer}
 use Rattle.rules.specs.Outcome.{heapOf, outcome, answerOf}
+use Rattle.books.specs.Sizes.{aligned}
 use Rattle.books.specs.declared.pool.Pool.{Pool}
 use Rattle.books.specs.Records.{mayGive}
 use Rattle.books.specs.Tests.{held, failed}
@@ -40,7 +41,7 @@ abbrev taken : tie.After-join-arg → tie.After-take-back
 taken c = c .before .before .before .before .before .before .before
 
 abbrev passed-2 : tie.Else4 → tie.Else1
-passed-2 c = c .before .before .before .before .before .before .before
+passed-2 c = c .before .before .before .before .before
 
 abbrev emptied : tie.After-slice-known10 → tie.After-back-last
 emptied c = c .before .before .before .before .before .before
@@ -65,10 +66,10 @@ returns c =
     let a = at-start .args in
     let h = heapOf (a .memory .now) (a .books .now) (a .map .now) in
     let q = at-load-pool .load-pool .result in
-    let path = miscounted 8 (a .arenas) (a .pools) (a .books .now) (q .class) (a .offset / 4096) q (at-load-pool .load-pool .ensures)
+    let path = miscounted (alignmentOf (a .edition)) (a .arenas) (a .pools) (a .books .now) (q .class) (a .offset / 4096) q (at-load-pool .load-pool .ensures)
     (failed (at-may-give .may-give .ensures) (c .if1 .taken)) in
-    step-is 8 (a .arenas) (a .pools) (q .class) h (a .offset) _ _ (ap (λ (x : Pool). x .class) (at-load-pool .load-pool .ensures)) path
-    (damaged 8 (a .arenas) (a .pools) (q .class) h (a .offset))
+    step-is (alignmentOf (a .edition)) (a .arenas) (a .pools) (q .class) h (a .offset) _ _ (ap (λ (x : Pool). x .class) (at-load-pool .load-pool .ensures)) path
+    (damaged (alignmentOf (a .edition)) (a .arenas) (a .pools) (q .class) h (a .offset))
 
 -- the pool's count has passed
 gives : (c : tie.Else1) → mayGive (loaded c .load-pool .result) ≡ true
@@ -77,12 +78,13 @@ gives c = held (c .before .may-give .ensures) (c .if1 .left)
 -- the block, once its pool's count has passed
 block : (c : tie.Else1)
     → let a = start (loaded c) .args in
-    Counted (a .arenas) (a .pools) (a .offset / 4096) (a .offset % 4096) (a .k) (loaded c .load-pool .result) (a .books .now)
+    Counted (alignmentOf (a .edition)) (a .arenas) (a .pools) (a .offset / 4096) (a .offset % 4096) (a .block .number) (loaded c .load-pool .result)
+    (a .books .now)
 block c =
     let at-load-pool = loaded c in
     let at-start = start at-load-pool in
     let a = at-start .args in
-    counted (a .arenas) (a .pools) (a .k) (a .offset) (at-load-pool .load-pool .result) (a .books .now) (a .map .now)
+    counted (aligned (a .edition)) (a .arenas) (a .pools) (a .block .number) (a .offset) (at-load-pool .load-pool .result) (a .books .now) (a .map .now)
     (at-load-pool .load-pool .ensures) (at-start .pre .1) (at-start .pre .2) (gives c)
 
 index-requires : tie.Need-index-requires
@@ -96,8 +98,8 @@ add-may-join c = search needs
 
 may-join-requires : tie.Need-may-join-requires
 may-join-requires c κs =
-    let at-index = c .before .before .before in
-    let at-if1 = at-index .before in
+    let at-index = c .before in
+    let at-if1 = at-index .before .before .before in
     let at-start = start (loaded at-if1) in
     omega (arith, block at-if1 .class, at-index .index .ensures .0, at-start .pre .0 .books)
 
@@ -107,19 +109,19 @@ same-length-2 c = search needs
 returns-2 : tie.Need-returns-2
 returns-2 c =
     let at-may-join = c .before in
-    let at-if2 = at-may-join .before .before in
-    let at-index = at-if2 .before .before in
-    let at-if1 = at-index .before in
+    let at-index = at-may-join .before .before in
+    let at-if2 = at-index .before in
+    let at-if1 = at-if2 .before .before in
     let at-load-pool = loaded at-if1 in
     let at-start = start at-load-pool in
     let a = at-start .args in
     let h = heapOf (a .memory .now) (a .books .now) (a .map .now) in
     let q = at-load-pool .load-pool .result in
-    let path = listless 8 (a .arenas) (a .pools) (a .books .now) (q .class) (a .offset / 4096) q (at-load-pool .load-pool .ensures)
+    let path = listless (alignmentOf (a .edition)) (a .arenas) (a .pools) (a .books .now) (q .class) (a .offset / 4096) q (at-load-pool .load-pool .ensures)
     (gives at-if1) (at-if2 .if2 .taken)
     (rw (at-index .index .ensures .0) at (failed (at-may-join .may-join .ensures) (c .if3 .taken))) in
-    step-is 8 (a .arenas) (a .pools) (q .class) h (a .offset) _ _ (ap (λ (x : Pool). x .class) (at-load-pool .load-pool .ensures)) path
-    (damaged 8 (a .arenas) (a .pools) (q .class) h (a .offset))
+    step-is (alignmentOf (a .edition)) (a .arenas) (a .pools) (q .class) h (a .offset) _ _ (ap (λ (x : Pool). x .class) (at-load-pool .load-pool .ensures)) path
+    (damaged (alignmentOf (a .edition)) (a .arenas) (a .pools) (q .class) h (a .offset))
 
 take-back-requires : tie.Need-take-back-requires
 take-back-requires c κs =
@@ -144,8 +146,8 @@ join-requires c κs =
     let at-take-back = taken (c .before) in
     let at-if3 = joinable at-take-back in
     let at-may-join = at-if3 .before in
-    let at-index = at-may-join .before .before .before .before in
-    let at-if1 = at-index .before in
+    let at-index = at-may-join .before .before in
+    let at-if1 = at-index .before .before .before in
     let at-start = start (loaded at-if1) in
     let a = at-start .args in
     let p = a .offset / 4096 in
@@ -181,19 +183,19 @@ returns-3 c =
     let at-take-back = taken (at-pool-links .before) in
     let at-if3 = joinable at-take-back in
     let at-may-join = at-if3 .before in
-    let at-if2 = at-may-join .before .before in
-    let at-index = at-if2 .before .before in
-    let at-if1 = at-index .before in
+    let at-index = at-may-join .before .before in
+    let at-if2 = at-index .before in
+    let at-if1 = at-if2 .before .before in
     let at-load-pool = loaded at-if1 in
     let at-start = start at-load-pool in
     let a = at-start .args in
     let h = heapOf (a .memory .now) (a .books .now) (a .map .now) in
     let q = at-load-pool .load-pool .result in
-    let path = joins 8 (a .arenas) (a .pools) (a .books .now) (q .class) (a .offset / 4096) q (at-load-pool .load-pool .ensures)
+    let path = joins (alignmentOf (a .edition)) (a .arenas) (a .pools) (a .books .now) (q .class) (a .offset / 4096) q (at-load-pool .load-pool .ensures)
     (gives at-if1) (at-if2 .if2 .taken)
     (ap (λ (x : ℕ). L.mayJoin (a .arenas * a .pools) (classHead x) (a .books .now)) (sym (at-index .index .ensures .0))
     ∙ held (at-may-join .may-join .ensures) (at-if3 .if3 .left)) in
-    step-is 8 (a .arenas) (a .pools) (q .class) h (a .offset) _ _ (ap (λ (x : Pool). x .class) (at-load-pool .load-pool .ensures)) path
+    step-is (alignmentOf (a .edition)) (a .arenas) (a .pools) (q .class) h (a .offset) _ _ (ap (λ (x : Pool). x .class) (at-load-pool .load-pool .ensures)) path
     (ap (λ (x : List ℕ). outcome (answerOf 0 (a .offset)) (heapOf (at-take-back .take-back .last .0) x (at-take-back .take-back .last .1 .1 .0)))
     (at-join .join .ensures
     ∙ ap₂ (λ (x y : ℕ). L.join x (4 + y) (a .offset / 4096) (at-take-back .take-back .last .1 .0))
@@ -201,21 +203,21 @@ returns-3 c =
     ∙ ap (λ (x : Heap). outcome (answerOf 0 (a .offset)) (onBooks (L.join (L.poolLinks (a .arenas)) (classHead (q .class)) (a .offset / 4096)) x))
     (at-take-back .take-back .ensures))
 
-size-of-requires : tie.Need-size-of-requires
-size-of-requires c κs =
-    let at-index = c .before .before in
-    let at-if1 = at-index .before in
-    omega (arith, block at-if1 .class, at-index .index .ensures .0)
-
 -- the size is that of the pool's class
-size : (c : tie.After-size-of) → c .size-of .result ≡ sizeOf 8 (loaded (c .before .before .before .before) .load-pool .result .class)
-size c = c .size-of .ensures .0 ∙ ap (sizeOf 8) (c .before .before .before .index .ensures .0)
+size : (c : tie.Else1)
+    → let a = start (loaded c) .args in a .block .size ≡ sizeOf (alignmentOf (a .edition)) (loaded c .load-pool .result .class)
+size c =
+    let at-start = start (loaded c) in
+    at-start .pre .3
+    ∙ ap (sizeOf (alignmentOf (at-start .args .edition))) (sym (ap (λ (x : Pool). x .class) (loaded c .load-pool .ensures)))
 
 index-requires-2 : tie.Need-index-requires-2
 index-requires-2 c κs = search needs
 
 is-start-requires : tie.Need-is-start-requires
-is-start-requires c κs = search needs
+is-start-requires c κs =
+    let at-if1 = c .before .before .before in
+    (omega (arith, size at-if1, block at-if1 .low), omega (arith, size at-if1, block at-if1 .high))
 
 same-length-6 : tie.Need-same-length-6
 same-length-6 c = search needs
@@ -224,18 +226,18 @@ returns-4 : tie.Need-returns-4
 returns-4 c =
     let at-is-start = c .before in
     let at-index2 = at-is-start .before in
-    let at-size-of = at-index2 .before in
-    let at-if2 = at-size-of .before in
-    let at-load-pool = loaded (at-if2 .before .before .before) in
+    let at-if2 = at-index2 .before in
+    let at-if1 = at-if2 .before .before in
+    let at-load-pool = loaded at-if1 in
     let at-start = start at-load-pool in
     let a = at-start .args in
     let h = heapOf (a .memory .now) (a .books .now) (a .map .now) in
     let q = at-load-pool .load-pool .result in
-    let path = no-start 8 (a .arenas) (a .pools) (a .books .now) (q .class) (a .offset / 4096) q (at-load-pool .load-pool .ensures)
-    (at-size-of .size-of .result) (at-index2 .index2 .result) (size at-size-of) (at-index2 .index2 .ensures .0)
+    let path = no-start (alignmentOf (a .edition)) (a .arenas) (a .pools) (a .books .now) (q .class) (a .offset / 4096) q (at-load-pool .load-pool .ensures)
+    (a .block .size) (at-index2 .index2 .result) (size at-if1) (at-index2 .index2 .ensures .0)
     (at-if2 .if2 .left) (failed (at-is-start .is-start .ensures) (c .if4 .taken)) in
-    step-is 8 (a .arenas) (a .pools) (q .class) h (a .offset) _ _ (ap (λ (x : Pool). x .class) (at-load-pool .load-pool .ensures)) path
-    (damaged 8 (a .arenas) (a .pools) (q .class) h (a .offset))
+    step-is (alignmentOf (a .edition)) (a .arenas) (a .pools) (q .class) h (a .offset) _ _ (ap (λ (x : Pool). x .class) (at-load-pool .load-pool .ensures)) path
+    (damaged (alignmentOf (a .edition)) (a .arenas) (a .pools) (q .class) h (a .offset))
 
 back-last-requires : tie.Need-back-last-requires
 back-last-requires c κs =
@@ -259,18 +261,17 @@ returns-5 c =
     let at-if4 = at-if5 .before .before in
     let at-is-start = at-if4 .before in
     let at-index2 = at-is-start .before in
-    let at-size-of = at-index2 .before in
-    let at-if2 = at-size-of .before in
-    let at-if1 = at-if2 .before .before .before in
+    let at-if2 = at-index2 .before in
+    let at-if1 = at-if2 .before .before in
     let at-load-pool = loaded at-if1 in
     let at-start = start at-load-pool in
     let a = at-start .args in
     let h = heapOf (a .memory .now) (a .books .now) (a .map .now) in
     let q = at-load-pool .load-pool .result in
-    let path = falls-empty 8 (a .arenas) (a .pools) (a .books .now) (q .class) (a .offset / 4096) q (at-load-pool .load-pool .ensures)
-    (at-size-of .size-of .result) (at-index2 .index2 .result) (size at-size-of) (at-index2 .index2 .ensures .0)
+    let path = falls-empty (alignmentOf (a .edition)) (a .arenas) (a .pools) (a .books .now) (q .class) (a .offset / 4096) q (at-load-pool .load-pool .ensures)
+    (a .block .size) (at-index2 .index2 .result) (size at-if1) (at-index2 .index2 .ensures .0)
     (gives at-if1) (at-if2 .if2 .left) (held (at-is-start .is-start .ensures) (at-if4 .if4 .left)) (at-if5 .if5 .taken) in
-    step-is 8 (a .arenas) (a .pools) (q .class) h (a .offset) _ _ (ap (λ (x : Pool). x .class) (at-load-pool .load-pool .ensures)) path
+    step-is (alignmentOf (a .edition)) (a .arenas) (a .pools) (q .class) h (a .offset) _ _ (ap (λ (x : Pool). x .class) (at-load-pool .load-pool .ensures)) path
     (at-back-last .back-last .ensures)
 
 take-back-requires-2 : tie.Need-take-back-requires-2
@@ -296,18 +297,17 @@ returns-6 c =
     let at-if4 = at-if5 .before .before in
     let at-is-start = at-if4 .before in
     let at-index2 = at-is-start .before in
-    let at-size-of = at-index2 .before in
-    let at-if2 = at-size-of .before in
-    let at-if1 = at-if2 .before .before .before in
+    let at-if2 = at-index2 .before in
+    let at-if1 = at-if2 .before .before in
     let at-load-pool = loaded at-if1 in
     let at-start = start at-load-pool in
     let a = at-start .args in
     let h = heapOf (a .memory .now) (a .books .now) (a .map .now) in
     let q = at-load-pool .load-pool .result in
-    let path = stays 8 (a .arenas) (a .pools) (a .books .now) (q .class) (a .offset / 4096) q (at-load-pool .load-pool .ensures)
-    (at-size-of .size-of .result) (at-index2 .index2 .result) (size at-size-of) (at-index2 .index2 .ensures .0)
+    let path = stays (alignmentOf (a .edition)) (a .arenas) (a .pools) (a .books .now) (q .class) (a .offset / 4096) q (at-load-pool .load-pool .ensures)
+    (a .block .size) (at-index2 .index2 .result) (size at-if1) (at-index2 .index2 .ensures .0)
     (gives at-if1) (at-if2 .if2 .left) (held (at-is-start .is-start .ensures) (at-if4 .if4 .left)) (at-if5 .if5 .left) in
-    step-is 8 (a .arenas) (a .pools) (q .class) h (a .offset) _ _ (ap (λ (x : Pool). x .class) (at-load-pool .load-pool .ensures)) path
+    step-is (alignmentOf (a .edition)) (a .arenas) (a .pools) (q .class) h (a .offset) _ _ (ap (λ (x : Pool). x .class) (at-load-pool .load-pool .ensures)) path
     (ap (λ (x : Heap). outcome (answerOf 0 (a .offset)) x) (at-take-back2 .take-back2 .ensures))
 
 pub back-step-spec : {M : Type 1} → statement M
@@ -333,7 +333,6 @@ back-step-spec =
     same-length-4
     same-length-5
     returns-3
-    size-of-requires
     index-requires-2
     is-start-requires
     same-length-6

@@ -5,6 +5,7 @@ use mathlib.Core.Path.{refl, sym, _∙_}
 use native.Mathlib.Omega.{arith}
 use Rattle.rules.specs.Outcome.{heapOf, answerOf}
 use Rattle.rules.specs.Resize.{giveOld}
+use Rattle.books.specs.Sizes.{aligned}
 use Rattle.books.specs.Known.{found, NotFound, not-found}
 use Rattle.steps.specs.Backs.{gave}
 use Rattle.books.specs.Passing.{stopped, refusal, step}
@@ -25,9 +26,9 @@ live-block-requires c κs = search needs
 
 -- what is known where the offset is refused
 dead : (c : tie.Then1)
-    → let a = start (c .before) .args in
-    NotFound 8 (a .arenas) (a .pools) (a .books .now) (a .map .now) (a .offset) (omega arith) (omega arith) (c .before .live-block .result)
-dead c = not-found 8 _ _ _ _ _ (omega arith) (omega arith) _ (c .before .live-block .ensures) (c .if1 .taken)
+    → let a = start (c .before .before) .args in
+    NotFound (aligned (a .edition)) (a .arenas) (a .pools) (a .books .now) (a .map .now) (a .offset) (c .before .before .live-block .result .number)
+dead c = not-found (aligned (start (c .before .before) .args .edition)) _ _ _ _ _ _ (c .before .before .live-block .ensures .0) (c .if1 .taken)
 
 refusal-requires : tie.Need-refusal-requires
 refusal-requires c κs = (c .if1 .taken, dead c .few)
@@ -44,7 +45,7 @@ same-length-3 c = search needs
 returns : tie.Need-returns
 unfolding giveOld
 returns c =
-    let a = start (c .before .before) .args in
+    let a = start (c .before .before .before) .args in
     let h = heapOf (a .memory .now) (a .books .now) (a .map .now) in
     let n = c .refusal .result in
     let t = dead (c .before) .number n (c .refusal .ensures) in
@@ -53,12 +54,12 @@ returns c =
 back-step-requires : tie.Need-back-step-requires
 back-step-requires c κs =
     let at-if1 = c .before .before .before in
-    let at-live-block = at-if1 .before in
+    let at-live-block = at-if1 .before .before in
     let at-start = start at-live-block in
     let a = at-start .args in
-    let f = found 8 (a .arenas) (a .pools) (a .books .now) (a .map .now) (a .offset) (omega arith) (omega arith)
-    (omega (arith, at-if1 .if1 .left, at-live-block .live-block .ensures)) in
-    (at-start .pre, f .live-block, at-live-block .live-block .ensures ∙ f .block)
+    let f = found (aligned (a .edition)) (a .arenas) (a .pools) (a .books .now) (a .map .now) (a .offset)
+    (omega (arith, at-if1 .if1 .left, at-live-block .live-block .ensures .0)) in
+    (at-start .pre, f .live-block, at-live-block .live-block .ensures .0 ∙ f .block, at-live-block .live-block .ensures .1 (omega (arith, at-if1 .if1 .left)))
 
 same-length-4 : tie.Need-same-length-4
 same-length-4 c = search needs
@@ -74,12 +75,12 @@ unfolding giveOld
 returns-2 c =
     let at-back-step = stepped c in
     let at-if1 = at-back-step .before .before .before .before in
-    let at-live-block = at-if1 .before in
+    let at-live-block = at-if1 .before .before in
     let at-start = start at-live-block in
     let a = at-start .args in
     let h = heapOf (a .memory .now) (a .books .now) (a .map .now) in
-    let f = found 8 (a .arenas) (a .pools) (a .books .now) (a .map .now) (a .offset) (omega arith) (omega arith)
-    (omega (arith, at-if1 .if1 .left, at-live-block .live-block .ensures)) in
+    let f = found (aligned (a .edition)) (a .arenas) (a .pools) (a .books .now) (a .map .now) (a .offset)
+    (omega (arith, at-if1 .if1 .left, at-live-block .live-block .ensures .0)) in
     (step h _ _ 0 _ (at-back-step .back-step .ensures) (sym (f .number)) refl, λ z. f .live-block .inside)
 
 pub give-old-spec : {M : Type 1} → statement M

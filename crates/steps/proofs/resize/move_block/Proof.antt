@@ -3,6 +3,7 @@
 use mathlib.Core.List.{List}
 use mathlib.Core.Path.{sym, ap, _∙_}
 use Prim.Native.Nat.{ℕ}
+use Rattle.rules.specs.Books.{alignmentOf}
 use Rattle.rules.specs.Outcome.{heapOf, outcome, answerOf, done}
 use Rattle.rules.specs.Resize.{giveOld, halfDone}
 use Rattle.steps.specs.Backs.{gave, gave-number}
@@ -28,8 +29,8 @@ copy-within-requires c κs = search needs
 give-old-requires : tie.Need-give-old-requires
 give-old-requires c κs = search needs
 
-cast-t20 : tie.Need-cast-t20
-cast-t20 c = search needs
+cast-t21 : tie.Need-cast-t21
+cast-t21 c = search needs
 
 same-length : tie.Need-same-length
 same-length c = search needs
@@ -48,13 +49,14 @@ returns c =
     let a = at-start .args in
     let after = heapOf (at-give-old .give-old .last .0) (at-give-old .give-old .last .1 .0) (at-give-old .give-old .last .1 .1 .0) in
     let e = at-give-old .give-old .ensures .0
-    ∙ ap (λ (m : List ℕ). giveOld 8 (a .arenas) (a .pools) (heapOf m (a .books .now) (a .map .now)) (a .from)) (at-copy-within .copy-within .ensures) in
+    ∙ ap (λ (m : List ℕ). giveOld (alignmentOf (a .edition)) (a .arenas) (a .pools) (heapOf m (a .books .now) (a .map .now)) (a .from))
+    (at-copy-within .copy-within .ensures) in
     sym (stopped (λ j. outcome (answerOf 6 (a .to)) after) (done (a .to) after) (gave (a .from) (at-give-old .give-old .result) .number)
     (λ z. c .if1 .taken (sym (gave-number (a .from) (at-give-old .give-old .result)) ∙ z)))
-    ∙ ap (halfDone 8 (a .arenas) (a .pools) (a .to)) e
+    ∙ ap (halfDone (alignmentOf (a .edition)) (a .arenas) (a .pools) (a .to)) e
 
-cast-t21 : tie.Need-cast-t21
-cast-t21 c = search needs
+cast-t22 : tie.Need-cast-t22
+cast-t22 c = search needs
 
 same-length-4 : tie.Need-same-length-4
 same-length-4 c = search needs
@@ -73,10 +75,11 @@ returns-2 c =
     let a = at-start .args in
     let after = heapOf (at-give-old .give-old .last .0) (at-give-old .give-old .last .1 .0) (at-give-old .give-old .last .1 .1 .0) in
     let e = at-give-old .give-old .ensures .0
-    ∙ ap (λ (m : List ℕ). giveOld 8 (a .arenas) (a .pools) (heapOf m (a .books .now) (a .map .now)) (a .from)) (at-copy-within .copy-within .ensures) in
+    ∙ ap (λ (m : List ℕ). giveOld (alignmentOf (a .edition)) (a .arenas) (a .pools) (heapOf m (a .books .now) (a .map .now)) (a .from))
+    (at-copy-within .copy-within .ensures) in
     sym (passed (λ j. outcome (answerOf 6 (a .to)) after) (done (a .to) after) (gave (a .from) (at-give-old .give-old .result) .number)
     (gave-number (a .from) (at-give-old .give-old .result) ∙ c .if1 .left))
-    ∙ ap (halfDone 8 (a .arenas) (a .pools) (a .to)) e
+    ∙ ap (halfDone (alignmentOf (a .edition)) (a .arenas) (a .pools) (a .to)) e
 
 pub move-block-spec : {M : Type 1} → statement M
 move-block-spec =
@@ -84,12 +87,12 @@ move-block-spec =
     (tie.spec
     copy-within-requires
     give-old-requires
-    cast-t20
+    cast-t21
     same-length
     same-length-2
     same-length-3
     returns
-    cast-t21
+    cast-t22
     same-length-4
     same-length-5
     same-length-6

@@ -2,12 +2,15 @@
 -- of bytes never meet.
 -- Assumes nothing.
 use mathlib.Core.Path.{_≡_, sym, ap, _∙_, subst}
-use Prim.Native.Nat.{ℕ, min}
+use Prim.Native.Nat.{ℕ, _≤_, min}
 use native.Mathlib.Omega.{arith}
+use Rattle.rules.specs.Books.{alignmentOf}
 use Rattle.rules.specs.declared.Answer.{Answer}
 use Rattle.rules.specs.Blocks.{sizeOf, sizeAt}
 use Rattle.rules.specs.Outcome.{Outcome, heapOf, outcome}
+use Rattle.rules.specs.Ask.{askStep}
 use Rattle.rules.specs.Resize.{keeps, copy, giveOld, halfDone, moved}
+use Rattle.books.specs.Sizes.{aligned}
 use Rattle.steps.specs.Moves.{Moves, moves-apart, resize-kept, resize-moved, moved-refused, moved-done}
 use borrow.Author.Needs.{needs}
 use Rattle.steps.proofs.resize.resize_step.Statement.{statement}
@@ -36,20 +39,24 @@ class-at-requires c κs = search needs
 size-of-requires : tie.Need-size-of-requires
 size-of-requires c κs = search needs
 
+-- the size is that of the block
+size : (c : tie.After-size-of)
+    → let a = start (c .before) .args in
+    c .size-of .result ≡ sizeAt (alignmentOf (a .edition)) (a .arenas) (a .books .now) (a .offset)
+size c = c .size-of .ensures .0 ∙ ap (sizeOf (alignmentOf (start (c .before) .args .edition))) (c .before .class-at .ensures .0)
+
+-- and so at most the largest
+size-few : (c : tie.After-size-of) → c .size-of .result ≤ 512
+size-few c = c .size-of .ensures .2 (rw (c .before .class-at .ensures .0) (start (c .before) .pre .1 .class))
+
 mul-if1 : tie.Need-mul-if1
-mul-if1 c = search needs
+mul-if1 c = omega (arith, size-few c)
 
 mul-if1-2 : tie.Need-mul-if1-2
 mul-if1-2 c = search needs
 
--- the size is that of the block
-size : (c : tie.After-size-of)
-    → let a = start (c .before) .args in
-    c .size-of .result ≡ sizeAt 8 (a .arenas) (a .books .now) (a .offset)
-size c = c .size-of .ensures .0 ∙ ap (sizeOf 8) (c .before .class-at .ensures)
-
-cast-t18 : tie.Need-cast-t18
-cast-t18 c = search needs
+cast-t19 : tie.Need-cast-t19
+cast-t19 c = search needs
 
 same-length : tie.Need-same-length
 same-length c = search needs
@@ -60,7 +67,7 @@ returns c =
     let at-start = start (at-size-of .before) in
     let a = at-start .args in
     let h = heapOf (a .memory .now) (a .books .now) (a .map .now) in
-    resize-kept 8 (a .arenas) (a .pools) h (a .offset) (a .n) (ap (λ (x : ℕ). keeps x (a .n)) (sym (size at-size-of)) ∙ c .if1 .taken)
+    resize-kept (alignmentOf (a .edition)) (a .arenas) (a .pools) h (a .offset) (a .n) (ap (λ (x : ℕ). keeps x (a .n)) (sym (size at-size-of)) ∙ c .if1 .taken)
 
 ask-step-requires : tie.Need-ask-step-requires
 ask-step-requires c κs = search needs
@@ -87,11 +94,14 @@ returns-2 c =
     let a = at-start .args in
     let h = heapOf (a .memory .now) (a .books .now) (a .map .now) in
     let after = heapOf (at-ask-step .ask-step .last .0) (at-ask-step .ask-step .last .1 .0) (at-ask-step .ask-step .last .1 .1 .0) in
-    let asked = ap (λ (x : Answer). outcome x after) (at-answer .answer .ensures) ∙ at-ask-step .ask-step .ensures in
-    let k = min (a .n) (sizeAt 8 (a .arenas) (a .books .now) (a .offset)) in
-    moved-refused 8 (a .arenas) (a .pools) (a .offset) k (at-answer .answer .result) after (c .if2 .taken)
-    ∙ ap (moved 8 (a .arenas) (a .pools) (a .offset) k) asked
-    ∙ resize-moved 8 (a .arenas) (a .pools) h (a .offset) (a .n) (ap (λ (x : ℕ). keeps x (a .n)) (sym (size at-size-of)) ∙ at-if1 .if1 .left)
+    let asked = ap (λ (x : Answer). outcome x after) (at-answer .answer .ensures)
+    ∙ at-ask-step .ask-step .ensures
+    ∙ ap (λ (e : ℕ). askStep (alignmentOf e) (a .arenas) (a .pools) h (a .n)) (sym (at-start .pre .4)) in
+    let k = min (a .n) (sizeAt (alignmentOf (a .edition)) (a .arenas) (a .books .now) (a .offset)) in
+    moved-refused (alignmentOf (a .edition)) (a .arenas) (a .pools) (a .offset) k (at-answer .answer .result) after (c .if2 .taken)
+    ∙ ap (moved (alignmentOf (a .edition)) (a .arenas) (a .pools) (a .offset) k) asked
+    ∙ resize-moved (alignmentOf (a .edition)) (a .arenas) (a .pools) h (a .offset) (a .n)
+    (ap (λ (x : ℕ). keeps x (a .n)) (sym (size at-size-of)) ∙ at-if1 .if1 .left)
 
 cast-to : tie.Need-cast-to
 cast-to c = search needs
@@ -109,11 +119,14 @@ move-block-requires c κs =
     let a = at-start .args in
     let h = heapOf (a .memory .now) (a .books .now) (a .map .now) in
     let after = heapOf (at-ask-step .ask-step .last .0) (at-ask-step .ask-step .last .1 .0) (at-ask-step .ask-step .last .1 .1 .0) in
-    let asked = ap (λ (x : Answer). outcome x after) (at-answer .answer .ensures) ∙ at-ask-step .ask-step .ensures in
-    let k = min (a .n) (sizeAt 8 (a .arenas) (a .books .now) (a .offset)) in
+    let asked = ap (λ (x : Answer). outcome x after) (at-answer .answer .ensures)
+    ∙ at-ask-step .ask-step .ensures
+    ∙ ap (λ (e : ℕ). askStep (alignmentOf e) (a .arenas) (a .pools) h (a .n)) (sym (at-start .pre .4)) in
+    let k = min (a .n) (sizeAt (alignmentOf (a .edition)) (a .arenas) (a .books .now) (a .offset)) in
     let done = ap (λ (x : Outcome). x .answer .number) asked in
     let place = ap (λ (x : Outcome). x .answer .offset) asked in
-    let v = moves-apart 8 (a .arenas) (a .pools) h (a .offset) (a .n) (omega arith) (at-start .pre .1) (sym done ∙ at-if2 .if2 .left) in
+    let v = moves-apart (alignmentOf (a .edition)) (a .arenas) (a .pools) h (a .offset) (a .n) (aligned (a .edition) .low) (at-start .pre .1)
+    (sym done ∙ at-if2 .if2 .left) in
     let few : c .least .result ≡ k = c .least .ensures ∙ ap (min (a .n)) (size at-size-of) in
     let w = subst (λ (x : ℕ). Moves (a .arenas) (a .pools) (a .offset) x (c .least .result)) (sym place)
     (subst (Moves (a .arenas) (a .pools) (a .offset) _) (sym few) v) in (
@@ -155,15 +168,18 @@ returns-3 c =
     let a = at-start .args in
     let h = heapOf (a .memory .now) (a .books .now) (a .map .now) in
     let after = heapOf (at-ask-step .ask-step .last .0) (at-ask-step .ask-step .last .1 .0) (at-ask-step .ask-step .last .1 .1 .0) in
-    let asked = ap (λ (x : Answer). outcome x after) (at-answer .answer .ensures) ∙ at-ask-step .ask-step .ensures in
-    let k = min (a .n) (sizeAt 8 (a .arenas) (a .books .now) (a .offset)) in
+    let asked = ap (λ (x : Answer). outcome x after) (at-answer .answer .ensures)
+    ∙ at-ask-step .ask-step .ensures
+    ∙ ap (λ (e : ℕ). askStep (alignmentOf e) (a .arenas) (a .pools) h (a .n)) (sym (at-start .pre .4)) in
+    let k = min (a .n) (sizeAt (alignmentOf (a .edition)) (a .arenas) (a .books .now) (a .offset)) in
     at-move-block .move-block .ensures
-    ∙ ap (λ (n : ℕ). halfDone 8 (a .arenas) (a .pools) (at-answer .answer .result .offset)
-    (giveOld 8 (a .arenas) (a .pools) (copy (a .offset) (at-answer .answer .result .offset) n after) (a .offset)))
+    ∙ ap (λ (n : ℕ). halfDone (alignmentOf (a .edition)) (a .arenas) (a .pools) (at-answer .answer .result .offset)
+    (giveOld (alignmentOf (a .edition)) (a .arenas) (a .pools) (copy (a .offset) (at-answer .answer .result .offset) n after) (a .offset)))
     (at-least .least .ensures ∙ ap (min (a .n)) (size at-size-of))
-    ∙ moved-done 8 (a .arenas) (a .pools) (a .offset) k (at-answer .answer .result) after (at-if2 .if2 .left)
-    ∙ ap (moved 8 (a .arenas) (a .pools) (a .offset) k) asked
-    ∙ resize-moved 8 (a .arenas) (a .pools) h (a .offset) (a .n) (ap (λ (x : ℕ). keeps x (a .n)) (sym (size at-size-of)) ∙ at-if1 .if1 .left)
+    ∙ moved-done (alignmentOf (a .edition)) (a .arenas) (a .pools) (a .offset) k (at-answer .answer .result) after (at-if2 .if2 .left)
+    ∙ ap (moved (alignmentOf (a .edition)) (a .arenas) (a .pools) (a .offset) k) asked
+    ∙ resize-moved (alignmentOf (a .edition)) (a .arenas) (a .pools) h (a .offset) (a .n)
+    (ap (λ (x : ℕ). keeps x (a .n)) (sym (size at-size-of)) ∙ at-if1 .if1 .left)
 
 pub resize-step-spec : {M : Type 1} → statement M
 resize-step-spec =
@@ -173,7 +189,7 @@ resize-step-spec =
     size-of-requires
     mul-if1
     mul-if1-2
-    cast-t18
+    cast-t19
     same-length
     returns
     ask-step-requires
