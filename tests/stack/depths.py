@@ -150,7 +150,7 @@ class Function:
         """Where an indirect jump leads: by the jump table that the three instructions before it read, of offsets from
         the table's own start."""
         before = [self.code[a] for a in self.code if a < at][-3:]
-        form = r'lea +0x0\(%rip\),(%\w+)\|movslq \(\1,%\w+,4\),(%\w+)\|add +\1,\2\|jmp +\*\2'
+        form = r'lea +0x0\(%rip\),(%\w+)\|movslq (?:0x0)?\(\1,%\w+,4\),(%\w+)\|add +\1,\2\|jmp +\*\2'
         if not re.fullmatch(form, '|'.join(text for text, _ in before + [self.code[at]])) or before[0][1] is None:
             self.fault(at, 'an indirect jump, and by no jump table that is understood')
         section, begins = before[0][1][0], before[0][1][1] + 4

@@ -174,12 +174,13 @@ def theorems():
 
 @functools.cache
 def rows():
-    """The rows of the three tables: of damaged books those in the list that the theorem speaks of, K1 to K10, and the
-    replays."""
+    """The rows of the four tables: of damaged books those in the list that the theorem speaks of, K1 to K10, S1 to
+    S15, and the replays."""
     damaged = read(f'{RULES}/Damaged.antt')
     listed = re.search(r'^Holds m b k = T \(every (\w+) ', damaged, re.M).group(1)
     body = re.search(rf'^{listed} =\n(.*?)∷ \[\]\n\n', damaged, re.M | re.S).group(1)
-    return {*re.findall(r'\w+', body), *re.findall(r'-- (K\d+):', read(f'{RULES}/Cases.antt')), 'replays'}
+    numbered = (re.findall(r'-- ([KS]\d+):', read(f'{RULES}/{file}.antt')) for file in ('Cases', 'Sixteen'))
+    return {*re.findall(r'\w+', body), *(row for rows in numbered for row in rows), 'replays'}
 
 
 @functools.cache
