@@ -1,7 +1,7 @@
 -- 01, "Numbers a call can return": the tests, their order, and the calls: tests first, then the step. Beside view
 -- stands 02's stand-in (W-214).
 -- Assumes nothing.
-use mathlib.Core.Bool.{not, _&&_}
+use mathlib.Core.Bool.{_&&_}
 use mathlib.Core.List.{List, [], _++_}
 use Prim.Native.Nat.{ℕ, _+_, _/_}
 use lib.Dec.{leb, ltb}

@@ -1,7 +1,7 @@
 -- `heap::give_back` meets its contract: it tests the shape, and gives back by what the books and the map then show.
 -- Assumes nothing.
 use mathlib.Core.Path.{sym, ap, _∙_}
-use Prim.Native.Nat.{ℕ, _*_}
+use Prim.Native.Nat.{_*_}
 use native.Mathlib.Omega.{arith}
 use Rattle.rules.specs.Books.{alignmentOf}
 use Rattle.rules.specs.declared.Answer.{Answer}

@@ -1,6 +1,5 @@
 -- `loops::count_pool` counts the words of its live blocks where the pool has a bit set and a class, and none elsewhere.
 -- Assumes nothing.
-use native.Mathlib.Omega.{arith}
 use mathlib.Core.Path.{_≡_, sym, ap, _∙_}
 use Prim.Native.Nat.{_*_}
 use borrow.Author.Needs.{needs}
