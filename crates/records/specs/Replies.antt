@@ -34,7 +34,6 @@ pub record Countable (b k : List ℕ) (s : Shape) : Type 0 where
   pub all : s .arenas * s .pools ≤ 1024
   pub books : length b ≡ booksLength (s .arenas) (s .pools)
   pub map : length k ≡ mapLength (s .arenas) (s .pools)
-  pub edition : s .edition ≤ 1
 
 abbrev pub Counted : List ℕ → List ℕ → Type 0
 Counted b k = Countable b k (shapeOf b)
@@ -70,7 +69,7 @@ Replies r m b k x = (repliedWith r m b k ≡ x) × (r .live ≡ liveIn b k)
 
 -- ---- the heap before and after a call
 pub counted : (m b k : List ℕ) → Whole m b k → Counted b k
-counted m b k (w, e) = record { all = w .all; books = w .books; map = w .map; edition = e }
+counted m b k (w, e) = record { all = w .all; books = w .books; map = w .map }
 
 -- a count of live blocks fits 32 bits
 pub few-live : (b k : List ℕ) → Counted b k → liveIn b k ≤ 518144

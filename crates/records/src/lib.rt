@@ -101,16 +101,6 @@ fn word_or_none(books: &[u32], i: usize) -> usize
     word(books, i)
 }
 
-// The edition that sizes go by: any word but 0 counts as sixteen's, as it does in the rules.
-fn edition_of(books: &[u32]) -> usize
-    ensures { λ r. ⌜ (alignmentOf r ≡ alignmentOf (at (now (books .entry)) 68)) × (r ≤ 1) ⌝ }
-{
-    if word_or_none(books, EDITION) == 0 {
-        return 0;
-    }
-    1
-}
-
 // The size of the block at an offset, as far as the four bytes of a reply hold it. Nothing is asked of the books or of
 // the offset: a record may hold any.
 fn size_at(books: &[u32], offset: u32) -> u32
@@ -121,7 +111,8 @@ fn size_at(books: &[u32], offset: u32) -> u32
     let arenas = word_or_none(books, 0);
     let pool = index(offset) / 4096;
     let class = word_or_none(books, RECORDS + 8 * arenas + 8 * pool + CLASS);
-    (size_of(edition_of(books), class) % 4294967296) as u32
+    let edition = word_or_none(books, EDITION);
+    (size_of(edition, class) % 4294967296) as u32
 }
 
 // ---- the live blocks, from one call to the next

@@ -3,7 +3,7 @@
 use mathlib.Core.Path.{ap, ap₂, _∙_}
 use Prim.Native.Nat.{ℕ, _/_, _%_}
 use borrow.Author.Needs.{needs}
-use Rattle.rules.specs.Books.{class, pool}
+use Rattle.rules.specs.Books.{alignmentOf, class, pool}
 use Rattle.rules.specs.Blocks.{sizeOf}
 use Rattle.records.proofs.size_at.Statement.{statement}
 use Rattle.records.proofs.size_at.Tie as tie
@@ -32,8 +32,8 @@ add-word-or-none-3 c = search needs
 word-or-none-requires-2 : tie.Need-word-or-none-requires-2
 word-or-none-requires-2 c κs = search needs
 
-edition-of-requires : tie.Need-edition-of-requires
-edition-of-requires c κs = search needs
+word-or-none-requires-3 : tie.Need-word-or-none-requires-3
+word-or-none-requires-3 c κs = search needs
 
 size-of-requires : tie.Need-size-of-requires
 size-of-requires c κs = search needs
@@ -43,14 +43,14 @@ cast-result c = search needs
 
 returns : tie.Need-returns
 returns c =
-    let at-edition-of = c .before in
-    let at-word-or-none2 = at-edition-of .before in
+    let at-edition = c .before in
+    let at-word-or-none2 = at-edition .before in
     let at-index = at-word-or-none2 .before in
     let at-word-or-none = at-index .before in
     let a = at-word-or-none .before .before .args in
     ap (λ (x : ℕ). x % 4294967296)
     (c .size-of .ensures .0
-    ∙ ap₂ (λ (x y : ℕ). sizeOf x y) (at-edition-of .edition-of .ensures .0)
+    ∙ ap₂ (λ (x y : ℕ). sizeOf (alignmentOf x) y) (at-edition .word-or-none3 .ensures .0)
     (at-word-or-none2 .word-or-none2 .ensures .0
     ∙ ap₂ (λ (x y : ℕ). pool x (a .books .now) class (y / 4096)) (at-word-or-none .word-or-none .ensures .0) (at-index .index .ensures .0)))
 
@@ -66,7 +66,7 @@ size-at-spec =
     add-word-or-none-2
     add-word-or-none-3
     word-or-none-requires-2
-    edition-of-requires
+    word-or-none-requires-3
     size-of-requires
     cast-result
     returns)
