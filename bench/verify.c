@@ -86,7 +86,7 @@ static uint32_t gone[GONE], gone_count;         /* the last of those that came b
 static unsigned long shapes_met[2][SHAPES];     /* of the other calls, and of format */
 static struct met {
     unsigned long numbers[11], half_done[11], stood_in[2], rolls[CALLS][MAPS][ROOMS], on[CALLS][REASONS];
-} met_in[EDITIONS], *met = met_in;              /* now is the one of the books' edition */
+} met_in[EDITIONS], *met = met_in;              /* met is that of the books' edition */
 static uint8_t text[600];
 
 #define LENT(b) (b)->memory, c->memory_bytes, (b)->books, c->books_words, (b)->map, c->map_words

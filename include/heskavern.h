@@ -169,7 +169,8 @@ typedef struct heskavern_part {
 } heskavern_part;
 
 /* Format: makes a fresh heap of the given A, P and edition, HESKAVERN_EIGHT or HESKAVERN_SIXTEEN. Writes all books and
-   map, and no memory. Value 0. Refuses with 1, 2. */
+   map, and no memory. Value 0. Refuses with 1, 2. A program that was compiled before there were editions hands none
+   over, and the linker does not see it: compile it again. */
 HESKAVERN_MUST_USE heskavern_answer heskavern_format(
     const uint8_t *memory, size_t memory_bytes, uint32_t *books, size_t books_words, uint64_t *map, size_t map_words,
     size_t arenas, size_t pools, size_t edition) HESKAVERN_NOEXCEPT HESKAVERN_UNTOUCHED(1);

@@ -33,11 +33,11 @@ static size_t memory_bytes, books_words, map_words;
    a pool has; the class of 512 bytes; and the size of a block for 100 bytes. */
 static const struct edition {
     size_t edition;
-    uint32_t unit, in_pool, last_class, of_100;
+    uint32_t smallest, in_pool, last_class, of_100;
 } editions[] = {{HESKAVERN_EIGHT, 8, 506, 63, 104}, {HESKAVERN_SIXTEEN, 16, 253, 31, 112}}, *now = editions;
 
 /* The place of block k, from 0, of a pool of the smallest ones. */
-static uint32_t at(uint32_t k) { return 48 + k * now->unit; }
+static uint32_t at(uint32_t k) { return 48 + k * now->smallest; }
 
 static unsigned long facts;
 
@@ -128,24 +128,24 @@ static void k1_to_k3(void)
     fresh(1, 16);
     EXPECT(done(ASK(1), 48));
     EXPECT(*pool_word(0, FREEBLOCK) == at(1) && *pool_word(0, NEXTOFFSET) == at(2));
-    EXPECT(*pool_word(0, MAXNEXTOFFSET) == 4096 - now->unit && *pool_word(0, CLASS) == 0);
+    EXPECT(*pool_word(0, MAXNEXTOFFSET) == 4096 - now->smallest && *pool_word(0, CLASS) == 0);
     fresh(1, 16);
     EXPECT(done(ASK(1), 48));
-    EXPECT(done(ASK(now->unit), at(1)));
+    EXPECT(done(ASK(now->smallest), at(1)));
     EXPECT(*pool_word(0, FREEBLOCK) == at(2) && *pool_word(0, NEXTOFFSET) == at(3));
     fresh(1, 16);
     EXPECT(done(ASK(1), 48));
     EXPECT(done(ASK(1), at(1)));
     EXPECT(done(GIVE_BACK(48), 48));
-    EXPECT(done(ASK(now->unit), 48));
+    EXPECT(done(ASK(now->smallest), 48));
     expect_untouched();
 }
 
 static void k4_to_k6(void)
 {
-    const size_t second = now->unit + 1, third = 2 * now->unit + 1; /* the smallest sizes of the next two classes */
+    const size_t second = now->smallest + 1, third = 2 * now->smallest + 1; /* sizes of the next two classes */
     fresh(1, 16);
-    EXPECT(done(ASK(now->unit), 48));
+    EXPECT(done(ASK(now->smallest), 48));
     EXPECT(done(ASK(second), 4144));
     fresh(1, 16);
     EXPECT(done(ASK(1), 48));
@@ -153,7 +153,7 @@ static void k4_to_k6(void)
     EXPECT(done(ASK(second), 4144));
     EXPECT(done(GIVE_BACK(48), 48));
     EXPECT(done(GIVE_BACK(at(1)), at(1)));
-    EXPECT(done(ASK(now->unit), at(1)));
+    EXPECT(done(ASK(now->smallest), at(1)));
     fresh(1, 16);
     EXPECT(done(ASK(1), 48));
     EXPECT(done(ASK(second), 4144));
@@ -176,13 +176,13 @@ static void k7_to_k10(void)
     EXPECT(done(RESIZE(48, now->of_100 / 4 * 3 + 1), 48)); /* to 79 in edition eight, and to 85 in sixteen */
     EXPECT(done(RESIZE(48, now->of_100 / 4 * 3), 4144));
     fresh(1, 16);
-    EXPECT(done(ASK(now->unit), 48));
-    EXPECT(done(RESIZE(48, now->unit / 4 * 3), at(1)));
-    EXPECT(done(RESIZE(at(1), now->unit / 4 * 3 + 1), at(1)));
+    EXPECT(done(ASK(now->smallest), 48));
+    EXPECT(done(RESIZE(48, now->smallest / 4 * 3), at(1)));
+    EXPECT(done(RESIZE(at(1), now->smallest / 4 * 3 + 1), at(1)));
     fresh(1, 16);
     EXPECT(done(ASK(1), 48));
     EXPECT(is(GIVE_BACK(52), HESKAVERN_NO_BLOCK, 0));
-    EXPECT(is(GIVE_BACK(48 + now->unit / 2), HESKAVERN_NO_BLOCK, 0));
+    EXPECT(is(GIVE_BACK(48 + now->smallest / 2), HESKAVERN_NO_BLOCK, 0));
     EXPECT(is(GIVE_BACK(0), HESKAVERN_NO_BLOCK, 0));
     EXPECT(is(GIVE_BACK(65536), HESKAVERN_NO_BLOCK, 0));
     EXPECT(is(GIVE_BACK((size_t)-1), HESKAVERN_NO_BLOCK, 0));
@@ -198,7 +198,7 @@ static uint32_t nth(uint32_t n) { return (n - 1) / now->in_pool * 4096 + at((n -
 static int serves(uint32_t n)
 {
     uint32_t i = 1;
-    while (i <= n && done(ASK(now->unit), nth(i)))
+    while (i <= n && done(ASK(now->smallest), nth(i)))
         i++;
     return i == n + 1;
 }
@@ -218,7 +218,7 @@ static void fill_with_smallest(void)
     uint32_t n = 1;
     fresh(1, 2);
     EXPECT(serves(most));
-    while (n <= most && is(ASK(now->unit), HESKAVERN_NO_ROOM, 0) && done(GIVE_BACK(nth(n)), nth(n))
+    while (n <= most && is(ASK(now->smallest), HESKAVERN_NO_ROOM, 0) && done(GIVE_BACK(nth(n)), nth(n))
         && done(ASK(1), nth(n)))
         n++;
     EXPECT(n == most + 1);
@@ -253,7 +253,7 @@ static void moves(void)
     EXPECT(unchanged());
     moved = RESIZE(48, size + 1);
     EXPECT(done(moved, 4144));
-    EXPECT(done(VIEW_SIZE(moved.value), size + now->unit));
+    EXPECT(done(VIEW_SIZE(moved.value), size + now->smallest));
     EXPECT(memcmp(memory + moved.value, text, size) == 0);
     EXPECT(is(VIEW_SIZE(48), HESKAVERN_DEAD_BLOCK, 0));
     EXPECT(is(RESIZE(48, 0), HESKAVERN_BAD_SIZE, 0));
@@ -361,7 +361,7 @@ static void dead_or_none(void)
     expect_dead(at(1)); /* set ready, and never handed out */
     expect_none(at(2)); /* the block after it */
     expect_none(52);
-    expect_none(48 + now->unit / 2);
+    expect_none(48 + now->smallest / 2);
     expect_none(40);
     expect_none(0);
     expect_none(4144);  /* a pool that is not carved */
@@ -376,20 +376,20 @@ static void dead_or_none(void)
     expect_none(48);    /* with the last block its arena was released */
     expect_none(at(1));
 
-    EXPECT(done(ASK(now->unit), 48));
-    EXPECT(done(ASK(2 * now->unit), 4144));
+    EXPECT(done(ASK(now->smallest), 48));
+    EXPECT(done(ASK(2 * now->smallest), 4144));
     EXPECT(done(GIVE_BACK(48), 48));
     expect_dead(48);    /* an emptied pool keeps its blocks */
     expect_dead(at(1));
-    EXPECT(done(ASK(3 * now->unit), 48));
+    EXPECT(done(ASK(3 * now->smallest), 48));
     expect_none(at(1)); /* until it is set to another size */
     expect_dead(at(3));
     expect_none(at(6));
     EXPECT(done(GIVE_BACK(48), 48));
     EXPECT(done(GIVE_BACK(4144), 4144));
-    EXPECT(done(ASK(3 * now->unit), 48));
+    EXPECT(done(ASK(3 * now->smallest), 48));
     expect_none(4144);  /* the arena is open again, and this pool not carved again */
-    EXPECT(done(ASK(2 * now->unit), 4144));
+    EXPECT(done(ASK(2 * now->smallest), 4144));
     expect_dead(4096 + at(2));
     expect_untouched();
 }
@@ -400,9 +400,9 @@ static void last_blocks(void)
     uint32_t n;
     fresh(1, 2);
     EXPECT(serves(now->in_pool));
-    EXPECT(done(GIVE_BACK(4096 - now->unit), 4096 - now->unit));
-    expect_dead(4096 - now->unit);
-    expect_none(4096 - now->unit / 2);
+    EXPECT(done(GIVE_BACK(4096 - now->smallest), 4096 - now->smallest));
+    expect_dead(4096 - now->smallest);
+    expect_none(4096 - now->smallest / 2);
     expect_none(4096);
     fresh(1, 2);
     for (n = 0; n < 7; n++)
@@ -523,8 +523,8 @@ static void half_done(uint32_t size, const char *text, uint32_t number)
 
 static void half_done_resizes(void)
 {
-    half_done(2 * now->unit, "\0\0\0\0 100", HESKAVERN_DEAD_BLOCK); /* the link of the block set ready is there */
-    half_done(3 * now->unit, "owed 100", HESKAVERN_NO_BLOCK);
+    half_done(2 * now->smallest, "\0\0\0\0 100", HESKAVERN_DEAD_BLOCK); /* the link of the block set ready is there */
+    half_done(3 * now->smallest, "owed 100", HESKAVERN_NO_BLOCK);
 }
 
 static void roll_calls(void)
@@ -534,14 +534,14 @@ static void roll_calls(void)
     EXPECT(done(ASK(300), 48));
     EXPECT(done(ASK(8), 4144));
     EXPECT(done(ASK(8), 4096 + at(1)));
-    EXPECT(done(ASK(now->unit + 1), 8240));
+    EXPECT(done(ASK(now->smallest + 1), 8240));
     EXPECT(done(GIVE_BACK(4144), 4144));
     remember();
     EXPECT(is(ROLL_CALL(5), HESKAVERN_DOES_NOT_FIT, 0));
     EXPECT(filled(roll, sizeof roll));
     EXPECT(done(ROLL_CALL(6), 3));
-    EXPECT(roll[0] == 48 && roll[1] == 304 && roll[2] == 4096 + at(1) && roll[3] == now->unit);
-    EXPECT(roll[4] == 8240 && roll[5] == 2 * now->unit);
+    EXPECT(roll[0] == 48 && roll[1] == 304 && roll[2] == 4096 + at(1) && roll[3] == now->smallest);
+    EXPECT(roll[4] == 8240 && roll[5] == 2 * now->smallest);
     EXPECT(filled(roll + 6, sizeof roll - 6 * sizeof *roll));
     EXPECT(unchanged());
     expect_untouched();
@@ -583,7 +583,7 @@ static void stray_bits(void)
         map[i] = UINT64_MAX;
     expect_rolled(7, 512, 48, 512);     /* pool 1 has no class */
     *pool_word(0, CLASS) = 0;
-    expect_rolled(now->in_pool, now->unit, 48, now->unit);
+    expect_rolled(now->in_pool, now->smallest, 48, now->smallest);
     *pool_word(0, CLASS) = now->last_class + 1;
     expect_rolled(0, 0, 0, 0);
     for (i = 0; i < map_words; i++)
@@ -591,23 +591,23 @@ static void stray_bits(void)
     *pool_word(0, CLASS) = 0;
     *pool_word(1, CLASS) = 0;
     map[last / 64] = map[8 + last / 64] = (uint64_t)1 << last % 64; /* of each pool, after words of zeros */
-    expect_rolled(2, now->unit, 4096 - now->unit, 4096);
+    expect_rolled(2, now->smallest, 4096 - now->smallest, 4096);
     expect_untouched();
 }
 
-/* The largest heap, filled: the roll's macro gives the words that are needed, in edition sixteen twice as many, and not
-   one more. */
+/* The largest heap, filled: the roll's macro gives just the words that are needed in edition eight, and twice as many
+   in edition sixteen. */
 static void largest(void)
 {
     const uint32_t blocks = now->in_pool * A * P;
-    const size_t words = HESKAVERN_ROLL_WORDS(A, P) * 8 / now->unit;
+    const size_t words = HESKAVERN_ROLL_WORDS(A, P) * 8 / now->smallest;
     uint32_t n = 1;
     fresh(A, P);
     EXPECT(serves(blocks));
     EXPECT(is(ASK(8), HESKAVERN_NO_ROOM, 0));
     EXPECT(is(ROLL_CALL(words - 1), HESKAVERN_DOES_NOT_FIT, 0));
     EXPECT(done(ROLL_CALL(words), blocks));
-    while (n <= blocks && roll[2 * n - 2] == nth(n) && roll[2 * n - 1] == now->unit)
+    while (n <= blocks && roll[2 * n - 2] == nth(n) && roll[2 * n - 1] == now->smallest)
         n++;
     EXPECT(n == blocks + 1);
     EXPECT(filled(roll + words, sizeof roll - words * sizeof *roll));
@@ -698,7 +698,7 @@ static void wrong_editions(void)
         books_words = EDITION + 1;
         expect_refused(HESKAVERN_NOT_EXACT);
         lend(1, 2);
-        EXPECT(done(VIEW_SIZE(48), now->unit));
+        EXPECT(done(VIEW_SIZE(48), now->smallest));
     }
 }
 
@@ -743,9 +743,9 @@ static void classes(void)
     uint32_t n;
     fresh(1, 2);
     for (n = 1; n <= HESKAVERN_LARGEST; n++) {
-        const uint32_t class_of = (n - 1) / now->unit;
+        const uint32_t class_of = (n - 1) / now->smallest;
         EXPECT(done(FORMAT(1, 2, now->edition), 0));
-        EXPECT(done(ASK(n), 48) && done(VIEW_SIZE(48), now->unit * (class_of + 1)));
+        EXPECT(done(ASK(n), 48) && done(VIEW_SIZE(48), now->smallest * (class_of + 1)));
         EXPECT(*pool_word(0, CLASS) == class_of && heads_are(class_of));
     }
     expect_untouched();
@@ -760,7 +760,7 @@ static void multiples(void)
         EXPECT(ASK(n).number == HESKAVERN_DONE);
     EXPECT(done(ROLL_CALL(2 * HESKAVERN_LARGEST), HESKAVERN_LARGEST));
     for (n = 0; n < 2 * HESKAVERN_LARGEST; n++) {
-        EXPECT(roll[n] % now->unit == 0);
+        EXPECT(roll[n] % now->smallest == 0);
         odd += roll[n] % 16 != 0;
     }
     EXPECT((odd > 0) == (now->edition == HESKAVERN_EIGHT));
@@ -772,9 +772,9 @@ static void counts(void)
     fresh(1, 2);
     EXPECT(serves(3));
     *pool_word(0, COUNT) = 400;
-    EXPECT(done(ASK(now->unit), at(3)));
+    EXPECT(done(ASK(now->smallest), at(3)));
     *pool_word(0, COUNT) = 505;
-    EXPECT(done(ASK(now->unit), at(4)));
+    EXPECT(done(ASK(now->smallest), at(4)));
     remember();
     EXPECT(is(ASK(1), HESKAVERN_DAMAGED, 0));
     EXPECT(unchanged());
@@ -790,7 +790,7 @@ static void counts(void)
 static void other_edition(void)
 {
     const struct edition *other = &editions[1 - now->edition];
-    const uint32_t next = 48 + other->unit;
+    const uint32_t next = 48 + other->smallest;
     fresh(1, 16);
     books[EDITION] = (uint32_t)other->edition;
     remember();
@@ -800,12 +800,12 @@ static void other_edition(void)
     EXPECT(books[EDITION] == now->edition);
     EXPECT(serves(2));
     books[EDITION] = (uint32_t)other->edition;
-    EXPECT(done(VIEW_SIZE(next), other->unit));
-    EXPECT(done(RESIZE(next, other->unit), next));
-    EXPECT(done(WRITE(next, "sixteen letters.", other->unit), next));
-    EXPECT(is(WRITE(next, "seventeen letters", other->unit + 1), HESKAVERN_DOES_NOT_FIT, 0));
+    EXPECT(done(VIEW_SIZE(next), other->smallest));
+    EXPECT(done(RESIZE(next, other->smallest), next));
+    EXPECT(done(WRITE(next, "sixteen letters.", other->smallest), next));
+    EXPECT(is(WRITE(next, "seventeen letters", other->smallest + 1), HESKAVERN_DOES_NOT_FIT, 0));
     EXPECT(done(ROLL_CALL(4), 2));
-    EXPECT(roll[0] == 48 && roll[1] == other->unit && roll[2] == next && roll[3] == other->unit);
+    EXPECT(roll[0] == 48 && roll[1] == other->smallest && roll[2] == next && roll[3] == other->smallest);
     EXPECT(is(GIVE_BACK(at(1)), other->edition == HESKAVERN_EIGHT ? HESKAVERN_DEAD_BLOCK : HESKAVERN_NO_BLOCK, 0));
     EXPECT(is(ASK(1), HESKAVERN_DAMAGED, 0)); /* maxnextoffset is not that of this size */
     expect_untouched();
@@ -828,7 +828,7 @@ static void damaged(void)
     EXPECT(is(RESIZE(48, 100), HESKAVERN_DAMAGED, 4144)); /* half done */
     EXPECT(memcmp(memory + 4144, "owed", 4) == 0);
     EXPECT(done(ROLL_CALL(4), 2));
-    EXPECT(roll[0] == 48 && roll[1] == now->unit && roll[2] == 4144 && roll[3] == now->of_100);
+    EXPECT(roll[0] == 48 && roll[1] == now->smallest && roll[2] == 4144 && roll[3] == now->of_100);
     *pool_word(0, CLASS) = now->last_class + 1;
     EXPECT(is(VIEW_SIZE(48), HESKAVERN_NO_BLOCK, 0));
     expect_untouched();
@@ -845,7 +845,7 @@ static void sized_and_aligned(void)
     for (i = first; i < sizeof sizes / sizeof *sizes; i++) {
         for (text = 0; text < texts[i]; text++) {
             heskavern_answer block = ASK(sizes[i]);
-            EXPECT(block.number == HESKAVERN_DONE && block.value % aligned[i] == 0 && block.value % now->unit == 0);
+            EXPECT(block.number == HESKAVERN_DONE && block.value % aligned[i] == 0 && block.value % now->smallest == 0);
         }
     }
     EXPECT(ROLL_CALL(HESKAVERN_ROLL_WORDS(1, 8)).value == 920 - 300 * first);
@@ -875,7 +875,7 @@ static void copied_and_stale(void)
     fresh(1, 2);
 #define COPY memory_before, memory_bytes, books_before, books_words, map_before, map_words
     part = heskavern_view(COPY, 48);
-    EXPECT(lies(part, memory_before + 48, now->unit) && memcmp(part.bytes, "owed", 4) == 0);
+    EXPECT(lies(part, memory_before + 48, now->smallest) && memcmp(part.bytes, "owed", 4) == 0);
     EXPECT(done(heskavern_give_back(COPY, 48), 48));
     EXPECT(is(heskavern_give_back(COPY, 48), HESKAVERN_NO_BLOCK, 0)); /* its arena is released */
     EXPECT(done(heskavern_ask(COPY, 4), 48));

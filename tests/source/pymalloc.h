@@ -6,7 +6,8 @@
 
 #include <stddef.h>
 
-/* 3 in the source, and 4 in newer CPython on 64-bit machines. Here it is that of the heap in whose terms one speaks. */
+/* 3 in the source, and 4 in newer CPython on 64-bit machines. Here it is that of the heap at hand: the variable `heap`
+ * points to it wherever these are used. */
 #define ALIGNMENT_SHIFT         (heap->alignment_shift)
 #define ALIGNMENT               (1u << ALIGNMENT_SHIFT)
 #define INDEX2SIZE(I)           (((unsigned)(I) + 1) << ALIGNMENT_SHIFT)

@@ -174,8 +174,8 @@ impl<'a> Heap<'a> {
         }
     }
 
-    /// The edition that format was told, off the books. It is there on every heap: [`open`](Heap::open) refuses books
-    /// that hold none.
+    /// The edition that the books say, as format was told it; a heap that was made before there were editions is of
+    /// edition eight. [`open`](Heap::open) refuses books that say none.
     ///
     /// ```
     /// # use heskavern::{books_words, map_words, memory_bytes, Edition, Heap, Refusal};

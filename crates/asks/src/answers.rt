@@ -11,6 +11,9 @@ pub const NO_ROOM: usize = numbers::NO_ROOM as usize;
 
 pub const DAMAGED: usize = numbers::DAMAGED as usize;
 
+// By so much the offset is raised above the number, which has 32 bits.
+pub const RAISED: usize = 4294967296;
+
 // A refusal: the number, and offset 0.
 pub fn refuse(number: u32) -> Answer
     ensures { λ r. ⌜ r ≡ answerOf number 0 ⌝ }
@@ -23,7 +26,7 @@ pub fn answer(asked: usize) -> Answer
     ensures { λ r. ⌜ r ≡ answered asked ⌝ }
 {
     Answer {
-        number: (asked % 4294967296) as u32,
-        offset: (asked / 4294967296) as u32,
+        number: (asked % RAISED) as u32,
+        offset: (asked / RAISED) as u32,
     }
 }

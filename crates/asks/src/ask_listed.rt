@@ -2,6 +2,7 @@
 // the heap before, and the record is stored as the path leaves it. The path is no value in between, which would go
 // through memory.
 use crate::answers::DAMAGED;
+use crate::answers::RAISED;
 use bits::set_bit;
 use books::blocks::block_no;
 use books::links::link_at;
@@ -34,7 +35,7 @@ pub fn hand_out(map: &mut [u64], size: usize, p: usize, f: usize) -> usize
         × (now (map .exit) ≡ putMapBit p (blockNo size f) 1 (now (map .entry))) ⌝ }
 {
     set_bit(map, p, block_no(size, f));
-    (4096 * p + f) * 4294967296
+    (4096 * p + f) * RAISED
 }
 
 // The freeblock of the front pool p, whose record is given, has no link: the block at nextoffset follows it, or the

@@ -12,7 +12,9 @@ use lib.ListN.{length}
 use borrow.Author.Tests.{leb-true, ltb-true, eqb-true}
 use Rattle.rules.specs.Books.{Heap, at, inRange, exact, memoryLength, booksLength, mapLength, isSet}
 use Rattle.rules.specs.Say.{if_then_else_}
+use Rattle.rules.specs.Numbers.{sizeNumber}
 use Rattle.rules.specs.Blocks.{
+  largest,
   lastClass,
   isStart,
   blockNo,
@@ -25,7 +27,7 @@ use Rattle.rules.specs.Blocks.{
   liveNumber,
 }
 use Rattle.books.specs.declared.words.Shape.{Shape}
-use Rattle.books.specs.Tests.{both}
+use Rattle.books.specs.Tests.{both, either}
 use Rattle.books.specs.Starts.{Start, start}
 use Rattle.books.specs.Sizes.{Aligned, size-low, size-high}
 
@@ -77,6 +79,13 @@ shaped h A P e f =
       map = eqb-true (length (h .map)) (mapLength A P) (t .1);
     }
 
+-- ---- 3
+pub size-zero : (n : ℕ) → sizeNumber n ≡ 0 → (1 ≤ n) × (n ≤ 512)
+unfolding sizeNumber
+size-zero n =
+    either (λ (k : ℕ). k ≡ 0 → (1 ≤ n) × (n ≤ 512)) (leb 1 n && leb n largest) 0 3
+    (λ e _. let t = both (leb 1 n) (leb n largest) e in (leb-true 1 n (t .0), leb-true n largest (t .1))) (λ _ z. absurd (omega arith))
+
 -- ---- 5 and 10
 -- what is known of a live offset, at the alignment al
 pub record LiveBlock (al A P : ℕ) (b m : List ℕ) (o : ℕ) : Type 0 where
@@ -97,6 +106,14 @@ at-start-is al A P b o e =
     let u = both (p && q) (isStart (sizeAt al A b o) (o % 4096)) e in
     let v = both p q (u .0) in
     (ltb-true o (memoryLength A P) (v .0), leb-true (classAt A b o) (lastClass al) (v .1), u .1)
+
+-- a number 0 of the live test says that there is a live block
+pub live-zero : (al A P : ℕ) (b m : List ℕ) (o : ℕ) → liveNumber al A P b m o ≡ 0 → live al A P b m o ≡ true
+unfolding liveNumber
+live-zero al A P b m o =
+    let F : ℕ → Type 0 = λ k. k ≡ 0 → live al A P b m o ≡ true in
+    either F (live al A P b m o) 0 (deadNumber al A P b o) (λ e _. e)
+    (λ _. either F (isBlock al A P b o) 10 5 (λ _ z. absurd (omega arith)) (λ _ z. absurd (omega arith)))
 
 -- what the live test says
 pub live-is : {al : ℕ} → Aligned al → (A P : ℕ) (b m : List ℕ) (o : ℕ) → live al A P b m o ≡ true

@@ -6,6 +6,7 @@ use native.Mathlib.Omega.{arith}
 use Rattle.rules.specs.declared.Answer.{Answer}
 use Rattle.rules.specs.Books.{Heap}
 use Rattle.rules.specs.Outcome.{Outcome, outcome, answerOf, refused, passing}
+use Rattle.rules.specs.Numbers.{_before_}
 
 module _ {X : Type 0} (f : ℕ → X) (rest : X) where
   pub stopped : (k : ℕ) → (k ≡ 0 → ⊥) → passing k f rest ≡ f k
@@ -20,6 +21,11 @@ module _ {X : Type 0} (f : ℕ → X) (rest : X) where
 pub last-test : (k : ℕ) → passing k (λ n. n) 0 ≡ k
 last-test zero = refl
 last-test (suc k) = refl
+
+-- where two tests let the rest go on, each does
+pub before-zero : (j k : ℕ) → (j before k) ≡ 0 → (j ≡ 0) × (k ≡ 0)
+before-zero zero k e = (refl, e)
+before-zero (suc j) k e = absurd (omega arith)
 
 -- ---- a call that is refused by its tests, and one that they let pass
 module _ (h : Heap) (rest : Outcome) where

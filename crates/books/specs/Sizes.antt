@@ -26,14 +26,13 @@ use Rattle.books.specs.Starts.{capacity-le}
 pub record Aligned (al : ℕ) : Type 0 where
   pub is : (al ≡ 8) ⊎ (al ≡ 16)
   pub low : 8 ≤ al
-  pub high : al ≤ 16
 
 -- and so those of the two editions
 eight : Aligned 8
-eight = record { is = inl refl; low = omega arith; high = omega arith }
+eight = record { is = inl refl; low = omega arith }
 
 sixteen : Aligned 16
-sixteen = record { is = inr refl; low = omega arith; high = omega arith }
+sixteen = record { is = inr refl; low = omega arith }
 
 pub of-eight : (e : ℕ) → e ≡ 0 → alignmentOf e ≡ 8
 unfolding alignmentOf

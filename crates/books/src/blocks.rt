@@ -1,12 +1,12 @@
-// Classes and blocks: the class of a size, the size of a class, the class of an offset's pool, and the starts of a
-// pool's blocks.
+// Classes and blocks: the class of a size, the size of a class, the class and the block size of an offset's pool, and
+// the starts of a pool's blocks.
 use crate::words;
 ghost use mathlib.Core.Path.{_≡_};
 ghost use mathlib.Core.Bool.{true};
 ghost use Prim.Native.Nat.{_/_, _^_, _<_, _≤_};
 ghost use lib.ListN.{length};
 ghost use Rattle.rules.specs.Books.{alignmentOf, poolWord};
-ghost use Rattle.rules.specs.Blocks.{classOf, sizeOf, lastClass, classAt, isStart, blockNo};
+ghost use Rattle.rules.specs.Blocks.{classOf, sizeOf, lastClass, classAt, sizeAt, isStart, blockNo};
 
 // The largest size, and so the size of the blocks of the last class, in both editions.
 pub const LARGEST: usize = 512;
@@ -35,19 +35,28 @@ pub fn size_of(edition: usize, class: usize) -> usize
     ensures { λ r. ⌜ (r ≡ sizeOf (alignmentOf edition) class) × (8 ≤ r)
         × (class ≤ lastClass (alignmentOf edition) → r ≤ 512) ⌝ }
 {
-    if edition == 0 {
+    if edition == words::EIGHT {
         return 8 * (class + 1);
     }
     16 * (class + 1)
 }
 
 // The class of the pool that an offset lies in.
-pub fn class_at(books: &[u32], arenas: usize, offset: usize) -> usize
+fn class_at(books: &[u32], arenas: usize, offset: usize) -> usize
     requires { ⌜ poolWord arenas 8 (offset / 4096) ≤ length (now books) ⌝ }
     ensures { λ r. ⌜ (r ≡ classAt arenas (now (books .entry)) offset) × (r < 2 ^ 32) ⌝ }
 {
     let at = words::RECORDS + 8 * arenas + 8 * (offset / 4096);
     books[at + words::CLASS] as usize
+}
+
+// The block size of the pool that an offset lies in: above the largest exactly if the pool has no class.
+pub fn size_at(books: &[u32], arenas: usize, edition: usize, offset: usize) -> usize
+    requires { ⌜ poolWord arenas 8 (offset / 4096) ≤ length (now books) ⌝ }
+    ensures { λ r. ⌜ (r ≡ sizeAt (alignmentOf edition) arenas (now (books .entry)) offset) × (8 ≤ r)
+        × (classAt arenas (now (books .entry)) offset ≤ lastClass (alignmentOf edition) → r ≤ 512) ⌝ }
+{
+    size_of(edition, class_at(books, arenas, offset))
 }
 
 // A block of this size starts at o in its pool. The range comes first, so that what is divided is small; a 32-bit

@@ -6,7 +6,7 @@ ghost use mathlib.Core.Bool.{true};
 ghost use mathlib.Core.List.{[]};
 ghost use Prim.Native.Nat.{_+_, _*_, _^_, _≤_, _<_};
 ghost use lib.ListN.{length};
-ghost use Rattle.rules.specs.Books.{inRange, exact, at, alignmentOf, booksLength};
+ghost use Rattle.rules.specs.Books.{inRange, isEdition, exact, at, alignmentOf, booksLength};
 ghost use Rattle.rules.specs.Blocks.{sizeAt, atStart, deadNumber, liveNumber};
 ghost use Rattle.rules.specs.Outcome.{heapOf};
 ghost use Rattle.rules.specs.Numbers.{reachNumber, editionNumber, _before_, fitNumber, shapeNumber};
@@ -36,7 +36,14 @@ fn in_range(arenas: usize, pools: usize) -> bool
     (1 <= arenas) & (arenas <= 16) & (2 <= pools) & (pools <= 64)
 }
 
-// Each buffer is exactly as long as they ask.
+// The number is an edition's: 0 for eight, 1 for sixteen.
+fn is_edition(edition: usize) -> bool
+    ensures { λ r. ⌜ r ≡ isEdition edition ⌝ }
+{
+    edition <= 1
+}
+
+// Each buffer is exactly as long as A and P ask.
 fn exact(memory: &[u8], books: &[u32], map: &[u64], arenas: usize, pools: usize) -> bool
     requires { ⌜ (arenas ≤ 16) × (arenas * pools ≤ 1024) ⌝ }
     ensures { λ r. ⌜ r ≡ exact arenas pools (heapOf (now (memory .entry)) (now (books .entry)) (now (map .entry))) ⌝ }
@@ -64,7 +71,7 @@ pub fn fit_number(
     if !in_range(arenas, pools) {
         return OUT_OF_RANGE;
     }
-    if 1 < edition {
+    if !is_edition(edition) {
         return OUT_OF_RANGE;
     }
     if !exact(memory, books, map, arenas, pools) {
@@ -81,7 +88,7 @@ fn wrong_length(books: &[u32]) -> u32
     if books.len() <= words::EDITION {
         return NOT_EXACT;
     }
-    if 1 < words::word(books, words::EDITION) {
+    if !is_edition(words::word(books, words::EDITION)) {
         return OUT_OF_RANGE;
     }
     NOT_EXACT
@@ -106,7 +113,8 @@ pub fn shape_number(memory: &[u8], books: &[u32], map: &[u64]) -> u32
     if !exact(memory, books, map, arenas, pools) {
         return wrong_length(books);
     }
-    if 1 < words::word(books, words::EDITION) {
+    let edition = words::word(books, words::EDITION);
+    if !is_edition(edition) {
         return OUT_OF_RANGE;
     }
     0
@@ -170,7 +178,7 @@ pub fn live_block(
     if memory.len() <= offset {
         return NOTHING_THERE;
     }
-    let size = blocks::size_of(edition, blocks::class_at(books, arenas, offset));
+    let size = blocks::size_at(books, arenas, edition, offset);
     if blocks::LARGEST < size {
         return NOTHING_THERE;
     }

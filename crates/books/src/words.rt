@@ -13,8 +13,13 @@ pub const UNUSED_HEAD: usize = 3;
 
 pub const CLASS_HEADS: usize = 4;
 
-// Which edition the heap is of: 0 for blocks of multiples of eight bytes, 1 for sixteen.
+// The word that says which edition the heap is of.
 pub const EDITION: usize = 68;
+
+// What it says, and what format is told: blocks of multiples of eight bytes, or of sixteen.
+pub const EIGHT: usize = 0;
+
+pub const SIXTEEN: usize = 1;
 
 pub const RECORDS: usize = 72;
 

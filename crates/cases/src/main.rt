@@ -1,17 +1,14 @@
 // Runs 01's "Cases on each side" and cases of 02's W-206, W-211 and W-214, a line for each: the calls of the case in
 // order, with what each answered.
 use books::words::CLASS;
+use books::words::EIGHT;
 use books::words::FREEBLOCK;
 use books::words::MAXNEXTOFFSET;
 use books::words::NEXTOFFSET;
 use books::words::RECORDS;
+use books::words::SIXTEEN;
 use books::words::index;
 use libc::STDOUT_FILENO;
-
-// The editions, as format is told them.
-const EIGHT: usize = 0;
-
-const SIXTEEN: usize = 1;
 
 // ---- printing
 
@@ -433,7 +430,7 @@ fn k1_to_k10(memory: &mut Memory, books: &mut Books, map: &mut Map, edition: usi
     k10(memory, books, map, edition);
 }
 
-// The cases of P = 16.
+// The cases of P = 16, in edition eight and then in sixteen.
 fn of_16_pools() {
     let mut memory = [0u8; 65536];
     let mut books = [0u32; 208];
@@ -444,6 +441,8 @@ fn of_16_pools() {
     dead_block(&mut memory, &mut books, &mut map);
     rolls(&mut memory, &mut books, &mut map);
     stands_in(&mut memory, &mut books, &mut map);
+    k1_to_k10(&mut memory, &mut books, &mut map, SIXTEEN);
+    no_edition(&mut memory, &mut books, &mut map);
 }
 
 // The cases of P = 2.
@@ -453,27 +452,10 @@ fn of_2_pools() {
     let mut map = [0u64; 16];
     fill_by_smallest(&mut memory, &mut books, &mut map, b"Asks of 8", EIGHT);
     fill_by_512(&mut memory, &mut books, &mut map);
-}
-
-// The cases of sixteen, P = 16, and P = 2.
-fn at_sixteen_of_16_pools() {
-    let mut memory = [0u8; 65536];
-    let mut books = [0u32; 208];
-    let mut map = [0u64; 128];
-    k1_to_k10(&mut memory, &mut books, &mut map, SIXTEEN);
-    no_edition(&mut memory, &mut books, &mut map);
-}
-
-fn at_sixteen_of_2_pools() {
-    let mut memory = [0u8; 8192];
-    let mut books = [0u32; 96];
-    let mut map = [0u64; 16];
     fill_by_smallest(&mut memory, &mut books, &mut map, b"Asks of 16", SIXTEEN);
 }
 
 fn main() {
     of_16_pools();
     of_2_pools();
-    at_sixteen_of_16_pools();
-    at_sixteen_of_2_pools();
 }

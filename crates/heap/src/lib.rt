@@ -6,8 +6,7 @@ use asks::answers::answer;
 use asks::answers::refuse;
 use asks::ask::ask_step;
 use books::blocks::LARGEST;
-use books::blocks::class_at;
-use books::blocks::size_of;
+use books::blocks::size_at;
 use books::numbers::BAD_SIZE;
 use books::numbers::DOES_NOT_FIT;
 use books::numbers::fit_number;
@@ -161,16 +160,7 @@ pub fn resize(
     if dead != 0 {
         return refuse(dead);
     }
-    resize_step(
-        memory,
-        books,
-        map,
-        s.arenas,
-        s.pools,
-        s.edition,
-        offset,
-        size,
-    )
+    resize_step(memory, books, map, s, offset, size)
 }
 
 // The block size at a live offset.
@@ -182,7 +172,7 @@ fn block_size(books: &[u32], offset: usize) -> usize
         × (r ≤ 512) ⌝ }
 {
     let s = shape_of(books);
-    size_of(s.edition, class_at(books, s.arenas, offset))
+    size_at(books, s.arenas, s.edition, offset)
 }
 
 // View: the block's own part of memory, from its offset on for its size, or the empty part at memory's start. It is the

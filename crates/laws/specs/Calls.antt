@@ -105,14 +105,6 @@ module _ (al A P : ℕ) (b : List ℕ) (o : ℕ) where
   pub dead-some : deadNumber al A P b o ≢ 0
   dead-some = either (λ (k : ℕ). k ≢ 0) (isBlock al A P b o) 10 5 (λ _. omega arith) (λ _. omega arith)
 
-  pub live-zero : (m : List ℕ) → liveNumber al A P b m o ≡ 0 → live al A P b m o ≡ true
-  unfolding liveNumber
-  live-zero m = go (live al A P b m o)
-    where
-      go : (t : Bool) → (if t then 0 else deadNumber al A P b o) ≡ 0 → t ≡ true
-      go true z = refl
-      go false z = absurd (dead-some z)
-
   pub live-test : {X : Type 0} (m : List ℕ) (refusal : ℕ → X) (rest : X)
       → passing (inOrder 0 0 (liveNumber al A P b m o) 0) refusal rest
       ≡ (if live al A P b m o then rest else refusal (deadNumber al A P b o))

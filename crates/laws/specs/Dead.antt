@@ -57,7 +57,7 @@ use Rattle.rules.specs.Numbers.{
   resize,
   write,
 }
-use Rattle.books.specs.Known.{shaped, at-start-is, live-is}
+use Rattle.books.specs.Known.{shaped, at-start-is, live-zero, live-is}
 use Rattle.books.specs.Tests.{both, neither, either}
 use Rattle.books.specs.Sizes.{Aligned, aligned, size-low, class-low}
 use Rattle.laws.specs.Update.{is-false, to, to-same, to-other}
@@ -68,7 +68,6 @@ use Rattle.laws.specs.Held.{held, arena-low, opened, open-word, carved-w
 use Rattle.laws.specs.Holding.{holding}
 use Rattle.laws.specs.Fresh.{freshHeap, fresh-sound, format-cases}
 use Rattle.laws.specs.Calls.{
-  live-zero,
   ask-done,
   ask-leaves,
   ask-cases,
@@ -392,7 +391,7 @@ module _ {al A P : ℕ} {h : Heap} {r : Plain} (L : Aligned al) (S : Sound al A 
 
   -- 0: it is live. 10: it is not live, and there is a block
   pub done-live : giveBack h o .answer .number ≡ 0 → live al A P (h .books) (h .map) o ≡ true
-  done-live z = live-zero al A P (h .books) o (h .map) (number-is 0 z)
+  done-live z = live-zero al A P (h .books) (h .map) o (number-is 0 z)
 
   pub ten-block : giveBack h o .answer .number ≡ 10 → isBlock al A P (h .books) o ≡ true
   unfolding liveNumber

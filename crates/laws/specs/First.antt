@@ -3,7 +3,6 @@
 -- out, a text in a live block.
 -- Assumes nothing.
 use mathlib.Core.Path.{_≡_, refl, ap, _∙_}
-use mathlib.Core.Logic.{_⊎_, inl, inr}
 use mathlib.Core.Bool.{Bool, true, false}
 use mathlib.Core.List.{List}
 use Prim.Native.Nat.{ℕ, zero, suc, _+_, _/_, _%_, _≤_, _<_, min}
@@ -44,13 +43,13 @@ use Rattle.rules.specs.Numbers.{
   resize,
   write,
 }
-use Rattle.books.specs.Known.{in-range, live-is}
+use Rattle.books.specs.Known.{in-range, size-zero, live-zero, live-is}
+use Rattle.books.specs.Passing.{before-zero}
 use Rattle.books.specs.Sizes.{Aligned, aligned, size-low, size-high, has-class, class-fits}
 use Rattle.plans.specs.Fits.{FitsAsk, fits-ask}
 use Rattle.laws.specs.Bytes.{sets-off}
 use Rattle.laws.specs.Chains.{first-outside, put-link-other}
 use Rattle.laws.specs.Taken.{spend-is}
-use Rattle.laws.specs.Calls.{live-zero, size-number}
 use Rattle.laws.specs.Refused.{tested}
 
 -- memory m′ has the first bytes of m's pools
@@ -114,10 +113,6 @@ module _ {al : ℕ} (L : Aligned al) (A P c : ℕ) (lc : c ≤ lastClass al) (h 
   ask-place (Anew s p) t z = record { pool = p; start = 48; place = refl; low = omega arith; ends = omega (arith, size-high L c lc) }
 
 -- ---- the tests have passed
-before-zero : (j k : ℕ) → (j before k) ≡ 0 → (j ≡ 0) × (k ≡ 0)
-before-zero zero k e = (refl, e)
-before-zero (suc j) k e = absurd (omega arith)
-
 range-some : (A P : ℕ) → rangeNumber A P ≡ 0 → 1 ≤ P
 unfolding rangeNumber
 range-some A P = go (inRange A P) refl
@@ -139,13 +134,6 @@ room-zero wanted room = go (ltb room wanted) refl
     go : (t : Bool) → ltb room wanted ≡ t → _≡_ {A = ℕ} (if t then 7 else 0) 0 → wanted ≤ room
     go true e z = absurd (omega arith)
     go false e z = ltb-false room wanted e
-
-size-zero : (n : ℕ) → sizeNumber n ≡ 0 → (1 ≤ n) × (n ≤ 512)
-size-zero n z = go (size-number n)
-  where
-    go : ((1 ≤ n) × (n ≤ 512)) ⊎ (sizeNumber n ≡ 3) → (1 ≤ n) × (n ≤ 512)
-    go (inl t) = t
-    go (inr e) = absurd (omega (arith, e, z))
 
 -- ---- a give-back of offset o
 module _ {al : ℕ} (L : Aligned al) (A P : ℕ) (h : Heap) (o : ℕ) where
@@ -169,7 +157,7 @@ module _ {al : ℕ} (L : Aligned al) (A P : ℕ) (h : Heap) (o : ℕ) where
   unfolding giveOld
   give-old-first =
       tested (λ (x : Outcome). First (h .memory) (x .heap .memory)) h (liveNumber al A P (h .books) (h .map) o) (backStep al A P h o)
-      (λ j i l. refl) (λ z. back-live (live-zero al A P (h .books) o (h .map) z))
+      (λ j i l. refl) (λ z. back-live (live-zero al A P (h .books) (h .map) o z))
 
 -- ---- an ask and a resize for n bytes
 half-heap : (al A P new : ℕ) (x : Outcome) → halfDone al A P new x .heap ≡ x .heap
@@ -267,7 +255,7 @@ module _ (h : Heap) where
       (λ e.
       let t = before-zero (shapeNumber h) (0 before offsetNumber h o before 0) e in
       let u = before-zero (offsetNumber h o) 0 (t .1) in
-      back-live L (arenas h) (pools h) h o (live-zero (alignment h) (arenas h) (pools h) (h .books) o (h .map) (u .0)))
+      back-live L (arenas h) (pools h) h o (live-zero (alignment h) (arenas h) (pools h) (h .books) (h .map) o (u .0)))
 
   pub resize-first : (o n : ℕ) → First (h .memory) (resize h o n .heap .memory)
   unfolding resize
@@ -285,7 +273,7 @@ module _ (h : Heap) where
       (λ e.
       let t = before-zero (shapeNumber h) (0 before offsetNumber h o before roomNumber (length text) (blockSize h o)) e in
       let u = before-zero (offsetNumber h o) (roomNumber (length text) (blockSize h o)) (t .1) in
-      let b = live-is L (arenas h) (pools h) (h .books) (h .map) o (live-zero (alignment h) (arenas h) (pools h) (h .books) o (h .map) (u .0)) in
+      let b = live-is L (arenas h) (pools h) (h .books) (h .map) o (live-zero (alignment h) (arenas h) (pools h) (h .books) (h .map) o (u .0)) in
       let place : o ≡ offsetOf (o / 4096) (o % 4096) = omega arith in
       λ i l. ap (λ (x : ℕ). at (sets (h .memory) x text) i) place
       ∙ text-first (h .memory) text (o / 4096) (o % 4096) (b .start .low)

@@ -30,7 +30,7 @@ use Rattle.rules.specs.Books.{
   linkTo,
   noClass,
 }
-use Rattle.rules.specs.Format.{freshArenas, freshPools, freshBooks}
+use Rattle.rules.specs.Format.{freshArenas, freshPools, freshHeads, freshBooks}
 use Rattle.rules.specs.Outcome.{Outcome, heapOf, done, refused, passing}
 use Rattle.rules.specs.Numbers.{_before_, rangeNumber, editionNumber, lengthNumber, fitNumber, format}
 use Rattle.bits.specs.Bit.{no-bit}
@@ -91,7 +91,7 @@ pool-words (suc k) zero w l u =
 -- ---- the books, word by word
 module _ (A P e : ℕ) where
   abbrev heads : List ℕ
-  heads = A ∷ P ∷ 0 ∷ linkTo 0 ∷ (replicate 64 0 ++ (e ∷ 0 ∷ 0 ∷ 0 ∷ []))
+  heads = freshHeads A P e
 
   abbrev records : List ℕ
   records = freshArenas 0 A ++ freshPools (A * P)
@@ -272,7 +272,7 @@ module _ (A P e : ℕ) (m : List ℕ)
         pools-are = first-words A P e .1;
         alignment-is = ap alignmentOf (edition-word A P e);
         an-edition = ap isEdition (edition-word A P e) ∙ known;
-        head-zeros = spare-heads A P e;
+        spare-zeros = spare-heads A P e;
         arena-zeros = λ w a u v l. zero-arena w a v (omega arith) (omega arith) l;
         pool-zeros = λ n l. zero-pool 7 n (omega arith) (omega arith) l;
         arenas = λ a l. record {

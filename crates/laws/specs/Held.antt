@@ -193,7 +193,7 @@ pub record Says (al A P : ℕ) (U : View) (m k : List ℕ) (r : Plain) : Type 0 
   pub pools-are : U .head 1 ≡ P
   pub alignment-is : alignmentOf (U .head editionWord) ≡ al
   pub an-edition : isEdition (U .head editionWord) ≡ true
-  pub head-zeros : (i : ℕ) → editionWord < i → i < 72 → U .head i ≡ 0
+  pub spare-zeros : (i : ℕ) → editionWord < i → i < 72 → U .head i ≡ 0
   pub arena-zeros : (w a : ℕ) → 6 ≤ w → w < 8 → a < A → U .arena w a ≡ 0
   pub pool-zeros : (n : ℕ) → n < A * P → U .pool 7 n ≡ 0
   pub arenas : (a : ℕ) → a < A → ArenaSays P U r a
@@ -248,7 +248,7 @@ held {al} {A} {P} {h} {r} S =
         pools-are = S .rule1 .pools-are;
         alignment-is = S .rule1 .alignment-is;
         an-edition = S .rule1 .an-edition;
-        head-zeros = S .rule2 .heads;
+        spare-zeros = S .rule2 .spare;
         arena-zeros = S .rule2 .arenas;
         pool-zeros = S .rule2 .pools;
         arenas = arena-is;
@@ -451,7 +451,7 @@ module _ {al A P : ℕ} {h : Heap} {U : View} {r : Plain} (L : Aligned al)
         rule1 = shape;
         rule2 = record {
           opens = λ a l. rw (open-word a l) (opened-cases (r .mark a));
-          heads = λ i u v. K .spare i (omega arith) v ∙ F .head-zeros i u v;
+          spare = λ i u v. K .spare i (omega arith) v ∙ F .spare-zeros i u v;
           arenas = λ w a u v l. K .arenas w a (omega arith) l ∙ F .arena-zeros w a u v l;
           pools = λ n l. K .pools 7 n (omega arith) l ∙ F .pool-zeros n l;
         };

@@ -83,7 +83,7 @@ pub record Shape (al A P : ℕ) (h : Heap) : Type 0 where
 -- the edition, and "the audit allows it": so words 69 to 71
 pub record Zeros (A P : ℕ) (b : List ℕ) : Type 0 where
   pub opens : (a : ℕ) → a < A → (arena b openWord a ≡ 0) ⊎ (arena b openWord a ≡ 1)
-  pub heads : (i : ℕ) → editionWord < i → i < 72 → at b i ≡ 0
+  pub spare : (i : ℕ) → editionWord < i → i < 72 → at b i ≡ 0
   pub arenas : (w a : ℕ) → 6 ≤ w → w < 8 → a < A → arena b w a ≡ 0
   pub pools : (n : ℕ) → n < A * P → pool A b 7 n ≡ 0
 

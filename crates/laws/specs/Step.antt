@@ -147,7 +147,7 @@ module _ {al A P p a : ℕ} {U U′ : View} {m m′ k : List ℕ} {r r′ : Plai
         pools-are = W .heads 1 ∙ F .pools-are;
         alignment-is = ap alignmentOf (W .heads editionWord) ∙ F .alignment-is;
         an-edition = ap isEdition (W .heads editionWord) ∙ F .an-edition;
-        head-zeros = λ i u v. W .heads i ∙ F .head-zeros i u v;
+        spare-zeros = λ i u v. W .heads i ∙ F .spare-zeros i u v;
         arena-zeros = λ w x u v l. zero-arena w x u v l (ℕ-discrete x a);
         pool-zeros = λ n l. zero-pool n l (ℕ-discrete n p);
         arenas = λ x l. arenas′ x l (ℕ-discrete x a);

@@ -1,5 +1,5 @@
 -- What holds after every history of calls from a format that is done: the demands, as theorems. Each is read off what
--- holds of the heap at the end (Tied): it is sound, and the ledger has what it holds.
+-- holds of the heap at the end (Tied): it is sound, of the edition that was told, and the ledger has what it holds.
 -- Assumes nothing.
 use mathlib.Core.Path.{_≡_, refl, sym, ap, _∙_}
 use mathlib.Core.Logic.{_≢_, _⊎_}
@@ -80,12 +80,13 @@ use Rattle.laws.specs.History.{
 use Rattle.laws.specs.Tied.{Tied, first-format, one-of-two, step, tied}
 use Rattle.laws.specs.Dead.{block-open, event-stays, done-live, ten-block, block-ten, twice, not-ended}
 
--- ---- a history begins with a format that is done, over any buffers: the heap that it leaves, and the empty ledger
+-- ---- a history begins with a format that is done, over any buffers: the heap that it leaves, the empty ledger, and
+-- the edition that it was told
 abbrev pub begun : Heap → ℕ → ℕ → ℕ → State
 begun h A P e = record { heap = format h A P e .heap; ledger = λ o. []; told = e }
 
 module _ (h : Heap) (A P e : ℕ) (ok : format h A P e .answer .number ≡ 0) (es : List Event) where
-  -- the heap and the ledger after it
+  -- the heap, the ledger and the edition told, after it
   abbrev pub end : State
   end = run (begun h A P e) es
 

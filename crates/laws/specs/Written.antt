@@ -84,7 +84,7 @@ module _ {al A P : ℕ} {h : Heap} {r : Plain} (L : Aligned al) (S : Sound al A 
             pools-are = F .pools-are;
             alignment-is = F .alignment-is;
             an-edition = F .an-edition;
-            head-zeros = F .head-zeros;
+            spare-zeros = F .spare-zeros;
             arena-zeros = F .arena-zeros;
             pool-zeros = F .pool-zeros;
             arenas = F .arenas;

@@ -9,7 +9,7 @@ use lib.ListN.{length, replicate, length-append}
 use lib.Seq.{sets}
 use Rattle.rules.specs.Say.{if_then_else_}
 use Rattle.rules.specs.Books.{booksLength, linkTo, noClass}
-use Rattle.rules.specs.Format.{freshArenas, freshPools, freshBooks}
+use Rattle.rules.specs.Format.{freshArenas, freshPools, freshHeads, freshBooks}
 use Rattle.books.specs.Records.{length-arenas, length-pools}
 use Rattle.loops.specs.Sets.{sets-append, sets-all}
 use Rattle.loops.specs.Left.{Parts, counted}
@@ -33,17 +33,13 @@ arena-parts = counted freshArenas (λ i k. recordOf (nextOf i k) i) (λ i. refl)
 pub pool-parts : (n : ℕ) → Parts (freshPools n) n (λ i. freshPools (n - i)) (λ i. recordOf noClass 0)
 pool-parts = counted (λ i. freshPools) (λ i k. recordOf noClass 0) (λ i. refl) (λ i k. refl)
 
--- words 0 to 71
-abbrev pub headsOf : ℕ → ℕ → ℕ → List ℕ
-headsOf A P e = A ∷ P ∷ 0 ∷ 1 ∷ (replicate 64 0 ++ (e ∷ 0 ∷ 0 ∷ 0 ∷ []))
-
 -- the heads, the arena records and the pool records, stored one after the other, are the books
 pub fresh-whole : (b : List ℕ) (A P e : ℕ) → length b ≡ booksLength A P
-    → sets (sets (sets b 0 (headsOf A P e)) 72 (freshArenas 0 A)) (72 + 8 * A) (freshPools (A * P))
+    → sets (sets (sets b 0 (freshHeads A P e)) 72 (freshArenas 0 A)) (72 + 8 * A) (freshPools (A * P))
     ≡ freshBooks A P e
 unfolding freshBooks
 fresh-whole b A P e h =
-    let heads = headsOf A P e in
+    let heads = freshHeads A P e in
     let records = freshArenas 0 A ++ freshPools (A * P) in
     ap (λ (k : ℕ). sets (sets (sets b 0 heads) 72 (freshArenas 0 A)) (72 + k) (freshPools (A * P))) (sym (length-arenas 0 A))
     ∙ sym (sets-append (sets b 0 heads) 72 (freshArenas 0 A) (freshPools (A * P)))

@@ -1,7 +1,6 @@
 // The loops of format, write, resize and roll call.
 use books::blocks::LARGEST;
-use books::blocks::class_at;
-use books::blocks::size_of;
+use books::blocks::size_at;
 use books::words::EDITION;
 use books::words::NO_CLASS;
 use books::words::RECORDS;
@@ -167,7 +166,7 @@ fn count_pool(books: &[u32], map: &[u64], arenas: usize, edition: usize, pool: u
     if none_set(map, pool) {
         return 0;
     }
-    let size = size_of(edition, class_at(books, arenas, 4096 * pool));
+    let size = size_at(books, arenas, edition, 4096 * pool);
     if LARGEST < size {
         return 0;
     }
@@ -276,7 +275,7 @@ fn roll_pool(
     if none_set(map, pool) {
         return at;
     }
-    let size = size_of(edition, class_at(books, arenas, 4096 * pool));
+    let size = size_at(books, arenas, edition, 4096 * pool);
     if LARGEST < size {
         return at;
     }

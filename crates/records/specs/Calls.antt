@@ -10,7 +10,6 @@ use native.Mathlib.Omega.{arith}
 use lib.Dec.{leb, ltb}
 use lib.ListN.{length, replicate}
 use lib.Seq.{sets, getD-set-other}
-use borrow.Author.Tests.{leb-true}
 use Rattle.rules.specs.declared.Source.{Source}
 use Rattle.rules.specs.declared.Source.the-variants.{Freed, Carved, Opened}
 use Rattle.rules.specs.declared.AskPlan.{AskPlan}
@@ -59,9 +58,10 @@ use Rattle.rules.specs.Numbers.{
   resize,
 }
 use Rattle.books.specs.Sizes.{Aligned, aligned, has-class, class-low}
-use Rattle.books.specs.Known.{live-is}
+use Rattle.books.specs.Known.{size-zero, live-zero, live-is}
+use Rattle.books.specs.Passing.{before-zero}
 use Rattle.books.specs.Lists.{leave-keeps, join-keeps}
-use Rattle.books.specs.Tests.{both, either}
+use Rattle.books.specs.Tests.{either}
 use Rattle.loops.specs.Sets.{sets-other}
 
 -- the books b′ have the words of b at the places K
@@ -234,26 +234,10 @@ back-small o Returns = omega arith
 back-small o Releases = omega arith
 
 -- ---- what the tests say where their number is 0
-before-zero : (j k : ℕ) → (j before k) ≡ 0 → (j ≡ 0) × (k ≡ 0)
-before-zero zero k e = (refl, e)
-before-zero (suc j) k e = absurd (omega arith)
-
 order-zero : (shape size offset room : ℕ) → inOrder shape size offset room ≡ 0 → (size ≡ 0) × (offset ≡ 0)
 order-zero shape size offset room e =
     let t = before-zero size _ (before-zero shape _ e .1) in
     (t .0, before-zero offset room (t .1) .0)
-
-pub size-zero : (n : ℕ) → sizeNumber n ≡ 0 → n ≤ 512
-unfolding sizeNumber
-size-zero n =
-    either (λ (k : ℕ). k ≡ 0 → n ≤ 512) (leb 1 n && leb n largest) 0 3
-    (λ e _. leb-true n largest (both (leb 1 n) (leb n largest) e .1)) (λ _ z. absurd (omega arith))
-
-pub live-zero : (al A P : ℕ) (b m : List ℕ) (o : ℕ) → liveNumber al A P b m o ≡ 0 → live al A P b m o ≡ true
-unfolding liveNumber
-live-zero al A P b m o =
-    either (λ (k : ℕ). k ≡ 0 → live al A P b m o ≡ true) (live al A P b m o) 0 (deadNumber al A P b o) (λ e _. e)
-    (λ _. either (λ (k : ℕ). k ≡ 0 → live al A P b m o ≡ true) (isBlock al A P b o) 10 5 (λ _ z. absurd (omega arith)) (λ _ z. absurd (omega arith)))
 
 -- ---- the calls
 -- an outcome over a heap whose books were b: its number is at most 10, and A, P and the edition are as they were
@@ -313,7 +297,7 @@ module _ {al : ℕ} (L : Aligned al) (A P : ℕ) {b : List ℕ} where
       go true = record { small = omega arith; kept = k }
       go false = move o _ (askStep al A P h n) (ask-step h n in-range k)
 
--- of any heap, damaged or not: none of words 0, 1 and 68 is written
+-- of any heap, damaged or not: none of words 0, 1 and 68 to 71 is written
 module _ (h : Heap) where
   abbrev L : Aligned (alignment h)
   L = aligned (edition h)
@@ -326,7 +310,7 @@ module _ (h : Heap) where
   ask-fair n =
       tested (inOrder (shapeNumber h) (sizeNumber n) 0 0) h (askStep (alignment h) (arenas h) (pools h) h n)
       (order-small (shapeNumber h) (sizeNumber n) 0 0 (shape-small h) (size-small n) (omega arith) (omega arith)) none-written
-      (λ e. ask-step L (arenas h) (pools h) h n (size-zero n (order-zero (shapeNumber h) (sizeNumber n) 0 0 e .0)) none-written)
+      (λ e. ask-step L (arenas h) (pools h) h n (size-zero n (order-zero (shapeNumber h) (sizeNumber n) 0 0 e .0) .1) none-written)
 
   pub back-fair : (o : ℕ) → Fair (h .books) (giveBack h o)
   unfolding giveBack
@@ -342,4 +326,4 @@ module _ (h : Heap) where
       let dead = offsetNumber h o in
       tested (inOrder (shapeNumber h) (sizeNumber n) dead 0) h (resizeStep (alignment h) (arenas h) (pools h) h o n)
       (order-small (shapeNumber h) (sizeNumber n) dead 0 (shape-small h) (size-small n) (dead-small o) (omega arith)) none-written
-      (λ e. resize-step L (arenas h) (pools h) h o n (size-zero n (order-zero (shapeNumber h) (sizeNumber n) dead 0 e .0)) none-written)
+      (λ e. resize-step L (arenas h) (pools h) h o n (size-zero n (order-zero (shapeNumber h) (sizeNumber n) dead 0 e .0) .1) none-written)

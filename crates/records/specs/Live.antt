@@ -48,13 +48,13 @@ use Rattle.rules.specs.Numbers.{shapeNumber, sizeNumber, inOrder, ask, giveBack
 use Rattle.bits.specs.Bit.{no-bit, put-other}
 use Rattle.bits.specs.Map.{length-put}
 use Rattle.books.specs.Sizes.{Aligned, aligned, size-low, size-high, class-low, has-class}
-use Rattle.books.specs.Known.{LiveBlock, live-is}
+use Rattle.books.specs.Known.{LiveBlock, size-zero, live-zero, live-is}
 use Rattle.books.specs.Starts.{first-block}
 use Rattle.books.specs.Tests.{both}
 use Rattle.loops.specs.Word.{zeros, each-zero}
 use Rattle.plans.specs.Class.{Range, ranged}
 use Rattle.plans.specs.Fits.{FitsAsk, Spare, fits-ask}
-use Rattle.records.specs.Calls.{Kept, size-zero, live-zero, ask-fair, back-fair, resize-fair}
+use Rattle.records.specs.Calls.{Kept, ask-fair, back-fair, resize-fair}
 use Rattle.records.specs.Replies.{Whole, liveIn, right-shape}
 use Rattle.records.specs.OneMore.{OneMore, one-set, one-cleared, pool-longer, pool-begun, roll-longer}
 use Rattle.records.specs.Classes.{Still, NotAnew, ask-still, listed-map, anew-class, FitsBack, fits-back, back-still}
@@ -348,7 +348,7 @@ module _ (h : Heap) (whole : Whole (h .memory) (h .books) (h .map)) where
     where
       go : (size : ℕ) → sizeNumber n ≡ size
           → Asked al A P h (passing (inOrder 0 size 0 0) (λ k. refused k h) (askStep al A P h n))
-      go zero e = ask-step L A P range h n (size-zero n e) (whole .0 .books) (whole .0 .map)
+      go zero e = ask-step L A P range h n (size-zero n e .1) (whole .0 .books) (whole .0 .map)
       go (suc k) e = record { refused = λ _. refl; done = λ e. absurd (omega arith); map = refl }
 
   gives : (o : ℕ) → Given al A P h (giveBack h o)
@@ -366,7 +366,7 @@ module _ (h : Heap) (whole : Whole (h .memory) (h .books) (h .map)) where
     where
       go : (size dead : ℕ) → sizeNumber n ≡ size
           → Resized al A P h (passing (inOrder 0 size dead 0) (λ k. refused k h) (resizeStep al A P h o n))
-      go zero zero e = resize-step L A P range h o n (size-zero n e) (whole .0 .books) (whole .0 .map)
+      go zero zero e = resize-step L A P range h o n (size-zero n e .1) (whole .0 .books) (whole .0 .map)
       go zero (suc k) e = record { refused = λ _ _. refl; done = λ e. absurd (omega arith) }
       go (suc k) dead e = record { refused = λ _ _. refl; done = λ e. absurd (omega arith) }
 

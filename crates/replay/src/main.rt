@@ -1,5 +1,6 @@
 // Replays records: standard input to standard output, over a fresh heap of one arena of 16 pools. Whole records are
 // answered as they arrive, however the input comes in pieces; what is left of the last one waits for the next read.
+use books::words::EIGHT;
 use books::words::RECORDS;
 use libc::STDIN_FILENO;
 use libc::STDOUT_FILENO;
@@ -13,13 +14,10 @@ ghost use Rattle.records.specs.Replies.{Whole};
 ghost use Rattle.records.specs.Pieces.{recordsIn};
 ghost use Rattle.replay.specs.Turns.{Answered, Lent, NextKept};
 
-// One arena of 16 pools.
+// One arena of 16 pools. (The heap is of edition eight, as 01 has it.)
 const ARENAS: usize = 1;
 
 const POOLS: usize = 16;
-
-// The program stays at edition eight.
-const EDITION: usize = 0;
 
 // The lengths of its three buffers.
 const MEMORY: usize = ARENAS * POOLS * 4096;
@@ -147,6 +145,6 @@ fn main() {
     let mut map = [0u64; MAP];
     let mut input = io::large_buffer();
     let mut output = io::large_buffer();
-    heap::format(&memory, &mut books, &mut map, ARENAS, POOLS, EDITION);
+    heap::format(&memory, &mut books, &mut map, ARENAS, POOLS, EIGHT);
     replay_all(&mut memory, &mut books, &mut map, &mut input, &mut output);
 }

@@ -1,4 +1,5 @@
--- 01, "Memory, books, map": the three lent buffers, their lengths, and where each word and each bit stands.
+-- 01, "Memory, books, map": the three lent buffers, their lengths, and where each word and each bit stands. With it
+-- 02's edition (W-211) and its carved pool (W-201).
 -- Assumes nothing.
 use mathlib.Core.Bool.{Bool, _&&_}
 use mathlib.Core.List.{List}
@@ -79,21 +80,21 @@ arenas h = at (h .books) 0
 abbrev pub pools : Heap → ℕ
 pools h = at (h .books) 1
 
--- 02, W-211: "Spare word 68 says which: 0 for eight, 1 for sixteen": the edition, and the alignment of its blocks.
--- A heap that was made before has 0 there
+-- 02, W-211: "Spare word 68 says which: 0 for eight, 1 for sixteen". A heap that was made before has 0 there
 abbrev pub editionWord : ℕ
 editionWord = 68
 
+-- the one place where it is read
 abbrev pub edition : Heap → ℕ
 edition h = at (h .books) editionWord
 
 abbrev pub isEdition : ℕ → Bool
 isEdition e = leb e 1
 
+-- the alignment of an edition's blocks, and of a heap's
 unfoldable pub alignmentOf : ℕ → ℕ
 alignmentOf e = if eqb e 0 then 8 else 16
 
--- the one place where it is read
 abbrev pub alignment : Heap → ℕ
 alignment h = alignmentOf (edition h)
 

@@ -21,7 +21,7 @@ use Rattle.rules.specs.Whole.{tab, each-three}
 abbrev pool0 : ℕ → ℕ
 pool0 w = poolWord 1 w 0
 
--- one arena, P = 16
+-- one arena, P = 16, edition eight
 abbrev pub cases : List (List Line)
 cases =
     -- K1: "ask 1 gives 48; pool 0 then has freeblock 56, nextoffset 64, maxnextoffset 4,088"

@@ -1,6 +1,6 @@
 -- Damaged books: each clause of 01's rule for 6 from both sides where a row can tell, the three heads of 4, the
--- half-done resize, the order of the tests, and readings R1 to R17 and R22 of docs/DECISIONS.md, and those of 02, where
--- they differ from those not taken. One table under one statement.
+-- half-done resize, the order of the tests, and readings R1 to R17, R22 and R25 to R37 of docs/DECISIONS.md, where they
+-- differ from those not taken. One table under one statement.
 -- Assumes nothing.
 use mathlib.Core.Path.{_≡_}
 use mathlib.Core.List.{List, [], _∷_, _++_}
@@ -58,8 +58,8 @@ use Rattle.rules.specs.Lines.{
 }
 use Rattle.rules.specs.Whole.{tab, each-three}
 
--- Three arenas of three pools: pool n is in arena n div 3 and starts at 4,096n; a pool link is at most 9,
--- an arena link at most 3.
+-- Three arenas of three pools, edition eight: pool n is in arena n div 3 and starts at 4,096n; a pool link is at most
+-- 9, an arena link at most 3.
 -- On a fresh heap the first ask opens arena 0 and carves pool 0, and asks of two more classes carve pools 1 and 2.
 --
 -- A row that is longer than a line is broken between its steps, a step being damage and the calls that meet it, and
@@ -685,7 +685,8 @@ orderOne =
 abbrev orderEdition : List Line
 orderEdition =
     word= 68 2 ∷ asks 0 1 0 ∷ gives 48 1 0 ∷ resizes 48 0 1 0 ∷ writes 48 (1 ∷ []) 1 0
-    ∷ views 48 1 0 [] ∷ viewAt? 48 0 ∷ rolls [] 1 0 [] ∷ word= 68 4294967295 ∷ asks 1 1 0
+    ∷ views 48 1 0 [] ∷ viewAt? 48 0 ∷ standsIn 48 (7 ∷ []) (7 ∷ []) 2 2000 ∷ rolls [] 1 0 []
+    ∷ word= 68 4294967295 ∷ asks 1 1 0
     ∷ word= 68 1 ∷ asks 1 0 48 ∷ rolls (0 ∷ 0 ∷ []) 0 1 (48 ∷ 16 ∷ [])
     ∷ word= 68 0 ∷ rolls (0 ∷ 0 ∷ []) 0 1 (48 ∷ 8 ∷ []) ∷ []
 

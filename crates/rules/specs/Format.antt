@@ -19,8 +19,11 @@ abbrev pub freshPools : ℕ → List ℕ
 freshPools zero = []
 freshPools (suc k) = 0 ∷ 0 ∷ 0 ∷ 0 ∷ noClass ∷ 0 ∷ 0 ∷ 0 ∷ freshPools k
 
--- "A, P, .. with arena 0 first, every other head and spare word 0", but for the edition e in word 68 (02, W-211): words
--- 0 to 71, then the records
+-- words 0 to 71: "A, P, .. with arena 0 first, every other head and spare word 0", but for the edition e in word 68
+-- (02, W-211)
+abbrev pub freshHeads : ℕ → ℕ → ℕ → List ℕ
+freshHeads A P e = A ∷ P ∷ 0 ∷ linkTo 0 ∷ (replicate 64 0 ++ (e ∷ 0 ∷ 0 ∷ 0 ∷ []))
+
+-- then the records
 unfoldable pub freshBooks : ℕ → ℕ → ℕ → List ℕ
-freshBooks A P e =
-    (A ∷ P ∷ 0 ∷ linkTo 0 ∷ (replicate 64 0 ++ (e ∷ 0 ∷ 0 ∷ 0 ∷ []))) ++ (freshArenas 0 A ++ freshPools (A * P))
+freshBooks A P e = freshHeads A P e ++ (freshArenas 0 A ++ freshPools (A * P))

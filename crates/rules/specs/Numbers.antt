@@ -1,5 +1,5 @@
--- 01, "Numbers a call can return": the tests, their order, and the calls: tests first, then the step. Beside view
--- stands 02's stand-in (W-214).
+-- 01, "Numbers a call can return": the tests, with that of 02's edition (W-211), their order, and the calls: tests
+-- first, then the step. Beside view stands 02's stand-in (W-214).
 -- Assumes nothing.
 use mathlib.Core.Bool.{_&&_}
 use mathlib.Core.List.{List, [], _++_}

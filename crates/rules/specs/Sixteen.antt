@@ -32,7 +32,7 @@ abbrev sixteens : ℕ → ℕ → List Line
 sixteens zero o = []
 sixteens (suc n) o = asks 16 0 o ∷ sixteens n (o + 16)
 
--- one arena, P = 16
+-- one arena, P = 16, edition sixteen
 abbrev pub cases : List (List Line)
 cases =
     -- S1: K1 at sixteen, "first block still at 48"
@@ -71,7 +71,7 @@ cases =
     ∷ spoil (putWord (pool0 class) 31) ∷ gives 560 10 0 ∷ rolls (0 ∷ 0 ∷ []) 0 1 (48 ∷ 512 ∷ []) ∷ gives 48 0 48 ∷ [])
     -- S15: 505 and 506 stay
     ∷ (asks 16 0 48 ∷ asks 16 0 64 ∷ asks 16 0 80 ∷ spoil (putWord (pool0 count) 400) ∷ asks 16 0 96
-    ∷ spoil (putWord (pool0 count) 506) ∷ asks 16 6 0 ∷ gives 48 0 48
+    ∷ spoil (putWord (pool0 count) 505) ∷ asks 16 0 112 ∷ asks 16 6 0 ∷ gives 48 0 48
     ∷ spoil (putWord (pool0 count) 507) ∷ gives 64 6 0 ∷ [])
     ∷ []
 

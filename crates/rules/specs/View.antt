@@ -24,7 +24,7 @@ rollBlocks m p s k zero = []
 rollBlocks m p s k (suc n) =
     (if isSet m p k then offsetOf p (startOf s k) ∷ s ∷ [] else []) ++ rollBlocks m p s (suc k) n
 
--- of pool p, where its class is at most 63
+-- of pool p, where its class is one: at most 63, or 31 in edition sixteen
 unfoldable pub rollPool : ℕ → ℕ → List ℕ → List ℕ → ℕ → List ℕ
 rollPool al A b m p =
     let c = pool A b class p in

@@ -27,6 +27,7 @@ use books::words::NEXT;
 use books::words::OPEN;
 use books::words::PREVIOUS;
 use books::words::RECORDS;
+use books::words::Shape;
 use books::words::UNUSED_HEAD;
 use books::words::USABLE_HEAD;
 use books::words::arena_of;
@@ -63,21 +64,19 @@ fn take_back(
     memory: &mut [u8],
     books: &mut [u32],
     map: &mut [u64],
-    arenas: usize,
-    pools: usize,
-    edition: usize,
+    shape: Shape,
     p: usize,
     pool: Pool,
     f: usize,
     k: usize,
 )
-    requires { ⌜ Shaped arenas pools (length (now memory)) (length (now books)) (length (now map))
-        × Counted (alignmentOf edition) arenas pools p f k pool (now books) ⌝ }
+    requires { ⌜ Shaped (shape .arenas) (shape .pools) (length (now memory)) (length (now books)) (length (now map))
+        × Counted (alignmentOf (shape .edition)) (shape .arenas) (shape .pools) p f k pool (now books) ⌝ }
     ensures { λ _. ⌜ heapOf (now (memory .exit)) (now (books .exit)) (now (map .exit))
-        ≡ takeBack (alignmentOf edition) arenas pools (pool .class) p f
+        ≡ takeBack (alignmentOf (shape .edition)) (shape .arenas) (shape .pools) (pool .class) p f
         (heapOf (now (memory .entry)) (now (books .entry)) (now (map .entry))) ⌝ }
 {
-    store_pool(books, arenas, p, pool.give(f as u32));
+    store_pool(books, shape.arenas, p, pool.give(f as u32));
     put_link(memory, 4096 * p + f, pool.freeblock);
     clear_bit(map, p, k);
 }
@@ -171,42 +170,31 @@ fn back_last(
     memory: &mut [u8],
     books: &mut [u32],
     map: &mut [u64],
-    arenas: usize,
-    pools: usize,
-    edition: usize,
+    shape: Shape,
     pool: Pool,
     offset: usize,
     k: usize,
 ) -> u32
-    requires { ⌜ Shaped arenas pools (length (now memory)) (length (now books)) (length (now map))
-        × Counted (alignmentOf edition) arenas pools (offset / 4096) (offset % 4096) k pool (now books) ⌝ }
+    requires { ⌜ Shaped (shape .arenas) (shape .pools) (length (now memory)) (length (now books)) (length (now map))
+        × Counted (alignmentOf (shape .edition)) (shape .arenas) (shape .pools)
+        (offset / 4096) (offset % 4096) k pool (now books) ⌝ }
     ensures { λ r. ⌜ outcome (gave offset r) (heapOf (now (memory .exit)) (now (books .exit)) (now (map .exit)))
-        ≡ givenBack (alignmentOf edition) arenas pools (pool .class)
+        ≡ givenBack (alignmentOf (shape .edition)) (shape .arenas) (shape .pools) (pool .class)
         (heapOf (now (memory .entry)) (now (books .entry)) (now (map .entry))) offset
-        (emptying (alignmentOf edition) arenas pools (now (books .entry)) (pool .class) (offset / 4096)) ⌝ }
+        (emptying (alignmentOf (shape .edition)) (shape .arenas) (shape .pools)
+        (now (books .entry)) (pool .class) (offset / 4096)) ⌝ }
 {
     let p = offset / 4096;
-    let a = arena_of(arenas, pools, p);
+    let a = arena_of(shape.arenas, shape.pools, p);
     let free = arena_word(books, FREE_POOLS, a);
-    let may = may_empty(books, arenas, pools, a, pool, free)
-        & may_settle(books, arenas, pools, a, free);
+    let may = may_empty(books, shape.arenas, shape.pools, a, pool, free)
+        & may_settle(books, shape.arenas, shape.pools, a, free);
     if !may {
         return DAMAGED;
     }
-    take_back(
-        memory,
-        books,
-        map,
-        arenas,
-        pools,
-        edition,
-        p,
-        pool,
-        offset % 4096,
-        k,
-    );
-    empty_pool(books, arenas, pools, a, p, pool);
-    settle(books, arenas, pools, a, free);
+    take_back(memory, books, map, shape, p, pool, offset % 4096, k);
+    empty_pool(books, shape.arenas, shape.pools, a, p, pool);
+    settle(books, shape.arenas, shape.pools, a, free);
     0
 }
 
@@ -215,84 +203,47 @@ fn back_step(
     memory: &mut [u8],
     books: &mut [u32],
     map: &mut [u64],
-    arenas: usize,
-    pools: usize,
-    edition: usize,
+    shape: Shape,
     offset: usize,
     block: Block,
 ) -> u32
-    requires { ⌜ Shaped arenas pools (length (now memory)) (length (now books)) (length (now map))
-        × LiveBlock (alignmentOf edition) arenas pools (now books) (now map) offset
-        × (block .number ≡ blockNo (sizeAt (alignmentOf edition) arenas (now books) offset) (offset % 4096))
-        × (block .size ≡ sizeAt (alignmentOf edition) arenas (now books) offset) ⌝ }
+    requires { ⌜ Shaped (shape .arenas) (shape .pools) (length (now memory)) (length (now books)) (length (now map))
+        × LiveBlock (alignmentOf (shape .edition)) (shape .arenas) (shape .pools) (now books) (now map) offset
+        × (block .number
+        ≡ blockNo (sizeAt (alignmentOf (shape .edition)) (shape .arenas) (now books) offset) (offset % 4096))
+        × (block .size ≡ sizeAt (alignmentOf (shape .edition)) (shape .arenas) (now books) offset) ⌝ }
     ensures { λ r. ⌜ outcome (gave offset r) (heapOf (now (memory .exit)) (now (books .exit)) (now (map .exit)))
-        ≡ backStep (alignmentOf edition) arenas pools
+        ≡ backStep (alignmentOf (shape .edition)) (shape .arenas) (shape .pools)
         (heapOf (now (memory .entry)) (now (books .entry)) (now (map .entry))) offset ⌝ }
 {
     let p = offset / 4096;
     let f = offset % 4096;
-    let pool = load_pool(books, arenas, p);
+    let pool = load_pool(books, shape.arenas, p);
     if !pool.may_give() {
         return DAMAGED;
     }
     if pool.freeblock == 0 {
-        let class = index(pool.class);
-        if !may_join(books, arenas * pools, CLASS_HEADS + class) {
+        let all = shape.arenas * shape.pools;
+        let head = CLASS_HEADS + index(pool.class);
+        if !may_join(books, all, head) {
             return DAMAGED;
         }
-        take_back(
-            memory,
-            books,
-            map,
-            arenas,
-            pools,
-            edition,
-            p,
-            pool,
-            f,
-            block.number,
-        );
-        join(
-            books,
-            arenas * pools,
-            pool_links(arenas),
-            CLASS_HEADS + class,
-            p,
-        );
+        take_back(memory, books, map, shape, p, pool, f, block.number);
+        join(books, all, pool_links(shape.arenas), head, p);
         return 0;
     }
     if !is_start(block.size, index(pool.freeblock)) {
         return DAMAGED;
     }
     if pool.count == 1 {
-        return back_last(
-            memory,
-            books,
-            map,
-            arenas,
-            pools,
-            edition,
-            pool,
-            offset,
-            block.number,
-        );
+        return back_last(memory, books, map, shape, pool, offset, block.number);
     }
-    take_back(
-        memory,
-        books,
-        map,
-        arenas,
-        pools,
-        edition,
-        p,
-        pool,
-        f,
-        block.number,
-    );
+    take_back(memory, books, map, shape, p, pool, f, block.number);
     0
 }
 
-// A give-back of any offset, by what the books and the map show: 0, or the number of the refusal.
+// A give-back of any offset, by what the books and the map show: 0, or the number of the refusal. LLVM calls it, and
+// would hand it a struct in memory: so it takes the numbers of the shape.
 pub fn give_old(
     memory: &mut [u8],
     books: &mut [u32],
@@ -312,5 +263,10 @@ pub fn give_old(
     if REFUSED <= block.number {
         return refusal(block.number);
     }
-    back_step(memory, books, map, arenas, pools, edition, offset, block)
+    let shape = Shape {
+        arenas,
+        pools,
+        edition,
+    };
+    back_step(memory, books, map, shape, offset, block)
 }

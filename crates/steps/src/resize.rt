@@ -2,9 +2,9 @@
 use crate::give_back::give_old;
 use asks::answers::answer;
 use asks::ask::ask_step;
-use books::blocks::class_at;
-use books::blocks::size_of;
+use books::blocks::size_at;
 use books::numbers::DAMAGED;
+use books::words::Shape;
 use loops::copy_within;
 use rules::Answer;
 ghost use mathlib.Core.Path.{_≡_};
@@ -22,21 +22,28 @@ fn move_block(
     memory: &mut [u8],
     books: &mut [u32],
     map: &mut [u64],
-    arenas: usize,
-    pools: usize,
-    edition: usize,
+    shape: Shape,
     from: usize,
     to: usize,
     k: usize,
 ) -> Answer
-    requires { ⌜ Shaped arenas pools (length (now memory)) (length (now books)) (length (now map))
+    requires { ⌜ Shaped (shape .arenas) (shape .pools) (length (now memory)) (length (now books)) (length (now map))
         × (from + k ≤ length (now memory)) × (to + k ≤ length (now memory)) × Apart from to k × (to < 2 ^ 32) ⌝ }
     ensures { λ r. ⌜ outcome r (heapOf (now (memory .exit)) (now (books .exit)) (now (map .exit)))
-        ≡ halfDone (alignmentOf edition) arenas pools to (giveOld (alignmentOf edition) arenas pools
+        ≡ halfDone (alignmentOf (shape .edition)) (shape .arenas) (shape .pools) to
+        (giveOld (alignmentOf (shape .edition)) (shape .arenas) (shape .pools)
         (copy from to k (heapOf (now (memory .entry)) (now (books .entry)) (now (map .entry)))) from) ⌝ }
 {
     copy_within(memory, from, to, k);
-    let given = give_old(memory, books, map, arenas, pools, edition, from);
+    let given = give_old(
+        memory,
+        books,
+        map,
+        shape.arenas,
+        shape.pools,
+        shape.edition,
+        from,
+    );
     if given != 0 {
         return Answer {
             number: DAMAGED,
@@ -61,40 +68,28 @@ pub fn resize_step(
     memory: &mut [u8],
     books: &mut [u32],
     map: &mut [u64],
-    arenas: usize,
-    pools: usize,
-    edition: usize,
+    shape: Shape,
     offset: usize,
     n: usize,
 ) -> Answer
-    requires { ⌜ Shaped arenas pools (length (now memory)) (length (now books)) (length (now map))
-        × LiveBlock (alignmentOf edition) arenas pools (now books) (now map) offset × (1 ≤ n) × (n ≤ 512)
-        × (edition ≡ at (now books) 68) × (edition ≤ 1) ⌝ }
+    requires { ⌜ Shaped (shape .arenas) (shape .pools) (length (now memory)) (length (now books)) (length (now map))
+        × LiveBlock (alignmentOf (shape .edition)) (shape .arenas) (shape .pools) (now books) (now map) offset
+        × (1 ≤ n) × (n ≤ 512) × (shape .edition ≡ at (now books) 68) × (shape .edition ≤ 1) ⌝ }
     ensures { λ r. ⌜ outcome r (heapOf (now (memory .exit)) (now (books .exit)) (now (map .exit)))
-        ≡ resizeStep (alignmentOf edition) arenas pools
+        ≡ resizeStep (alignmentOf (shape .edition)) (shape .arenas) (shape .pools)
         (heapOf (now (memory .entry)) (now (books .entry)) (now (map .entry))) offset n ⌝ }
 {
-    let size = size_of(edition, class_at(books, arenas, offset));
+    let size = size_at(books, shape.arenas, shape.edition, offset);
     if (n <= size) & (3 * size < 4 * n) {
         return Answer {
             number: 0,
             offset: offset as u32,
         };
     }
-    let asked = answer(ask_step(memory, books, map, arenas, pools, n));
+    let asked = answer(ask_step(memory, books, map, shape.arenas, shape.pools, n));
     if asked.number != 0 {
         return asked;
     }
     let to = asked.offset as usize;
-    move_block(
-        memory,
-        books,
-        map,
-        arenas,
-        pools,
-        edition,
-        offset,
-        to,
-        least(n, size),
-    )
+    move_block(memory, books, map, shape, offset, to, least(n, size))
 }

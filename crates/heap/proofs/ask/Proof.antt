@@ -55,7 +55,7 @@ ask-step-requires c κs =
     let at-if1 = at-shape .before .before in
     let at-size-test = at-if1 .before in
     let t = at-size-test .size-test .ensures .1 (at-if1 .if1 .left) in
-    (rw (at-shape .shape-of .ensures) (t .shaped), t .low, t .high, t .edition)
+    (rw (at-shape .shape-of .ensures) (t .shaped), omega (arith, t .low), omega (arith, t .high), t .edition)
 
 answer-requires : tie.Need-answer-requires
 answer-requires c κs = search needs

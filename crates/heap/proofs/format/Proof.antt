@@ -4,6 +4,7 @@ use mathlib.Core.List.{List}
 use mathlib.Core.Path.{ap, ap₂, _∙_}
 use Prim.Native.Nat.{ℕ}
 use lib.ListN.{replicate}
+use native.Mathlib.Omega.{arith}
 use borrow.Author.Needs.{needs}
 use Rattle.rules.specs.Numbers.{format}
 use Rattle.rules.specs.Outcome.{heapOf, done}
@@ -38,7 +39,8 @@ returns c =
 fresh-books-requires : tie.Need-fresh-books-requires
 fresh-books-requires c κs =
     let at-fit-number = c .before .before in
-    let s = at-fit-number .fit-number .ensures .1 (c .before .if1 .left) in (s .0 .arenas-high, s .0 .pools-high, s .1, s .0 .books)
+    let s = at-fit-number .fit-number .ensures .1 (c .before .if1 .left) in
+    (s .0 .arenas-high, s .0 .pools-high, omega (arith, s .1), s .0 .books)
 
 wipe-requires : tie.Need-wipe-requires
 wipe-requires c κs = search needs

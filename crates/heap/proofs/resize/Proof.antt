@@ -101,8 +101,8 @@ resize-step-requires c κs =
     let t = at-size-test .size-test .ensures .1 (at-if1 .if1 .left) in (
       rw (at-shape .shape-of .ensures) (t .shaped),
       at-live-number .live-number .ensures .1 (at-if2 .if2 .left),
-      t .low,
-      t .high,
+      omega (arith, t .low),
+      omega (arith, t .high),
       rw (at-shape .shape-of .ensures),
       rw (at-shape .shape-of .ensures) (t .edition),
     )

@@ -49,7 +49,7 @@ returns c =
     let p = at-loop .loop in
     let k = trailingZeros 64 (p .left) in
     finish (p .inv .0) (none-live 64 (upTo (a .first) (a .size) (a .last)) (p .left) (a .first) (a .size)
-    (past (a .first) (a .size) (a .last) k (omega arith) (omega arith) (c .if1 .taken)))
+    (past (a .first) (a .size) (a .last) k (omega arith) (omega arith) (omega (arith, c .if1 .taken))))
 
 -- where the code goes on, the first set bit is that of a live block, which comes first of what is left
 live : (c : tie.Else1 Inv-loop μ-loop)

@@ -8,7 +8,7 @@ use native.Mathlib.Omega.{arith}
 use lib.Dec.{leb, ltb}
 use borrow.Author.Tests.{lt-ltb, le-ltb}
 use Rattle.rules.specs.Books.{alignmentOf, memoryLength}
-use Rattle.rules.specs.Blocks.{sizeOf, lastClass, blockNo, classAt, sizeAt, atStart, live, isBlock}
+use Rattle.rules.specs.Blocks.{lastClass, blockNo, classAt, sizeAt, atStart, live, isBlock}
 use Rattle.books.specs.Sizes.{aligned, no-class, a-class}
 use Rattle.books.specs.Tests.{held, failed}
 use Rattle.books.specs.Known.{blockAt, when-set, when-clear}
@@ -27,18 +27,8 @@ returns c =
     let a = at-start .args in
     (simp (le-ltb (a .offset) (memoryLength (a .arenas) (a .pools)) (omega (arith, c .if1 .taken, at-start .pre .memory))), λ l. absurd (omega arith))
 
-class-at-requires : tie.Need-class-at-requires
-class-at-requires c κs = search needs
-
-size-of-requires : tie.Need-size-of-requires
-size-of-requires c κs = search needs
-
--- the size is that of the offset's pool
-size-is : (c : tie.After-size-of)
-    → let a = start (c .before .before .before) .args in c .size-of .result ≡ sizeAt (alignmentOf (a .edition)) (a .arenas) (a .books .now) (a .offset)
-size-is c =
-    let a = start (c .before .before .before) .args in
-    c .size-of .ensures .0 ∙ ap (sizeOf (alignmentOf (a .edition))) (c .before .class-at .ensures .0)
+size-at-requires : tie.Need-size-at-requires
+size-at-requires c κs = search needs
 
 -- past the first test the offset lies in memory
 inside : (c : tie.Else1)
@@ -51,20 +41,21 @@ inside c =
 returns-2 : tie.Need-returns-2
 unfolding live isBlock blockAt
 returns-2 c =
-    let at-size-of = c .before in
-    let at-if1 = at-size-of .before .before in
+    let at-size = c .before in
+    let at-if1 = at-size .before in
     let a = start (at-if1 .before) .args in
-    let large = no-class (aligned (a .edition)) (classAt (a .arenas) (a .books .now) (a .offset)) (omega (arith, size-is at-size-of, c .if2 .taken)) in
+    let size = at-size .size-at .ensures .0 in
+    let large = no-class (aligned (a .edition)) (classAt (a .arenas) (a .books .now) (a .offset)) (omega (arith, size, c .if2 .taken)) in
     (simp (inside at-if1, large), λ l. absurd (omega arith))
 
 -- past the second its pool has a class
 classed : (c : tie.Else2)
-    → let a = start (c .before .before .before .before) .args in
+    → let a = start (c .before .before .before) .args in
     leb (classAt (a .arenas) (a .books .now) (a .offset)) (lastClass (alignmentOf (a .edition))) ≡ true
 classed c =
-    let at-size-of = c .before in
-    let a = start (at-size-of .before .before .before) .args in
-    a-class (aligned (a .edition)) (classAt (a .arenas) (a .books .now) (a .offset)) (omega (arith, size-is at-size-of, c .if2 .left))
+    let at-size = c .before in
+    let a = start (at-size .before .before) .args in
+    a-class (aligned (a .edition)) (classAt (a .arenas) (a .books .now) (a .offset)) (omega (arith, at-size .size-at .ensures .0, c .if2 .left))
 
 is-start-requires : tie.Need-is-start-requires
 is-start-requires c κs = search needs
@@ -74,22 +65,22 @@ unfolding live isBlock blockAt
 returns-3 c =
     let at-is-start = c .before in
     let at-if2 = at-is-start .before in
-    let at-size-of = at-if2 .before in
-    let at-if1 = at-size-of .before .before in
-    (simp (inside at-if1, classed at-if2, ← size-is at-size-of, failed (at-is-start .is-start .ensures) (c .if3 .taken)), λ l. absurd (omega arith))
+    let at-size = at-if2 .before in
+    let size = at-size .size-at .ensures .0 in
+    (simp (inside (at-size .before), classed at-if2, ← size, failed (at-is-start .is-start .ensures) (c .if3 .taken)), λ l. absurd (omega arith))
 
 block-no-requires : tie.Need-block-no-requires
 block-no-requires c κs =
     let at-is-start = c .before in
     let at-if2 = at-is-start .before in
-    (at-if2 .before .size-of .ensures .1, omega (arith, at-if2 .if2 .left), held (at-is-start .is-start .ensures) (c .if3 .left))
+    (at-if2 .before .size-at .ensures .1, omega (arith, at-if2 .if2 .left), held (at-is-start .is-start .ensures) (c .if3 .left))
 
 is-set-requires : tie.Need-is-set-requires
 is-set-requires c κs = search needs
 
 -- the function's start, seen from the test of the bit
 abbrev began : tie.After-is-set → tie.Start
-began c = start (c .before .before .before .before .before .before .before .before)
+began c = start (c .before .before .before .before .before .before .before)
 
 -- the tests before it are passed: a block may start there
 starts : (c : tie.After-is-set)
@@ -98,8 +89,8 @@ starts c =
     let at-if3 = c .before .before in
     let at-is-start = at-if3 .before in
     let at-if2 = at-is-start .before in
-    let at-size-of = at-if2 .before in
-    simp (inside (at-size-of .before .before), classed at-if2, ← size-is at-size-of, held (at-is-start .is-start .ensures) (at-if3 .if3 .left))
+    let at-size = at-if2 .before in
+    simp (inside (at-size .before), classed at-if2, ← at-size .size-at .ensures .0, held (at-is-start .is-start .ensures) (at-if3 .if3 .left))
 
 -- and which
 block-is : (c : tie.After-is-set)
@@ -107,14 +98,14 @@ block-is : (c : tie.After-is-set)
     c .before .block-no .result ≡ blockNo (sizeAt (alignmentOf (a .edition)) (a .arenas) (a .books .now) (a .offset)) (a .offset % 4096)
 block-is c =
     let at-block-no = c .before in
-    let at-size-of = at-block-no .before .before .before .before in
-    at-block-no .block-no .ensures .0 ∙ ap (λ (s : ℕ). blockNo s (began c .args .offset % 4096)) (size-is at-size-of)
+    let at-size = at-block-no .before .before .before .before in
+    at-block-no .block-no .ensures .0 ∙ ap (λ (s : ℕ). blockNo s (began c .args .offset % 4096)) (at-size .size-at .ensures .0)
 
 returns-4 : tie.Need-returns-4
 returns-4 c =
     let at-bit = c .before in (
       when-set _ _ _ _ _ _ _ (starts at-bit) (block-is at-bit) (sym (at-bit .is-set .ensures) ∙ c .if4 .taken),
-      λ l. size-is (at-bit .before .before .before .before .before),
+      λ l. at-bit .before .before .before .before .before .size-at .ensures .0,
     )
 
 dead-number-requires : tie.Need-dead-number-requires
@@ -140,8 +131,7 @@ live-block-spec =
     tie.close
     (tie.spec
     returns
-    class-at-requires
-    size-of-requires
+    size-at-requires
     returns-2
     is-start-requires
     returns-3

@@ -1,14 +1,15 @@
 -- `books::numbers::shape_number` answers the number of the first test that fails, and 0 past all of them, when A, P,
 -- the edition and the lengths are known. Books of the right length reach the edition.
 -- Assumes nothing.
-use mathlib.Core.Path.{_≡_, ap₂, _∙_}
+use mathlib.Core.Path.{_≡_, ap, ap₂, _∙_}
 use mathlib.Core.Bool.{true}
+use mathlib.Core.List.{List}
 use Prim.Native.Nat.{ℕ}
 use native.Mathlib.Omega.{arith}
 use lib.Dec.{ltb}
 use lib.ListN.{length}
-use borrow.Author.Tests.{lt-ltb, le-ltb, lt-leb, le-leb}
-use Rattle.rules.specs.Books.{inRange, exact, at}
+use borrow.Author.Tests.{lt-ltb, le-ltb, leb-true}
+use Rattle.rules.specs.Books.{inRange, isEdition, exact, at}
 use Rattle.rules.specs.Outcome.{heapOf}
 use Rattle.rules.specs.Numbers.{reachNumber, rangeNumber, editionNumber, lengthNumber, shapeNumber}
 use Rattle.books.specs.Tests.{held, failed}
@@ -101,31 +102,40 @@ returns-3 c =
 word-requires-3 : tie.Need-word-requires-3
 word-requires-3 c κs = omega (arith, known c .books)
 
+is-edition-requires : tie.Need-is-edition-requires
+is-edition-requires c κs = search needs
+
+-- the third test, seen from that of the edition; what is tested there is the books' own, which they reach
+abbrev exactly : tie.After-is-edition → tie.Else3
+exactly c = c .before .before
+
+abbrev words : tie.After-is-edition → List ℕ
+words c = began (ranged (exactly c .before)) .args .books .now
+
+edition-is : (c : tie.After-is-edition) → c .is-edition .result ≡ isEdition (at (words c) 68)
+edition-is c = c .is-edition .ensures ∙ ap isEdition (c .before .word3 .ensures .0)
+
+long : (c : tie.After-is-edition) → ltb 68 (length (words c)) ≡ true
+long c = lt-ltb 68 (length (words c)) (omega (arith, known (exactly c) .books))
+
 returns-4 : tie.Need-returns-4
 unfolding shapeNumber reachNumber rangeNumber editionNumber
 returns-4 c =
-    let at-word3 = c .before in
-    let at-if3 = at-word3 .before in
-    let at-if2 = at-if3 .before .before in
+    let at-edition = c .before in
+    let at-if2 = exactly at-edition .before .before in
     let at-if1 = at-if2 .before .before .before .before in
-    let b = start (at-if1 .before) .args .books .now in
-    let long = lt-ltb 68 (length b) (omega (arith, known at-if3 .books)) in
-    (simp (reaches at-if1, in-range-is at-if2, long, ← at-word3 .word3 .ensures .0, lt-leb _ _ (c .if4 .taken)), λ z. absurd (omega arith))
+    (simp (reaches at-if1, in-range-is at-if2, long at-edition, failed (edition-is at-edition) (c .if4 .taken)), λ z. absurd (omega arith))
 
 returns-5 : tie.Need-returns-5
 unfolding shapeNumber reachNumber rangeNumber editionNumber lengthNumber
 returns-5 c =
-    let at-word3 = c .before in
-    let at-if3 = at-word3 .before in
-    let at-exact = at-if3 .before in
-    let at-if2 = at-exact .before in
+    let at-edition = c .before in
+    let at-if3 = exactly at-edition in
+    let at-if2 = at-if3 .before .before in
     let at-if1 = at-if2 .before .before .before .before in
-    let b = start (at-if1 .before) .args .books .now in
-    let long = lt-ltb 68 (length b) (omega (arith, known at-if3 .books)) in
-    let fits = held (exact-is at-exact) (at-if3 .if3 .left) in (
-      simp (reaches at-if1, in-range-is at-if2, long, ← at-word3 .word3 .ensures .0, le-leb _ _ (c .if4 .left), fits),
-      λ z. (known at-if3, omega (arith, at-word3 .word3 .ensures .0, c .if4 .left)),
-    )
+    let fits = held (exact-is (at-if3 .before)) (at-if3 .if3 .left) in
+    let e = held (edition-is at-edition) (c .if4 .left) in
+    (simp (reaches at-if1, in-range-is at-if2, long at-edition, e, fits), λ z. (known at-if3, leb-true _ 1 e))
 
 pub shape-number-spec : {M : Type 1} → statement M
 shape-number-spec =
@@ -140,5 +150,6 @@ shape-number-spec =
     wrong-length-requires
     returns-3
     word-requires-3
+    is-edition-requires
     returns-4
     returns-5)

@@ -52,9 +52,10 @@ tested : (c : tie.After-may-settle)
     → let at-arena-word = read c in
     let at-arena-of = at-arena-word .before .before in
     let a = start at-arena-of .args in
+    let s = a .shape in
     c .before .before .may-empty .result && c .may-settle .result
-    ≡ mayEmpty (a .arenas) (a .pools) (at-arena-of .arena-of .result) (a .pool) (at-arena-word .arena-word .result) (a .books .now)
-    && maySettle (a .arenas) (a .pools) (at-arena-of .arena-of .result) (at-arena-word .arena-word .result) (a .books .now)
+    ≡ mayEmpty (s .arenas) (s .pools) (at-arena-of .arena-of .result) (a .pool) (at-arena-word .arena-word .result) (a .books .now)
+    && maySettle (s .arenas) (s .pools) (at-arena-of .arena-of .result) (at-arena-word .arena-word .result) (a .books .now)
 tested c = ap₂ _&&_ (c .before .before .may-empty .ensures) (c .may-settle .ensures)
 
 returns : tie.Need-returns
@@ -63,20 +64,22 @@ returns c =
     let at-arena-of = at-arena-word .before .before in
     let at-start = start at-arena-of in
     let a = at-start .args in
+    let s = a .shape in
     let h = heapOf (a .memory .now) (a .books .now) (a .map .now) in
-    let broken = stuck (alignmentOf (a .edition)) (a .arenas) (a .pools) (a .books .now) (a .pool .class) (a .offset / 4096) (at-arena-of .arena-of .result)
+    let broken = stuck (alignmentOf (s .edition)) (s .arenas) (s .pools) (a .books .now) (a .pool .class) (a .offset / 4096) (at-arena-of .arena-of .result)
     (at-arena-word .arena-word .result) (a .pool) (at-start .pre .1 .loaded)
     (at-arena-of .arena-of .ensures .0) (at-arena-word .arena-word .ensures .0) (failed (tested (c .before)) (c .if1 .taken)) in
-    damaged (alignmentOf (a .edition)) (a .arenas) (a .pools) (a .pool .class) h (a .offset)
-    ∙ ap (givenBack (alignmentOf (a .edition)) (a .arenas) (a .pools) (a .pool .class) h (a .offset)) (sym broken)
+    damaged (alignmentOf (s .edition)) (s .arenas) (s .pools) (a .pool .class) h (a .offset)
+    ∙ ap (givenBack (alignmentOf (s .edition)) (s .arenas) (s .pools) (a .pool .class) h (a .offset)) (sym broken)
 
 -- once the test has passed, each of the two holds
 passed : (c : tie.Else1)
     → let at-arena-word = read (c .before) in
     let at-arena-of = at-arena-word .before .before in
     let a = start at-arena-of .args in
-    (mayEmpty (a .arenas) (a .pools) (at-arena-of .arena-of .result) (a .pool) (at-arena-word .arena-word .result) (a .books .now) ≡ true)
-    × (maySettle (a .arenas) (a .pools) (at-arena-of .arena-of .result) (at-arena-word .arena-word .result) (a .books .now) ≡ true)
+    let s = a .shape in
+    (mayEmpty (s .arenas) (s .pools) (at-arena-of .arena-of .result) (a .pool) (at-arena-word .arena-word .result) (a .books .now) ≡ true)
+    × (maySettle (s .arenas) (s .pools) (at-arena-of .arena-of .result) (at-arena-word .arena-word .result) (a .books .now) ≡ true)
 passed c = both _ _ (held (tested (c .before)) (c .if1 .left))
 
 take-back-requires : tie.Need-take-back-requires
@@ -90,19 +93,20 @@ empty-pool-requires c κs =
     let at-arena-of = at-arena-word .before .before in
     let at-start = start at-arena-of in
     let a = at-start .args in
+    let s = a .shape in
     let p = a .offset / 4096 in
     let f = a .offset % 4096 in
     let e = ap (λ (h : Heap). h .books) (at-take-back .take-back .ensures) in
-    let fits = fits-empty (a .arenas) (a .pools) (at-arena-of .arena-of .result) p (at-arena-word .arena-word .result) (a .pool) (a .books .now)
+    let fits = fits-empty (s .arenas) (s .pools) (at-arena-of .arena-of .result) p (at-arena-word .arena-word .result) (a .pool) (a .books .now)
     (at-start .pre .1 .loaded) (at-arena-of .arena-of .ensures .0) (at-arena-word .arena-word .ensures .0) (passed at-if1 .0) in (
       ranged (at-start .pre .0),
-      omega (arith, ap length e, length-taken (a .arenas) p f (a .books .now), at-start .pre .0 .books),
+      omega (arith, ap length e, length-taken (s .arenas) p f (a .books .now), at-start .pre .0 .books),
       at-arena-of .arena-of .ensures .0,
       at-arena-of .arena-of .ensures .1,
       at-start .pre .1 .there,
       at-start .pre .1 .class,
       rw e
-          (taken-fits (a .arenas) (a .pools) (a .pool .class) p f (a .books .now) (a .pool)
+          (taken-fits (s .arenas) (s .pools) (a .pool .class) p f (a .books .now) (a .pool)
           (omega (arith, at-arena-of .arena-of .ensures .0, at-arena-of .arena-of .ensures .1)) fits),
     )
 
@@ -110,14 +114,16 @@ empty-pool-requires c κs =
 last-books : (c : tie.After-empty-pool)
     → let at-if1 = allowed (taken (c .before)) in
     let a = start (read (at-if1 .before) .before .before) .args in
+    let s = a .shape in
     c .empty-pool .last .0
-    ≡ emptied (a .arenas) (a .pools) (a .pool .class) (a .offset / 4096) (takenBack (a .arenas) (a .offset / 4096) (a .offset % 4096) (a .books .now))
+    ≡ emptied (s .arenas) (s .pools) (a .pool .class) (a .offset / 4096) (takenBack (s .arenas) (a .offset / 4096) (a .offset % 4096) (a .books .now))
 last-books c =
     let at-take-back = taken (c .before) in
     let at-if1 = allowed at-take-back in
     let a = start (read (at-if1 .before) .before .before) .args in
+    let s = a .shape in
     c .empty-pool .ensures
-    ∙ ap (emptied (a .arenas) (a .pools) (a .pool .class) (a .offset / 4096)) (ap (λ (h : Heap). h .books) (at-take-back .take-back .ensures))
+    ∙ ap (emptied (s .arenas) (s .pools) (a .pool .class) (a .offset / 4096)) (ap (λ (h : Heap). h .books) (at-take-back .take-back .ensures))
 
 settle-requires : tie.Need-settle-requires
 settle-requires c κs =
@@ -127,19 +133,20 @@ settle-requires c κs =
     let at-arena-of = at-arena-word .before .before in
     let at-start = start at-arena-of in
     let a = at-start .args in
+    let s = a .shape in
     let p = a .offset / 4096 in
     let f = a .offset % 4096 in
     let free = at-arena-word .arena-word .result in
     let home = at-arena-of .arena-of .ensures .0 in
     let e = last-books at-empty-pool in
-    let kept = may-settle-last (a .arenas) (a .pools) (a .pool .class) p f (a .books .now) (at-start .pre .1 .class)
+    let kept = may-settle-last (s .arenas) (s .pools) (a .pool .class) p f (a .books .now) (at-start .pre .1 .class)
     (omega (arith, home, at-arena-of .arena-of .ensures .1)) free in (
       ranged (at-start .pre .0),
-      omega (arith, ap length e, last-length (a .arenas) (a .pools) (a .pool .class) p f (a .books .now), at-start .pre .0 .books),
+      omega (arith, ap length e, last-length (s .arenas) (s .pools) (a .pool .class) p f (a .books .now), at-start .pre .0 .books),
       at-arena-of .arena-of .ensures .1,
       at-arena-word .arena-word .ensures .1,
-      ap₂ (λ (n : ℕ) (x : List ℕ). maySettle (a .arenas) (a .pools) n free x) home e ∙ kept
-          ∙ ap (λ (n : ℕ). maySettle (a .arenas) (a .pools) n free (a .books .now)) (sym home) ∙ passed at-if1 .1,
+      ap₂ (λ (n : ℕ) (x : List ℕ). maySettle (s .arenas) (s .pools) n free x) home e ∙ kept
+          ∙ ap (λ (n : ℕ). maySettle (s .arenas) (s .pools) n free (a .books .now)) (sym home) ∙ passed at-if1 .1,
     )
 
 same-length-2 : tie.Need-same-length-2
@@ -162,20 +169,21 @@ returns-2 c =
     let at-arena-of = at-arena-word .before .before in
     let at-start = start at-arena-of in
     let a = at-start .args in
+    let s = a .shape in
     let p = a .offset / 4096 in
     let f = a .offset % 4096 in
     let h = heapOf (a .memory .now) (a .books .now) (a .map .now) in
     let free = at-arena-word .arena-word .result in
-    let path = settles (alignmentOf (a .edition)) (a .arenas) (a .pools) (a .books .now) (a .pool .class) p (at-arena-of .arena-of .result) free (a .pool)
+    let path = settles (alignmentOf (s .edition)) (s .arenas) (s .pools) (a .books .now) (a .pool .class) p (at-arena-of .arena-of .result) free (a .pool)
     (at-start .pre .1 .loaded)
     (at-arena-of .arena-of .ensures .0) (at-arena-word .arena-word .ensures .0) (held (tested at-may-settle) (at-if1 .if1 .left)) in
     ap (λ (x : List ℕ). outcome (answerOf 0 (a .offset)) (heapOf (at-take-back .take-back .last .0) x (at-take-back .take-back .last .1 .1 .0)))
     (at-settle .settle .ensures
-    ∙ ap₂ (λ (n : ℕ) (x : List ℕ). settled (a .pools) n free x) (at-arena-of .arena-of .ensures .0) (at-empty-pool .empty-pool .ensures))
+    ∙ ap₂ (λ (n : ℕ) (x : List ℕ). settled (s .pools) n free x) (at-arena-of .arena-of .ensures .0) (at-empty-pool .empty-pool .ensures))
     ∙ ap (λ (x : Heap). outcome (answerOf 0 (a .offset))
-    (onBooks (λ b. settled (a .pools) (p / a .pools) free (emptied (a .arenas) (a .pools) (a .pool .class) p b)) x)) (at-take-back .take-back .ensures)
-    ∙ sym (emptied-settled (alignmentOf (a .edition)) (a .arenas) (a .pools) (a .pool .class) h (a .offset) free)
-    ∙ ap (givenBack (alignmentOf (a .edition)) (a .arenas) (a .pools) (a .pool .class) h (a .offset)) (sym path)
+    (onBooks (λ b. settled (s .pools) (p / s .pools) free (emptied (s .arenas) (s .pools) (a .pool .class) p b)) x)) (at-take-back .take-back .ensures)
+    ∙ sym (emptied-settled (alignmentOf (s .edition)) (s .arenas) (s .pools) (a .pool .class) h (a .offset) free)
+    ∙ ap (givenBack (alignmentOf (s .edition)) (s .arenas) (s .pools) (a .pool .class) h (a .offset)) (sym path)
 
 pub back-last-spec : {M : Type 1} → statement M
 back-last-spec =

@@ -32,7 +32,7 @@ abbrev loaded : tie.Else1 → tie.After-load-pool
 loaded c = c .before .before
 
 abbrev passed : tie.Else3 → tie.Else1
-passed c = c .before .before .before .before .before .before
+passed c = c .before .before .before .before .before .before .before
 
 abbrev joinable : tie.After-take-back → tie.Else3
 joinable c = c .before .before .before .before
@@ -64,12 +64,13 @@ returns c =
     let at-load-pool = at-may-give .before in
     let at-start = start at-load-pool in
     let a = at-start .args in
+    let s = a .shape in
     let h = heapOf (a .memory .now) (a .books .now) (a .map .now) in
     let q = at-load-pool .load-pool .result in
-    let path = miscounted (alignmentOf (a .edition)) (a .arenas) (a .pools) (a .books .now) (q .class) (a .offset / 4096) q (at-load-pool .load-pool .ensures)
+    let path = miscounted (alignmentOf (s .edition)) (s .arenas) (s .pools) (a .books .now) (q .class) (a .offset / 4096) q (at-load-pool .load-pool .ensures)
     (failed (at-may-give .may-give .ensures) (c .if1 .taken)) in
-    step-is (alignmentOf (a .edition)) (a .arenas) (a .pools) (q .class) h (a .offset) _ _ (ap (λ (x : Pool). x .class) (at-load-pool .load-pool .ensures)) path
-    (damaged (alignmentOf (a .edition)) (a .arenas) (a .pools) (q .class) h (a .offset))
+    step-is (alignmentOf (s .edition)) (s .arenas) (s .pools) (q .class) h (a .offset) _ _ (ap (λ (x : Pool). x .class) (at-load-pool .load-pool .ensures)) path
+    (damaged (alignmentOf (s .edition)) (s .arenas) (s .pools) (q .class) h (a .offset))
 
 -- the pool's count has passed
 gives : (c : tie.Else1) → mayGive (loaded c .load-pool .result) ≡ true
@@ -78,28 +79,30 @@ gives c = held (c .before .may-give .ensures) (c .if1 .left)
 -- the block, once its pool's count has passed
 block : (c : tie.Else1)
     → let a = start (loaded c) .args in
-    Counted (alignmentOf (a .edition)) (a .arenas) (a .pools) (a .offset / 4096) (a .offset % 4096) (a .block .number) (loaded c .load-pool .result)
+    let s = a .shape in
+    Counted (alignmentOf (s .edition)) (s .arenas) (s .pools) (a .offset / 4096) (a .offset % 4096) (a .block .number) (loaded c .load-pool .result)
     (a .books .now)
 block c =
     let at-load-pool = loaded c in
     let at-start = start at-load-pool in
     let a = at-start .args in
-    counted (aligned (a .edition)) (a .arenas) (a .pools) (a .block .number) (a .offset) (at-load-pool .load-pool .result) (a .books .now) (a .map .now)
+    let s = a .shape in
+    counted (aligned (s .edition)) (s .arenas) (s .pools) (a .block .number) (a .offset) (at-load-pool .load-pool .result) (a .books .now) (a .map .now)
     (at-load-pool .load-pool .ensures) (at-start .pre .1) (at-start .pre .2) (gives c)
+
+mul-all : tie.Need-mul-all
+mul-all c = search needs
 
 index-requires : tie.Need-index-requires
 index-requires c κs = search needs
 
-mul-may-join : tie.Need-mul-may-join
-mul-may-join c = search needs
-
-add-may-join : tie.Need-add-may-join
-add-may-join c = search needs
+add-head : tie.Need-add-head
+add-head c = search needs
 
 may-join-requires : tie.Need-may-join-requires
 may-join-requires c κs =
     let at-index = c .before in
-    let at-if1 = at-index .before .before .before in
+    let at-if1 = at-index .before .before .before .before in
     let at-start = start (loaded at-if1) in
     omega (arith, block at-if1 .class, at-index .index .ensures .0, at-start .pre .0 .books)
 
@@ -110,36 +113,29 @@ returns-2 : tie.Need-returns-2
 returns-2 c =
     let at-may-join = c .before in
     let at-index = at-may-join .before .before in
-    let at-if2 = at-index .before in
+    let at-if2 = at-index .before .before in
     let at-if1 = at-if2 .before .before in
     let at-load-pool = loaded at-if1 in
     let at-start = start at-load-pool in
     let a = at-start .args in
+    let s = a .shape in
     let h = heapOf (a .memory .now) (a .books .now) (a .map .now) in
     let q = at-load-pool .load-pool .result in
-    let path = listless (alignmentOf (a .edition)) (a .arenas) (a .pools) (a .books .now) (q .class) (a .offset / 4096) q (at-load-pool .load-pool .ensures)
+    let path = listless (alignmentOf (s .edition)) (s .arenas) (s .pools) (a .books .now) (q .class) (a .offset / 4096) q (at-load-pool .load-pool .ensures)
     (gives at-if1) (at-if2 .if2 .taken)
     (rw (at-index .index .ensures .0) at (failed (at-may-join .may-join .ensures) (c .if3 .taken))) in
-    step-is (alignmentOf (a .edition)) (a .arenas) (a .pools) (q .class) h (a .offset) _ _ (ap (λ (x : Pool). x .class) (at-load-pool .load-pool .ensures)) path
-    (damaged (alignmentOf (a .edition)) (a .arenas) (a .pools) (q .class) h (a .offset))
+    step-is (alignmentOf (s .edition)) (s .arenas) (s .pools) (q .class) h (a .offset) _ _ (ap (λ (x : Pool). x .class) (at-load-pool .load-pool .ensures)) path
+    (damaged (alignmentOf (s .edition)) (s .arenas) (s .pools) (q .class) h (a .offset))
 
 take-back-requires : tie.Need-take-back-requires
 take-back-requires c κs =
     let at-if1 = passed (c .before .before .before) in
     (start (loaded at-if1) .pre .0, block at-if1)
 
-mul-join : tie.Need-mul-join
-mul-join c =
-    let at-if1 = passed (joinable (taken c)) in
-    omega (arith, start (loaded at-if1) .pre .0 .all)
-
 pool-links-requires : tie.Need-pool-links-requires
 pool-links-requires c κs =
     let at-if1 = passed (joinable (taken c)) in
     start (loaded at-if1) .pre .0 .arenas-high
-
-add-join : tie.Need-add-join
-add-join c = search needs
 
 join-requires : tie.Need-join-requires
 join-requires c κs =
@@ -147,17 +143,18 @@ join-requires c κs =
     let at-if3 = joinable at-take-back in
     let at-may-join = at-if3 .before in
     let at-index = at-may-join .before .before in
-    let at-if1 = at-index .before .before .before in
+    let at-if1 = at-index .before .before .before .before in
     let at-start = start (loaded at-if1) in
     let a = at-start .args in
+    let s = a .shape in
     let p = a .offset / 4096 in
     let f = a .offset % 4096 in
     let b = block at-if1 in
     let e = ap (λ (h : Heap). h .books) (at-take-back .take-back .ensures) in
-    let long = length-taken (a .arenas) p f (a .books .now) in
-    let head : at (a .books .now) (classHead (at-index .index .result)) ≤ a .arenas * a .pools = leb-true _ _
+    let long = length-taken (s .arenas) p f (a .books .now) in
+    let head : at (a .books .now) (classHead (at-index .index .result)) ≤ s .arenas * s .pools = leb-true _ _
     (held (at-may-join .may-join .ensures) (at-if3 .if3 .left)) in
-    let kept = taken-before (a .arenas) (a .pools) (at-index .index .result) p f (a .books .now) (classHead (at-index .index .result))
+    let kept = taken-before (s .arenas) (s .pools) (at-index .index .result) p f (a .books .now) (classHead (at-index .index .result))
     (omega (arith, b .class, at-index .index .ensures .0)) in (
       b .there,
       at-start .pre .0 .all,
@@ -184,32 +181,33 @@ returns-3 c =
     let at-if3 = joinable at-take-back in
     let at-may-join = at-if3 .before in
     let at-index = at-may-join .before .before in
-    let at-if2 = at-index .before in
+    let at-if2 = at-index .before .before in
     let at-if1 = at-if2 .before .before in
     let at-load-pool = loaded at-if1 in
     let at-start = start at-load-pool in
     let a = at-start .args in
+    let s = a .shape in
     let h = heapOf (a .memory .now) (a .books .now) (a .map .now) in
     let q = at-load-pool .load-pool .result in
-    let path = joins (alignmentOf (a .edition)) (a .arenas) (a .pools) (a .books .now) (q .class) (a .offset / 4096) q (at-load-pool .load-pool .ensures)
+    let path = joins (alignmentOf (s .edition)) (s .arenas) (s .pools) (a .books .now) (q .class) (a .offset / 4096) q (at-load-pool .load-pool .ensures)
     (gives at-if1) (at-if2 .if2 .taken)
-    (ap (λ (x : ℕ). L.mayJoin (a .arenas * a .pools) (classHead x) (a .books .now)) (sym (at-index .index .ensures .0))
+    (ap (λ (x : ℕ). L.mayJoin (s .arenas * s .pools) (classHead x) (a .books .now)) (sym (at-index .index .ensures .0))
     ∙ held (at-may-join .may-join .ensures) (at-if3 .if3 .left)) in
-    step-is (alignmentOf (a .edition)) (a .arenas) (a .pools) (q .class) h (a .offset) _ _ (ap (λ (x : Pool). x .class) (at-load-pool .load-pool .ensures)) path
+    step-is (alignmentOf (s .edition)) (s .arenas) (s .pools) (q .class) h (a .offset) _ _ (ap (λ (x : Pool). x .class) (at-load-pool .load-pool .ensures)) path
     (ap (λ (x : List ℕ). outcome (answerOf 0 (a .offset)) (heapOf (at-take-back .take-back .last .0) x (at-take-back .take-back .last .1 .1 .0)))
     (at-join .join .ensures
     ∙ ap₂ (λ (x y : ℕ). L.join x (4 + y) (a .offset / 4096) (at-take-back .take-back .last .1 .0))
     (at-pool-links .pool-links .ensures) (at-index .index .ensures .0))
-    ∙ ap (λ (x : Heap). outcome (answerOf 0 (a .offset)) (onBooks (L.join (L.poolLinks (a .arenas)) (classHead (q .class)) (a .offset / 4096)) x))
+    ∙ ap (λ (x : Heap). outcome (answerOf 0 (a .offset)) (onBooks (L.join (L.poolLinks (s .arenas)) (classHead (q .class)) (a .offset / 4096)) x))
     (at-take-back .take-back .ensures))
 
 -- the size is that of the pool's class
 size : (c : tie.Else1)
-    → let a = start (loaded c) .args in a .block .size ≡ sizeOf (alignmentOf (a .edition)) (loaded c .load-pool .result .class)
+    → let a = start (loaded c) .args in a .block .size ≡ sizeOf (alignmentOf (a .shape .edition)) (loaded c .load-pool .result .class)
 size c =
     let at-start = start (loaded c) in
     at-start .pre .3
-    ∙ ap (sizeOf (alignmentOf (at-start .args .edition))) (sym (ap (λ (x : Pool). x .class) (loaded c .load-pool .ensures)))
+    ∙ ap (sizeOf (alignmentOf (at-start .args .shape .edition))) (sym (ap (λ (x : Pool). x .class) (loaded c .load-pool .ensures)))
 
 index-requires-2 : tie.Need-index-requires-2
 index-requires-2 c κs = search needs
@@ -231,13 +229,14 @@ returns-4 c =
     let at-load-pool = loaded at-if1 in
     let at-start = start at-load-pool in
     let a = at-start .args in
+    let s = a .shape in
     let h = heapOf (a .memory .now) (a .books .now) (a .map .now) in
     let q = at-load-pool .load-pool .result in
-    let path = no-start (alignmentOf (a .edition)) (a .arenas) (a .pools) (a .books .now) (q .class) (a .offset / 4096) q (at-load-pool .load-pool .ensures)
+    let path = no-start (alignmentOf (s .edition)) (s .arenas) (s .pools) (a .books .now) (q .class) (a .offset / 4096) q (at-load-pool .load-pool .ensures)
     (a .block .size) (at-index2 .index2 .result) (size at-if1) (at-index2 .index2 .ensures .0)
     (at-if2 .if2 .left) (failed (at-is-start .is-start .ensures) (c .if4 .taken)) in
-    step-is (alignmentOf (a .edition)) (a .arenas) (a .pools) (q .class) h (a .offset) _ _ (ap (λ (x : Pool). x .class) (at-load-pool .load-pool .ensures)) path
-    (damaged (alignmentOf (a .edition)) (a .arenas) (a .pools) (q .class) h (a .offset))
+    step-is (alignmentOf (s .edition)) (s .arenas) (s .pools) (q .class) h (a .offset) _ _ (ap (λ (x : Pool). x .class) (at-load-pool .load-pool .ensures)) path
+    (damaged (alignmentOf (s .edition)) (s .arenas) (s .pools) (q .class) h (a .offset))
 
 back-last-requires : tie.Need-back-last-requires
 back-last-requires c κs =
@@ -266,12 +265,13 @@ returns-5 c =
     let at-load-pool = loaded at-if1 in
     let at-start = start at-load-pool in
     let a = at-start .args in
+    let s = a .shape in
     let h = heapOf (a .memory .now) (a .books .now) (a .map .now) in
     let q = at-load-pool .load-pool .result in
-    let path = falls-empty (alignmentOf (a .edition)) (a .arenas) (a .pools) (a .books .now) (q .class) (a .offset / 4096) q (at-load-pool .load-pool .ensures)
+    let path = falls-empty (alignmentOf (s .edition)) (s .arenas) (s .pools) (a .books .now) (q .class) (a .offset / 4096) q (at-load-pool .load-pool .ensures)
     (a .block .size) (at-index2 .index2 .result) (size at-if1) (at-index2 .index2 .ensures .0)
     (gives at-if1) (at-if2 .if2 .left) (held (at-is-start .is-start .ensures) (at-if4 .if4 .left)) (at-if5 .if5 .taken) in
-    step-is (alignmentOf (a .edition)) (a .arenas) (a .pools) (q .class) h (a .offset) _ _ (ap (λ (x : Pool). x .class) (at-load-pool .load-pool .ensures)) path
+    step-is (alignmentOf (s .edition)) (s .arenas) (s .pools) (q .class) h (a .offset) _ _ (ap (λ (x : Pool). x .class) (at-load-pool .load-pool .ensures)) path
     (at-back-last .back-last .ensures)
 
 take-back-requires-2 : tie.Need-take-back-requires-2
@@ -302,12 +302,13 @@ returns-6 c =
     let at-load-pool = loaded at-if1 in
     let at-start = start at-load-pool in
     let a = at-start .args in
+    let s = a .shape in
     let h = heapOf (a .memory .now) (a .books .now) (a .map .now) in
     let q = at-load-pool .load-pool .result in
-    let path = stays (alignmentOf (a .edition)) (a .arenas) (a .pools) (a .books .now) (q .class) (a .offset / 4096) q (at-load-pool .load-pool .ensures)
+    let path = stays (alignmentOf (s .edition)) (s .arenas) (s .pools) (a .books .now) (q .class) (a .offset / 4096) q (at-load-pool .load-pool .ensures)
     (a .block .size) (at-index2 .index2 .result) (size at-if1) (at-index2 .index2 .ensures .0)
     (gives at-if1) (at-if2 .if2 .left) (held (at-is-start .is-start .ensures) (at-if4 .if4 .left)) (at-if5 .if5 .left) in
-    step-is (alignmentOf (a .edition)) (a .arenas) (a .pools) (q .class) h (a .offset) _ _ (ap (λ (x : Pool). x .class) (at-load-pool .load-pool .ensures)) path
+    step-is (alignmentOf (s .edition)) (s .arenas) (s .pools) (q .class) h (a .offset) _ _ (ap (λ (x : Pool). x .class) (at-load-pool .load-pool .ensures)) path
     (ap (λ (x : Heap). outcome (answerOf 0 (a .offset)) x) (at-take-back2 .take-back2 .ensures))
 
 pub back-step-spec : {M : Type 1} → statement M
@@ -318,16 +319,14 @@ back-step-spec =
     may-give-requires
     same-length
     returns
+    mul-all
     index-requires
-    mul-may-join
-    add-may-join
+    add-head
     may-join-requires
     same-length-2
     returns-2
     take-back-requires
-    mul-join
     pool-links-requires
-    add-join
     join-requires
     same-length-3
     same-length-4

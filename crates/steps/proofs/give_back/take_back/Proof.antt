@@ -50,12 +50,13 @@ returns c =
     let at-give = at-store-pool .before in
     let at-start = at-give .before .before .before .before .before in
     let a = at-start .args in
+    let s = a .shape in
     heap-is
     (at-put-link .put-link .ensures ∙ ap (λ (q : Pool). putLink (4096 * a .p + a .f) (q .freeblock) (a .memory .now)) (at-start .pre .1 .loaded))
     (at-store-pool .store-pool .ensures
-    ∙ ap (λ (q : Pool). putPool (a .arenas) (a .p) q (a .books .now))
+    ∙ ap (λ (q : Pool). putPool (s .arenas) (a .p) q (a .books .now))
     (at-give .give .ensures ∙ ap (λ (q : Pool). given q (a .f)) (at-start .pre .1 .loaded))
-    ∙ give-stored (a .arenas) (a .p) (a .books .now) (a .f))
+    ∙ give-stored (s .arenas) (a .p) (a .books .now) (a .f))
     (at-clear-bit .clear-bit .ensures ∙ ap (λ (k : ℕ). putMapBit (a .p) k 0 (a .map .now)) (at-start .pre .1 .number))
 
 pub take-back-spec : {M : Type 1} → statement M

@@ -29,8 +29,8 @@ copy-within-requires c κs = search needs
 give-old-requires : tie.Need-give-old-requires
 give-old-requires c κs = search needs
 
-cast-t21 : tie.Need-cast-t21
-cast-t21 c = search needs
+cast-t19 : tie.Need-cast-t19
+cast-t19 c = search needs
 
 same-length : tie.Need-same-length
 same-length c = search needs
@@ -47,16 +47,17 @@ returns c =
     let at-copy-within = copied at-give-old in
     let at-start = start at-copy-within in
     let a = at-start .args in
+    let s = a .shape in
     let after = heapOf (at-give-old .give-old .last .0) (at-give-old .give-old .last .1 .0) (at-give-old .give-old .last .1 .1 .0) in
     let e = at-give-old .give-old .ensures .0
-    ∙ ap (λ (m : List ℕ). giveOld (alignmentOf (a .edition)) (a .arenas) (a .pools) (heapOf m (a .books .now) (a .map .now)) (a .from))
+    ∙ ap (λ (m : List ℕ). giveOld (alignmentOf (s .edition)) (s .arenas) (s .pools) (heapOf m (a .books .now) (a .map .now)) (a .from))
     (at-copy-within .copy-within .ensures) in
     sym (stopped (λ j. outcome (answerOf 6 (a .to)) after) (done (a .to) after) (gave (a .from) (at-give-old .give-old .result) .number)
     (λ z. c .if1 .taken (sym (gave-number (a .from) (at-give-old .give-old .result)) ∙ z)))
-    ∙ ap (halfDone (alignmentOf (a .edition)) (a .arenas) (a .pools) (a .to)) e
+    ∙ ap (halfDone (alignmentOf (s .edition)) (s .arenas) (s .pools) (a .to)) e
 
-cast-t22 : tie.Need-cast-t22
-cast-t22 c = search needs
+cast-t20 : tie.Need-cast-t20
+cast-t20 c = search needs
 
 same-length-4 : tie.Need-same-length-4
 same-length-4 c = search needs
@@ -73,13 +74,14 @@ returns-2 c =
     let at-copy-within = copied at-give-old in
     let at-start = start at-copy-within in
     let a = at-start .args in
+    let s = a .shape in
     let after = heapOf (at-give-old .give-old .last .0) (at-give-old .give-old .last .1 .0) (at-give-old .give-old .last .1 .1 .0) in
     let e = at-give-old .give-old .ensures .0
-    ∙ ap (λ (m : List ℕ). giveOld (alignmentOf (a .edition)) (a .arenas) (a .pools) (heapOf m (a .books .now) (a .map .now)) (a .from))
+    ∙ ap (λ (m : List ℕ). giveOld (alignmentOf (s .edition)) (s .arenas) (s .pools) (heapOf m (a .books .now) (a .map .now)) (a .from))
     (at-copy-within .copy-within .ensures) in
     sym (passed (λ j. outcome (answerOf 6 (a .to)) after) (done (a .to) after) (gave (a .from) (at-give-old .give-old .result) .number)
     (gave-number (a .from) (at-give-old .give-old .result) ∙ c .if1 .left))
-    ∙ ap (halfDone (alignmentOf (a .edition)) (a .arenas) (a .pools) (a .to)) e
+    ∙ ap (halfDone (alignmentOf (s .edition)) (s .arenas) (s .pools) (a .to)) e
 
 pub move-block-spec : {M : Type 1} → statement M
 move-block-spec =
@@ -87,12 +89,12 @@ move-block-spec =
     (tie.spec
     copy-within-requires
     give-old-requires
-    cast-t21
+    cast-t19
     same-length
     same-length-2
     same-length-3
     returns
-    cast-t22
+    cast-t20
     same-length-4
     same-length-5
     same-length-6

@@ -6,7 +6,7 @@ use Prim.Native.Nat.{ℕ, _≤_, min}
 use native.Mathlib.Omega.{arith}
 use Rattle.rules.specs.Books.{alignmentOf}
 use Rattle.rules.specs.declared.Answer.{Answer}
-use Rattle.rules.specs.Blocks.{sizeOf, sizeAt}
+use Rattle.rules.specs.Blocks.{sizeAt}
 use Rattle.rules.specs.Outcome.{Outcome, heapOf, outcome}
 use Rattle.rules.specs.Ask.{askStep}
 use Rattle.rules.specs.Resize.{keeps, copy, giveOld, halfDone, moved}
@@ -17,7 +17,7 @@ use Rattle.steps.proofs.resize.resize_step.Statement.{statement}
 use Rattle.steps.proofs.resize.resize_step.Tie as tie
 
 -- the function's start, seen from its first call; an argument more shifts this line alone
-abbrev start : tie.After-class-at → tie.Start
+abbrev start : tie.After-size-at → tie.Start
 start c = c .before .before .before .before .before
 
 -- the places on the way that answers go back to, each named after what was done there
@@ -33,21 +33,12 @@ served c = c .before .before .before .before .before
 abbrev block-moved : tie.After-slice-known9 → tie.After-move-block
 block-moved c = c .before .before .before .before .before .before
 
-class-at-requires : tie.Need-class-at-requires
-class-at-requires c κs = search needs
+size-at-requires : tie.Need-size-at-requires
+size-at-requires c κs = search needs
 
-size-of-requires : tie.Need-size-of-requires
-size-of-requires c κs = search needs
-
--- the size is that of the block
-size : (c : tie.After-size-of)
-    → let a = start (c .before) .args in
-    c .size-of .result ≡ sizeAt (alignmentOf (a .edition)) (a .arenas) (a .books .now) (a .offset)
-size c = c .size-of .ensures .0 ∙ ap (sizeOf (alignmentOf (start (c .before) .args .edition))) (c .before .class-at .ensures .0)
-
--- and so at most the largest
-size-few : (c : tie.After-size-of) → c .size-of .result ≤ 512
-size-few c = c .size-of .ensures .2 (rw (c .before .class-at .ensures .0) (start (c .before) .pre .1 .class))
+-- the block is at most as long as the largest
+size-few : (c : tie.After-size-at) → c .size-at .result ≤ 512
+size-few c = c .size-at .ensures .2 (start c .pre .1 .class)
 
 mul-if1 : tie.Need-mul-if1
 mul-if1 c = omega (arith, size-few c)
@@ -55,19 +46,21 @@ mul-if1 c = omega (arith, size-few c)
 mul-if1-2 : tie.Need-mul-if1-2
 mul-if1-2 c = search needs
 
-cast-t19 : tie.Need-cast-t19
-cast-t19 c = search needs
+cast-t17 : tie.Need-cast-t17
+cast-t17 c = search needs
 
 same-length : tie.Need-same-length
 same-length c = search needs
 
 returns : tie.Need-returns
 returns c =
-    let at-size-of = c .before in
-    let at-start = start (at-size-of .before) in
+    let at-size-at = c .before in
+    let at-start = start at-size-at in
     let a = at-start .args in
+    let s = a .shape in
     let h = heapOf (a .memory .now) (a .books .now) (a .map .now) in
-    resize-kept (alignmentOf (a .edition)) (a .arenas) (a .pools) h (a .offset) (a .n) (ap (λ (x : ℕ). keeps x (a .n)) (sym (size at-size-of)) ∙ c .if1 .taken)
+    resize-kept (alignmentOf (s .edition)) (s .arenas) (s .pools) h (a .offset) (a .n)
+    (ap (λ (x : ℕ). keeps x (a .n)) (sym (at-size-at .size-at .ensures .0)) ∙ c .if1 .taken)
 
 ask-step-requires : tie.Need-ask-step-requires
 ask-step-requires c κs = search needs
@@ -89,19 +82,20 @@ returns-2 c =
     let at-answer = c .before .before in
     let at-ask-step = stepped at-answer in
     let at-if1 = unkept at-ask-step in
-    let at-size-of = at-if1 .before in
-    let at-start = start (at-size-of .before) in
+    let at-size-at = at-if1 .before in
+    let at-start = start at-size-at in
     let a = at-start .args in
+    let s = a .shape in
     let h = heapOf (a .memory .now) (a .books .now) (a .map .now) in
     let after = heapOf (at-ask-step .ask-step .last .0) (at-ask-step .ask-step .last .1 .0) (at-ask-step .ask-step .last .1 .1 .0) in
     let asked = ap (λ (x : Answer). outcome x after) (at-answer .answer .ensures)
     ∙ at-ask-step .ask-step .ensures
-    ∙ ap (λ (e : ℕ). askStep (alignmentOf e) (a .arenas) (a .pools) h (a .n)) (sym (at-start .pre .4)) in
-    let k = min (a .n) (sizeAt (alignmentOf (a .edition)) (a .arenas) (a .books .now) (a .offset)) in
-    moved-refused (alignmentOf (a .edition)) (a .arenas) (a .pools) (a .offset) k (at-answer .answer .result) after (c .if2 .taken)
-    ∙ ap (moved (alignmentOf (a .edition)) (a .arenas) (a .pools) (a .offset) k) asked
-    ∙ resize-moved (alignmentOf (a .edition)) (a .arenas) (a .pools) h (a .offset) (a .n)
-    (ap (λ (x : ℕ). keeps x (a .n)) (sym (size at-size-of)) ∙ at-if1 .if1 .left)
+    ∙ ap (λ (e : ℕ). askStep (alignmentOf e) (s .arenas) (s .pools) h (a .n)) (sym (at-start .pre .4)) in
+    let k = min (a .n) (sizeAt (alignmentOf (s .edition)) (s .arenas) (a .books .now) (a .offset)) in
+    moved-refused (alignmentOf (s .edition)) (s .arenas) (s .pools) (a .offset) k (at-answer .answer .result) after (c .if2 .taken)
+    ∙ ap (moved (alignmentOf (s .edition)) (s .arenas) (s .pools) (a .offset) k) asked
+    ∙ resize-moved (alignmentOf (s .edition)) (s .arenas) (s .pools) h (a .offset) (a .n)
+    (ap (λ (x : ℕ). keeps x (a .n)) (sym (at-size-at .size-at .ensures .0)) ∙ at-if1 .if1 .left)
 
 cast-to : tie.Need-cast-to
 cast-to c = search needs
@@ -114,22 +108,23 @@ move-block-requires c κs =
     let at-if2 = served c in
     let at-answer = at-if2 .before .before in
     let at-ask-step = stepped at-answer in
-    let at-size-of = unkept at-ask-step .before in
-    let at-start = start (at-size-of .before) in
+    let at-size-at = unkept at-ask-step .before in
+    let at-start = start at-size-at in
     let a = at-start .args in
+    let s = a .shape in
     let h = heapOf (a .memory .now) (a .books .now) (a .map .now) in
     let after = heapOf (at-ask-step .ask-step .last .0) (at-ask-step .ask-step .last .1 .0) (at-ask-step .ask-step .last .1 .1 .0) in
     let asked = ap (λ (x : Answer). outcome x after) (at-answer .answer .ensures)
     ∙ at-ask-step .ask-step .ensures
-    ∙ ap (λ (e : ℕ). askStep (alignmentOf e) (a .arenas) (a .pools) h (a .n)) (sym (at-start .pre .4)) in
-    let k = min (a .n) (sizeAt (alignmentOf (a .edition)) (a .arenas) (a .books .now) (a .offset)) in
+    ∙ ap (λ (e : ℕ). askStep (alignmentOf e) (s .arenas) (s .pools) h (a .n)) (sym (at-start .pre .4)) in
+    let k = min (a .n) (sizeAt (alignmentOf (s .edition)) (s .arenas) (a .books .now) (a .offset)) in
     let done = ap (λ (x : Outcome). x .answer .number) asked in
     let place = ap (λ (x : Outcome). x .answer .offset) asked in
-    let v = moves-apart (alignmentOf (a .edition)) (a .arenas) (a .pools) h (a .offset) (a .n) (aligned (a .edition) .low) (at-start .pre .1)
+    let v = moves-apart (alignmentOf (s .edition)) (s .arenas) (s .pools) h (a .offset) (a .n) (aligned (s .edition) .low) (at-start .pre .1)
     (sym done ∙ at-if2 .if2 .left) in
-    let few : c .least .result ≡ k = c .least .ensures ∙ ap (min (a .n)) (size at-size-of) in
-    let w = subst (λ (x : ℕ). Moves (a .arenas) (a .pools) (a .offset) x (c .least .result)) (sym place)
-    (subst (Moves (a .arenas) (a .pools) (a .offset) _) (sym few) v) in (
+    let few : c .least .result ≡ k = c .least .ensures ∙ ap (min (a .n)) (at-size-at .size-at .ensures .0) in
+    let w = subst (λ (x : ℕ). Moves (s .arenas) (s .pools) (a .offset) x (c .least .result)) (sym place)
+    (subst (Moves (s .arenas) (s .pools) (a .offset) _) (sym few) v) in (
       record {
         arenas-low = omega arith;
         arenas-high = omega arith;
@@ -163,33 +158,33 @@ returns-3 c =
     let at-answer = at-if2 .before .before in
     let at-ask-step = stepped at-answer in
     let at-if1 = unkept at-ask-step in
-    let at-size-of = at-if1 .before in
-    let at-start = start (at-size-of .before) in
+    let at-size-at = at-if1 .before in
+    let at-start = start at-size-at in
     let a = at-start .args in
+    let s = a .shape in
     let h = heapOf (a .memory .now) (a .books .now) (a .map .now) in
     let after = heapOf (at-ask-step .ask-step .last .0) (at-ask-step .ask-step .last .1 .0) (at-ask-step .ask-step .last .1 .1 .0) in
     let asked = ap (λ (x : Answer). outcome x after) (at-answer .answer .ensures)
     ∙ at-ask-step .ask-step .ensures
-    ∙ ap (λ (e : ℕ). askStep (alignmentOf e) (a .arenas) (a .pools) h (a .n)) (sym (at-start .pre .4)) in
-    let k = min (a .n) (sizeAt (alignmentOf (a .edition)) (a .arenas) (a .books .now) (a .offset)) in
+    ∙ ap (λ (e : ℕ). askStep (alignmentOf e) (s .arenas) (s .pools) h (a .n)) (sym (at-start .pre .4)) in
+    let k = min (a .n) (sizeAt (alignmentOf (s .edition)) (s .arenas) (a .books .now) (a .offset)) in
     at-move-block .move-block .ensures
-    ∙ ap (λ (n : ℕ). halfDone (alignmentOf (a .edition)) (a .arenas) (a .pools) (at-answer .answer .result .offset)
-    (giveOld (alignmentOf (a .edition)) (a .arenas) (a .pools) (copy (a .offset) (at-answer .answer .result .offset) n after) (a .offset)))
-    (at-least .least .ensures ∙ ap (min (a .n)) (size at-size-of))
-    ∙ moved-done (alignmentOf (a .edition)) (a .arenas) (a .pools) (a .offset) k (at-answer .answer .result) after (at-if2 .if2 .left)
-    ∙ ap (moved (alignmentOf (a .edition)) (a .arenas) (a .pools) (a .offset) k) asked
-    ∙ resize-moved (alignmentOf (a .edition)) (a .arenas) (a .pools) h (a .offset) (a .n)
-    (ap (λ (x : ℕ). keeps x (a .n)) (sym (size at-size-of)) ∙ at-if1 .if1 .left)
+    ∙ ap (λ (n : ℕ). halfDone (alignmentOf (s .edition)) (s .arenas) (s .pools) (at-answer .answer .result .offset)
+    (giveOld (alignmentOf (s .edition)) (s .arenas) (s .pools) (copy (a .offset) (at-answer .answer .result .offset) n after) (a .offset)))
+    (at-least .least .ensures ∙ ap (min (a .n)) (at-size-at .size-at .ensures .0))
+    ∙ moved-done (alignmentOf (s .edition)) (s .arenas) (s .pools) (a .offset) k (at-answer .answer .result) after (at-if2 .if2 .left)
+    ∙ ap (moved (alignmentOf (s .edition)) (s .arenas) (s .pools) (a .offset) k) asked
+    ∙ resize-moved (alignmentOf (s .edition)) (s .arenas) (s .pools) h (a .offset) (a .n)
+    (ap (λ (x : ℕ). keeps x (a .n)) (sym (at-size-at .size-at .ensures .0)) ∙ at-if1 .if1 .left)
 
 pub resize-step-spec : {M : Type 1} → statement M
 resize-step-spec =
     tie.close
     (tie.spec
-    class-at-requires
-    size-of-requires
+    size-at-requires
     mul-if1
     mul-if1-2
-    cast-t19
+    cast-t17
     same-length
     returns
     ask-step-requires
