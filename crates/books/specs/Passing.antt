@@ -6,7 +6,7 @@ use native.Mathlib.Omega.{arith}
 use Rattle.rules.specs.declared.Answer.{Answer}
 use Rattle.rules.specs.Books.{Heap}
 use Rattle.rules.specs.Outcome.{Outcome, outcome, answerOf, refused, passing}
-use Rattle.rules.specs.Numbers.{_before_}
+use Rattle.rules.specs.Numbers.{_before_, inOrder}
 
 module _ {X : Type 0} (f : ℕ → X) (rest : X) where
   pub stopped : (k : ℕ) → (k ≡ 0 → ⊥) → passing k f rest ≡ f k
@@ -26,6 +26,15 @@ last-test (suc k) = refl
 pub before-zero : (j k : ℕ) → (j before k) ≡ 0 → (j ≡ 0) × (k ≡ 0)
 before-zero zero k e = (refl, e)
 before-zero (suc j) k e = absurd (omega arith)
+
+-- and where a call's tests do
+pub order-zero : (shape size offset room : ℕ) → inOrder shape size offset room ≡ 0
+    → (shape ≡ 0) × (size ≡ 0) × (offset ≡ 0) × (room ≡ 0)
+order-zero shape size offset room e =
+    let t = before-zero shape _ e in
+    let u = before-zero size _ (t .1) in
+    let v = before-zero offset room (u .1) in
+    (t .0, u .0, v .0, v .1)
 
 -- ---- a call that is refused by its tests, and one that they let pass
 module _ (h : Heap) (rest : Outcome) where

@@ -170,8 +170,8 @@ sixless x [] t = tt
 sixless x (e ∷ es) t = (t .0, sixless (after x e) es (t .1))
 
 -- a run over any buffers: a format that is done, and then any calls
-module _ (h : Heap) (A P e : ℕ) (ok : format h A P e .answer .number ≡ 0) (es : List Event) {ks : List ℕ} {g : Heap}
-    (ran : Ran (begun h A P e) es ks g) where
+module _ (h : Heap) (A P e : ℕ) (ok : format h A P e .answer .number ≡ 0) (es : List Event)
+    {ks : List ℕ} {g : Heap} (ran : Ran (begun h A P e) es ks g) where
   -- no call answers 6
   pub ran-no-six : Sixless ks
   ran-no-six = subst Sixless (sym (ran-is ran .1)) (sixless (begun h A P e) es (no-six h A P e ok es))

@@ -32,7 +32,6 @@ use Rattle.rules.specs.Numbers.{
   shapeNumber,
   sizeNumber,
   roomNumber,
-  _before_,
   inOrder,
   offsetNumber,
   offsetTests,
@@ -44,7 +43,7 @@ use Rattle.rules.specs.Numbers.{
   write,
 }
 use Rattle.books.specs.Known.{in-range, size-zero, live-zero, live-is}
-use Rattle.books.specs.Passing.{before-zero}
+use Rattle.books.specs.Passing.{before-zero, order-zero}
 use Rattle.books.specs.Sizes.{Aligned, aligned, size-low, size-high, has-class, class-fits}
 use Rattle.plans.specs.Fits.{FitsAsk, fits-ask}
 use Rattle.laws.specs.Bytes.{sets-off}
@@ -244,37 +243,33 @@ module _ (h : Heap) where
   ask-first n =
       after-tests (inOrder (shapeNumber h) (sizeNumber n) 0 0) (askStep (alignment h) (arenas h) (pools h) h n)
       (λ e.
-      let t = before-zero (shapeNumber h) (sizeNumber n before 0 before 0) e in
-      let u = before-zero (sizeNumber n) (0 before 0) (t .1) in
-      step-first L (arenas h) (pools h) (pools-some h (t .0)) h n (size-zero n (u .0) .1))
+      let t = order-zero (shapeNumber h) (sizeNumber n) 0 0 e in
+      step-first L (arenas h) (pools h) (pools-some h (t .0)) h n (size-zero n (t .1) .1))
 
   pub back-first : (o : ℕ) → First (h .memory) (giveBack h o .heap .memory)
   unfolding giveBack
   back-first o =
       after-tests (offsetTests h o) (backStep (alignment h) (arenas h) (pools h) h o)
       (λ e.
-      let t = before-zero (shapeNumber h) (0 before offsetNumber h o before 0) e in
-      let u = before-zero (offsetNumber h o) 0 (t .1) in
-      back-live L (arenas h) (pools h) h o (live-zero (alignment h) (arenas h) (pools h) (h .books) (h .map) o (u .0)))
+      let t = order-zero (shapeNumber h) 0 (offsetNumber h o) 0 e in
+      back-live L (arenas h) (pools h) h o (live-zero (alignment h) (arenas h) (pools h) (h .books) (h .map) o (t .2)))
 
   pub resize-first : (o n : ℕ) → First (h .memory) (resize h o n .heap .memory)
   unfolding resize
   resize-first o n =
       after-tests (inOrder (shapeNumber h) (sizeNumber n) (offsetNumber h o) 0) (resizeStep (alignment h) (arenas h) (pools h) h o n)
       (λ e.
-      let t = before-zero (shapeNumber h) (sizeNumber n before offsetNumber h o before 0) e in
-      let u = before-zero (sizeNumber n) (offsetNumber h o before 0) (t .1) in
-      resize-step-first L (arenas h) (pools h) (pools-some h (t .0)) h n (size-zero n (u .0) .1) o)
+      let t = order-zero (shapeNumber h) (sizeNumber n) (offsetNumber h o) 0 e in
+      resize-step-first L (arenas h) (pools h) (pools-some h (t .0)) h n (size-zero n (t .1) .1) o)
 
   pub write-first : (o : ℕ) (text : List ℕ) → First (h .memory) (write h o text .heap .memory)
   unfolding write
   write-first o text =
       after-tests (inOrder (shapeNumber h) 0 (offsetNumber h o) (roomNumber (length text) (blockSize h o))) _
       (λ e.
-      let t = before-zero (shapeNumber h) (0 before offsetNumber h o before roomNumber (length text) (blockSize h o)) e in
-      let u = before-zero (offsetNumber h o) (roomNumber (length text) (blockSize h o)) (t .1) in
-      let b = live-is L (arenas h) (pools h) (h .books) (h .map) o (live-zero (alignment h) (arenas h) (pools h) (h .books) (h .map) o (u .0)) in
+      let t = order-zero (shapeNumber h) 0 (offsetNumber h o) (roomNumber (length text) (blockSize h o)) e in
+      let b = live-is L (arenas h) (pools h) (h .books) (h .map) o (live-zero (alignment h) (arenas h) (pools h) (h .books) (h .map) o (t .2)) in
       let place : o ≡ offsetOf (o / 4096) (o % 4096) = omega arith in
       λ i l. ap (λ (x : ℕ). at (sets (h .memory) x text) i) place
       ∙ text-first (h .memory) text (o / 4096) (o % 4096) (b .start .low)
-      (omega (arith, b .start .ends, room-zero (length text) (blockSize h o) (u .1))) i l)
+      (omega (arith, b .start .ends, room-zero (length text) (blockSize h o) (t .3))) i l)

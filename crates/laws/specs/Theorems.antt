@@ -197,7 +197,8 @@ module _ (h : Heap) (A P e : ℕ) (ok : format h A P e .answer .number ≡ 0) (e
 
   -- an offset that gets 10 gets 10 after any event, unless the block is handed out again, its pool is set to another
   -- class or its arena is released, as every arena is by a format that is done
-  pub dead-stays : (o : ℕ) (event : Event) → giveBack (end .heap) o .answer .number ≡ 10 → ended end event o ≡ false
+  pub dead-stays : (o : ℕ) (event : Event) → giveBack (end .heap) o .answer .number ≡ 10
+      → ended end event o ≡ false
       → giveBack (after end event .heap) o .answer .number ≡ 10
   dead-stays o event ten none =
       let T′ = step (h .memory) T event .1 in
@@ -264,7 +265,8 @@ module _ (h : Heap) (A P e : ℕ) (ok : format h A P e .answer .number ≡ 0) (e
       rw (shape .alignment-is, entry-size o t) (live-aligned L o t)
 
   -- memory at each entry is exactly the ledger's bytes for it
-  pub entry-bytes : (o : ℕ) → end .ledger o ≢ [] → end .ledger o ≡ part o (length (end .ledger o)) (end .heap .memory)
+  pub entry-bytes : (o : ℕ) → end .ledger o ≢ []
+      → end .ledger o ≡ part o (length (end .ledger o)) (end .heap .memory)
   entry-bytes o some =
       let t = entry-live o some in
       T .tie o ∙ holding-live L (T .sound) o t ∙ ap (λ (s : ℕ). part o s (end .heap .memory)) (sym (entry-size o t))

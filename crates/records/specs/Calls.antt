@@ -59,7 +59,7 @@ use Rattle.rules.specs.Numbers.{
 }
 use Rattle.books.specs.Sizes.{Aligned, aligned, has-class, class-low}
 use Rattle.books.specs.Known.{size-zero, live-zero, live-is}
-use Rattle.books.specs.Passing.{before-zero}
+use Rattle.books.specs.Passing.{order-zero}
 use Rattle.books.specs.Lists.{leave-keeps, join-keeps}
 use Rattle.books.specs.Tests.{either}
 use Rattle.loops.specs.Sets.{sets-other}
@@ -233,12 +233,6 @@ back-small o Empties = omega arith
 back-small o Returns = omega arith
 back-small o Releases = omega arith
 
--- ---- what the tests say where their number is 0
-order-zero : (shape size offset room : ℕ) → inOrder shape size offset room ≡ 0 → (size ≡ 0) × (offset ≡ 0)
-order-zero shape size offset room e =
-    let t = before-zero size _ (before-zero shape _ e .1) in
-    (t .0, before-zero offset room (t .1) .0)
-
 -- ---- the calls
 -- an outcome over a heap whose books were b: its number is at most 10, and A, P and the edition are as they were
 pub record Fair (b : List ℕ) (x : Outcome) : Type 0 where
@@ -310,7 +304,7 @@ module _ (h : Heap) where
   ask-fair n =
       tested (inOrder (shapeNumber h) (sizeNumber n) 0 0) h (askStep (alignment h) (arenas h) (pools h) h n)
       (order-small (shapeNumber h) (sizeNumber n) 0 0 (shape-small h) (size-small n) (omega arith) (omega arith)) none-written
-      (λ e. ask-step L (arenas h) (pools h) h n (size-zero n (order-zero (shapeNumber h) (sizeNumber n) 0 0 e .0) .1) none-written)
+      (λ e. ask-step L (arenas h) (pools h) h n (size-zero n (order-zero (shapeNumber h) (sizeNumber n) 0 0 e .1) .1) none-written)
 
   pub back-fair : (o : ℕ) → Fair (h .books) (giveBack h o)
   unfolding giveBack
@@ -318,7 +312,7 @@ module _ (h : Heap) where
       let dead = offsetNumber h o in
       tested (inOrder (shapeNumber h) 0 dead 0) h (backStep (alignment h) (arenas h) (pools h) h o)
       (order-small (shapeNumber h) 0 dead 0 (shape-small h) (omega arith) (dead-small o) (omega arith)) none-written
-      (λ e. back-step L (arenas h) (pools h) h o (order-zero (shapeNumber h) 0 dead 0 e .1) none-written)
+      (λ e. back-step L (arenas h) (pools h) h o (order-zero (shapeNumber h) 0 dead 0 e .2) none-written)
 
   pub resize-fair : (o n : ℕ) → Fair (h .books) (resize h o n)
   unfolding resize
@@ -326,4 +320,4 @@ module _ (h : Heap) where
       let dead = offsetNumber h o in
       tested (inOrder (shapeNumber h) (sizeNumber n) dead 0) h (resizeStep (alignment h) (arenas h) (pools h) h o n)
       (order-small (shapeNumber h) (sizeNumber n) dead 0 (shape-small h) (size-small n) (dead-small o) (omega arith)) none-written
-      (λ e. resize-step L (arenas h) (pools h) h o n (size-zero n (order-zero (shapeNumber h) (sizeNumber n) dead 0 e .0) .1) none-written)
+      (λ e. resize-step L (arenas h) (pools h) h o n (size-zero n (order-zero (shapeNumber h) (sizeNumber n) dead 0 e .1) .1) none-written)

@@ -892,7 +892,8 @@ damaged =
 abbrev pub Holds : List ℕ → List ℕ → List ℕ → Type 0
 Holds m b k = T (every damaged (fresh 3 3 0 m b k))
 
-computed : (f g k : ℕ → ℕ) → Holds (tab (memoryLength 3 3) 0 f) (tab (booksLength 3 3) 0 g) (tab (mapLength 3 3) 0 k)
+computed : (f g k : ℕ → ℕ)
+    → Holds (tab (memoryLength 3 3) 0 f) (tab (booksLength 3 3) 0 g) (tab (mapLength 3 3) 0 k)
 unfolding every
 computed f g k = tt
 

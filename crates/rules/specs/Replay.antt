@@ -34,7 +34,8 @@ abbrev pub fourBytes : ℕ → List ℕ
 fourBytes v = (v % 256) ∷ (v / 256 % 256) ∷ (v / 65536 % 256) ∷ (v / 16777216 % 256) ∷ []
 
 abbrev pub replyBytes : ℕ → ℕ → ℕ → ℕ → ℕ → List ℕ
-replyBytes op number offset size live = op ∷ number ∷ 0 ∷ 0 ∷ (fourBytes offset ++ (fourBytes size ++ fourBytes live))
+replyBytes op number offset size live =
+    op ∷ number ∷ 0 ∷ 0 ∷ (fourBytes offset ++ (fourBytes size ++ fourBytes live))
 
 -- a reply, and the heap after it
 pub record Replied : Type 0 where

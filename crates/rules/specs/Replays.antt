@@ -108,7 +108,8 @@ replays =
 abbrev pub Holds : List ℕ → List ℕ → List ℕ → Type 0
 Holds m b k = T (every replays (heapOf m b k))
 
-computed : (f g k : ℕ → ℕ) → Holds (tab (memoryLength 1 16) 0 f) (tab (booksLength 1 16) 0 g) (tab (mapLength 1 16) 0 k)
+computed : (f g k : ℕ → ℕ)
+    → Holds (tab (memoryLength 1 16) 0 f) (tab (booksLength 1 16) 0 g) (tab (mapLength 1 16) 0 k)
 unfolding every
 computed f g k = tt
 

@@ -64,11 +64,13 @@ cases =
     ∷ rolls (0 ∷ 0 ∷ 0 ∷ 0 ∷ []) 0 2 (48 ∷ 16 ∷ 4080 ∷ 16 ∷ []) ∷ gives 4096 5 0 ∷ [])
     -- S13: "block size 16 × (class + 1)", by roll call, write and view
     ∷ (asks 16 0 48 ∷ asks 17 0 4144 ∷ asks 512 0 8240
-    ∷ rolls (0 ∷ 0 ∷ 0 ∷ 0 ∷ 0 ∷ 0 ∷ []) 0 3 (48 ∷ 16 ∷ 4144 ∷ 32 ∷ 8240 ∷ 512 ∷ []) ∷ writes 48 (replicate 17 7) 7 0
+    ∷ rolls (0 ∷ 0 ∷ 0 ∷ 0 ∷ 0 ∷ 0 ∷ []) 0 3
+    (48 ∷ 16 ∷ 4144 ∷ 32 ∷ 8240 ∷ 512 ∷ []) ∷ writes 48 (replicate 17 7) 7 0
     ∷ writes 48 (replicate 16 7) 0 48 ∷ views 48 0 16 (replicate 16 7) ∷ [])
     -- S14: "Wherever 01 or a request says 63 it reads 31 here", in the live test, the roll, a dead block
     ∷ (asks 512 0 48 ∷ spoil (putWord (pool0 class) 32) ∷ gives 48 5 0 ∷ gives 560 5 0 ∷ rolls [] 0 0 []
-    ∷ spoil (putWord (pool0 class) 31) ∷ gives 560 10 0 ∷ rolls (0 ∷ 0 ∷ []) 0 1 (48 ∷ 512 ∷ []) ∷ gives 48 0 48 ∷ [])
+    ∷ spoil (putWord (pool0 class) 31) ∷ gives 560 10 0
+    ∷ rolls (0 ∷ 0 ∷ []) 0 1 (48 ∷ 512 ∷ []) ∷ gives 48 0 48 ∷ [])
     -- S15: 505 and 506 stay
     ∷ (asks 16 0 48 ∷ asks 16 0 64 ∷ asks 16 0 80 ∷ spoil (putWord (pool0 count) 400) ∷ asks 16 0 96
     ∷ spoil (putWord (pool0 count) 505) ∷ asks 16 0 112 ∷ asks 16 6 0 ∷ gives 48 0 48
@@ -79,7 +81,8 @@ cases =
 abbrev pub Holds : List ℕ → List ℕ → List ℕ → Type 0
 Holds m b k = T (every cases (fresh 1 16 1 m b k))
 
-computed : (f g k : ℕ → ℕ) → Holds (tab (memoryLength 1 16) 0 f) (tab (booksLength 1 16) 0 g) (tab (mapLength 1 16) 0 k)
+computed : (f g k : ℕ → ℕ)
+    → Holds (tab (memoryLength 1 16) 0 f) (tab (booksLength 1 16) 0 g) (tab (mapLength 1 16) 0 k)
 unfolding every
 computed f g k = tt
 

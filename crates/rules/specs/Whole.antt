@@ -11,14 +11,17 @@ abbrev pub tab : ℕ → ℕ → (ℕ → ℕ) → List ℕ
 tab zero i f = []
 tab (suc n) i f = let x = f i in let t = tab n (suc i) f in x ∷ t
 
-tab-eq : (xs : List ℕ) (i : ℕ) (f : ℕ → ℕ) → ((k : ℕ) → f (i + k) ≡ getD xs k 0) → tab (length xs) i f ≡ xs
+tab-eq : (xs : List ℕ) (i : ℕ) (f : ℕ → ℕ) → ((k : ℕ) → f (i + k) ≡ getD xs k 0)
+    → tab (length xs) i f ≡ xs
 tab-eq [] i f e = refl
 tab-eq (x ∷ xs) i f e =
     ap {B = List ℕ} (λ y. y ∷ tab (length xs) (suc i) f) (sym (ap f (add-zero i)) ∙ e 0)
-    ∙ ap {B = List ℕ} (λ r. x ∷ r) (tab-eq xs (suc i) f (λ k. ap f (suc-add i k ∙ sym (add-suc i k)) ∙ e (suc k)))
+    ∙ ap {B = List ℕ} (λ r. x ∷ r)
+    (tab-eq xs (suc i) f (λ k. ap f (suc-add i k ∙ sym (add-suc i k)) ∙ e (suc k)))
 
 -- what holds of every table of n elements holds of every list of n elements
-pub each : (Q : List ℕ → Type 0) (n : ℕ) → ((f : ℕ → ℕ) → Q (tab n 0 f)) → (xs : List ℕ) → length xs ≡ n → Q xs
+pub each : (Q : List ℕ → Type 0) (n : ℕ) → ((f : ℕ → ℕ) → Q (tab n 0 f))
+    → (xs : List ℕ) → length xs ≡ n → Q xs
 each Q n q xs e =
     subst Q
     (sym (ap (λ (m : ℕ). tab m 0 (λ k. getD xs k 0)) e)
