@@ -186,14 +186,21 @@ INLINE void leave(uint32_t *links, uint32_t *head, uint32_t n)
     own[1] = 0;
 }
 
+/* Member n goes into a list at this place, the head or the next word of a member, and has this previous: 0 or the link
+ * to that member. */
+INLINE void go_in(uint32_t *links, uint32_t *place, uint32_t previous, uint32_t n)
+{
+    uint32_t *own = links + RECORD * n, next = *place;
+    own[0] = next;
+    own[1] = previous;
+    if (next != 0)
+        links[RECORD * (next - 1) + 1] = n + 1;
+    *place = n + 1;
+}
+
 INLINE void join(uint32_t *links, uint32_t *head, uint32_t n)
 {
-    uint32_t *own = links + RECORD * n, old = *head;
-    own[0] = old;
-    own[1] = 0;
-    if (old != 0)
-        links[RECORD * (old - 1) + 1] = n + 1;
-    *head = n + 1;
+    go_in(links, head, 0, n);
 }
 
 INLINE bool pool_may_leave(const struct heap *h, uint32_t p)
@@ -383,19 +390,38 @@ INLINE void put_back(const struct heap *h, uint32_t p, uint32_t place, uint32_t 
     h->pool[p].count--;
 }
 
-/* What an emptied pool and its arena ask of the books. */
-INLINE bool may_empty(const struct heap *h, uint32_t a, uint32_t p)
+/* Whether arena a, with one more free pool, can move back past the arenas that follow it and have fewer; *last becomes
+ * the link to the last of these, or stays where there is none. Damaged links may lead round, so at most A are passed;
+ * they may lead back to a, which is not passed: it has as many as itself. Own previous is used only where it moves. */
+INLINE bool may_move(const struct heap *h, uint32_t a, uint32_t *last)
+{
+    uint32_t next = h->arena[a].next, free = h->arena[a].free_pools + 1;
+    for (uint32_t more = h->arenas; next <= h->arenas; more--) {
+        if (next == 0 || next - 1 == a || h->arena[next - 1].free_pools >= free)
+            return *last == 0 || h->arena[a].previous <= h->arenas;
+        if (more == 0)
+            return false;
+        *last = next;
+        next = h->arena[next - 1].next;
+    }
+    return false;
+}
+
+/* What an emptied pool and its arena ask of the books. Where the arena is to move, *last becomes the link to the arena
+ * that it goes in after. */
+INLINE bool may_empty(const struct heap *h, uint32_t a, uint32_t p, uint32_t *last)
 {
     uint32_t free = h->arena[a].free_pools;
     if (!pool_may_leave(h, p) || h->arena[a].freed_head > h->all || free > h->pools - 1)
         return false;
     if (free + 1 == h->pools)
         return arena_may_leave(h, a) && h->books[UNUSED_HEAD] <= h->arenas;
-    return free != 0 || h->books[USABLE_HEAD] <= h->arenas;
+    return free == 0 ? h->books[USABLE_HEAD] <= h->arenas : may_move(h, a, last);
 }
 
-/* Pool p, at count 0, goes to the freed pools of arena a, which may then be released or newly usable. */
-INLINE void empty_pool(const struct heap *h, uint32_t class, uint32_t a, uint32_t p)
+/* Pool p, at count 0, goes to the freed pools of arena a, which may then be released or newly usable, or moves to after
+ * the last, if there is one. */
+INLINE void empty_pool(const struct heap *h, uint32_t class, uint32_t a, uint32_t p, uint32_t last)
 {
     struct arena *arena = &h->arena[a];
     leave(&h->pool->next, &h->books[CLASS_HEADS + class], p);
@@ -408,6 +434,9 @@ INLINE void empty_pool(const struct heap *h, uint32_t class, uint32_t a, uint32_
         join(&h->arena->next, &h->books[UNUSED_HEAD], a);
     } else if (arena->free_pools == 1) {
         join(&h->arena->next, &h->books[USABLE_HEAD], a);
+    } else if (last != 0) {
+        leave(&h->arena->next, &h->books[USABLE_HEAD], a);
+        go_in(&h->arena->next, &h->arena[last - 1].next, last, a);
     }
 }
 
@@ -429,11 +458,11 @@ INLINE uint32_t back_step(const struct heap *h, size_t offset, uint32_t k)
     if (block_at(size_of(h->edition, class), free) == NONE)
         return HESKAVERN_DAMAGED;
     if (count == 1) {
-        uint32_t a = p / h->pools;
-        if (!may_empty(h, a, p))
+        uint32_t a = p / h->pools, last = 0;
+        if (!may_empty(h, a, p, &last))
             return HESKAVERN_DAMAGED;
         put_back(h, p, place, k);
-        empty_pool(h, class, a, p);
+        empty_pool(h, class, a, p, last);
         return HESKAVERN_DONE;
     }
     put_back(h, p, place, k);

@@ -34,13 +34,17 @@ static struct figures figures[TASKS][MOST_VARIANTS];
 
 /* ---- rounds and tables */
 
-/* The variants that say where their blocks stand have them all at the same offsets. */
+/* The variants that say where their blocks stand have them all at the same offsets. An older archive need not: before
+ * W-203 no arena moved in the usable list, so that other pools were taken. */
 static void same_places(const struct task *t)
 {
-    for (size_t i = 1; i < variant_count; i++)
-        for (size_t slot = 0; t->can(variants[i]) && variants[i]->place != NULL && slot < SLOTS; slot++)
-            if (variants[i]->place(slot) != variants[0]->place(slot))
-                fail(variants[i]->name, "its offsets are not the library's");
+    for (size_t i = 1; i < variant_count; i++) {
+        const struct variant *v = variants[i];
+        bool same = t->can(v) && v->place != NULL && !v->older;
+        for (size_t slot = 0; same && slot < SLOTS; slot++)
+            if (v->place(slot) != variants[0]->place(slot))
+                fail(v->name, "its offsets are not the library's");
+    }
 }
 
 static int by_size(const void *a, const void *b)

@@ -13,9 +13,12 @@
 enum { PAIRS = 8192, WARM = 2048, WINDOWS = 32, COUNTED = 8 * PAIRS };
 /* Of the statement's trace; its texts have 1 to 40 bytes. */
 enum { RUNS = 32, SHORTEST_RUN = 50, LONGEST_RUN = 400, RUN_WINDOWS = 8, TEXT = 40 };
+/* Of the give-backs that move an arena: the arenas, their pools, and how many blocks of 512 bytes a pool has. */
+enum { MOVING = 4, EMPTIED = MOVING * POOLS, IN_POOL = 7 };
 
 static struct step mixed[WINDOWS * PAIRS + WARM], texts[RUN_WINDOWS][RUNS * LONGEST_RUN];
 static struct step start[SLOTS], wide[SLOTS], up[SLOTS], down[SLOTS], halves[SLOTS / 2];
+static struct step full[IN_POOL * EMPTIED], others[(IN_POOL - 1) * EMPTIED], lasts[EMPTIED];
 static uint16_t runs[RUN_WINDOWS][RUNS];
 static uint8_t text[512];
 
@@ -46,8 +49,24 @@ static double now(void)
     return (double)t.tv_sec * 1e9 + (double)t.tv_nsec;
 }
 
+/* The last block of a pool is given back in each arena in turn, there and back: so most of these give-backs are in the
+ * first usable arena, which then has more free pools than those that follow. */
+static void make_full(void)
+{
+    for (uint16_t i = 0; i < EMPTIED; i++) {
+        uint16_t turn = i / MOVING, arena = turn % 2 == 0 ? i % MOVING : MOVING - 1 - i % MOVING;
+        uint16_t slot = (uint16_t)(IN_POOL * (POOLS * arena + turn));
+        for (uint16_t k = 0; k < IN_POOL; k++)
+            full[IN_POOL * i + k] = (struct step){(uint16_t)(IN_POOL * i + k), HESKAVERN_LARGEST};
+        for (uint16_t k = 0; k < IN_POOL - 1; k++)
+            others[(IN_POOL - 1) * i + k] = (struct step){(uint16_t)(slot + k), 0};
+        lasts[i] = (struct step){(uint16_t)(slot + IN_POOL - 1), 0};
+    }
+}
+
 void make_traces(void)
 {
+    make_full();
     for (size_t i = 0; i < sizeof mixed / sizeof *mixed; i++)
         mixed[i] = (struct step){(uint16_t)below(SLOTS), (uint16_t)between(1, 512)};
     for (size_t w = 0; w < RUN_WINDOWS; w++) {
@@ -121,6 +140,18 @@ static double visit_statement(const struct variant *v, size_t round)
     double end = now();
     must(refused, v);
     return (end - begin) / (double)pairs;
+}
+
+static double visit_emptied(const struct variant *v, size_t round)
+{
+    (void)round;
+    must(v->fill(full, IN_POOL * EMPTIED), v);
+    must(v->drain(others, (IN_POOL - 1) * EMPTIED), v);
+    double begin = now();
+    unsigned refused = v->drain(lasts, EMPTIED);
+    double end = now();
+    must(refused, v);
+    return (end - begin) / EMPTIED;
 }
 
 size_t run_mixed(const struct variant *v, size_t edition)
@@ -400,6 +431,7 @@ const struct task tasks[TASKS] = {
      .edition = HESKAVERN_SIXTEEN},
     {"ask + give back, statement, edition sixteen: ns a pair", can_ask_sixteen, prepare_empty,
      .visit = visit_statement, .edition = HESKAVERN_SIXTEEN},
+    {"give back, most moving an arena: ns", can_ask, prepare_empty, .visit = visit_emptied},
     {"resize up: ns", can_ask, prepare_resize, .visit = visit_up},
     {"resize down: ns", can_ask, prepare_resize, .visit = visit_down},
     {"write 16 bytes (source: memcpy): ns", can_write, prepare_write, .visit = visit_write_16},

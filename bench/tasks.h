@@ -4,7 +4,7 @@
 
 #include "variants.h"
 
-enum { FIRST_ROLL = 11, TASKS = FIRST_ROLL + 34 };    /* those of roll call are the last ones */
+enum { FIRST_ROLL = 12, TASKS = FIRST_ROLL + 34 };    /* those of roll call are the last ones */
 
 /* A heap that was filled with blocks for 1 to so many bytes until there was room for none, of which this share, in
  * thousandths and to the nearest block, is still live. The roll has room for just these where it is tight, and

@@ -3,8 +3,9 @@
  * or of a stand-in the same part, and leave the same memory, books, map and roll. Fails also where the calls never met
  * one of the tests of a shape that fails first, or in one of the editions a number, a half-done resize whose give-back
  * meets 5, 6 or 10, a stand-in that is the phrase or one that is the block's own part, one of the calls on an offset
- * with one of the reasons why that is a dead block or none, or one of the roll calls over one of the kinds of map with
- * one of the kinds of room. */
+ * with one of the reasons why that is a dead block or none, a give-back with one of the kinds of walk past the arenas
+ * that follow in the usable list, or one of the roll calls over one of the kinds of map with one of the kinds of
+ * room. */
 #include "checks.h"
 #include "random.h"
 
@@ -19,6 +20,8 @@ enum { AT_BLOCKS, PAST_THE_LAST, NO_CLASS, WHOLE_WORDS, ALL_ONES, LAST_WORD, CRO
 enum { FOR_ALL, MORE, ENOUGH, ONE_TOO_FEW, FEWER, ROOMS };
 enum { DEAD, DEAD_DAMAGED, OPEN_0, OPEN_ABOVE_1, PAST_THE_MARK, AT_NEXTOFFSET, PAST_NEXTOFFSET, NO_START, NO_END,
        ABOVE_LAST, SEVERAL, REASONS };
+enum { PASSES_NONE, UNREAD_PREVIOUS, PASSES_ONE, PASSES_MORE, COMES_BACK, BAD_NEXT, BAD_NEXT_LATER, BAD_PREVIOUS,
+       TOO_LONG, WALKS };
 enum { UNDER_TWO_WORDS, A_OR_P, NO_EDITION, BAD_EDITION, LENGTHS, SHAPES };
 
 struct buffers {
@@ -32,6 +35,7 @@ struct call {
     unsigned kind;
     size_t memory_bytes, books_words, map_words, roll_words;
     size_t x, y, z;         /* A, P and the edition; or a size; or an offset, and a size or a text's length */
+    size_t walk;            /* of a give-back: the walk that it comes to, or WALKS */
     uint32_t live;          /* of a roll call: the live blocks that it meets, and what is in the map */
     bool in_map[MAPS];
 };
@@ -68,6 +72,17 @@ static const char *const reasons[REASONS] = {
     [ABOVE_LAST] = "none, only because the class is above the last",
     [SEVERAL] = "none, because of several of these, or outside memory",
 };
+static const char *const walks[WALKS] = {
+    [PASSES_NONE] = "none",
+    [UNREAD_PREVIOUS] = "none, where its previous is above A",
+    [PASSES_ONE] = "one arena",
+    [PASSES_MORE] = "more than one",
+    [COMES_BACK] = "some, and the links lead back to it",
+    [BAD_NEXT] = "6, as its next is above A",
+    [BAD_NEXT_LATER] = "6, as the next of one that is passed is above A",
+    [BAD_PREVIOUS] = "6, as one is passed and its previous is above A",
+    [TOO_LONG] = "6, as more than A would be passed",
+};
 static const char *const shapes[SHAPES] = {
     [UNDER_TWO_WORDS] = "books of under two words",
     [A_OR_P] = "A or P",
@@ -81,11 +96,12 @@ static const uint8_t on_offsets[] = {GIVE_BACK, RESIZE, VIEW_SIZE, WRITE};
 static struct buffers library, checks;
 static size_t arenas, pools;
 static bool sound;                              /* nothing was damaged since format */
+static bool few;                                /* about one block for each pool is out, so that arenas move */
 static uint32_t held[MOST_HELD], held_count;    /* offsets that were handed out, as far as the answers tell */
 static uint32_t gone[GONE], gone_count;         /* the last of those that came back, and how many came in all */
 static unsigned long shapes_met[2][SHAPES];     /* of the other calls, and of format */
 static struct met {
-    unsigned long numbers[11], half_done[11], stood_in[2], rolls[CALLS][MAPS][ROOMS], on[CALLS][REASONS];
+    unsigned long numbers[11], half_done[11], stood_in[2], rolls[CALLS][MAPS][ROOMS], on[CALLS][REASONS], walks[WALKS];
 } met_in[EDITIONS], *met = met_in;              /* met is that of the books' edition */
 static uint8_t text[600];
 
@@ -129,11 +145,12 @@ static heskavern_answer by_checks(struct buffers *b, const struct call *c)
     }
 }
 
-/* Few sizes, so that pools fill and empty, and now and then one that is none. */
+/* Few sizes, so that pools fill and empty, and now and then one that is none. Where few blocks are out they are of all
+ * sizes, and so have pools of their own. */
 static size_t random_size(void)
 {
     static const uint16_t sizes[] = {8, 24, 200, 440, 512};
-    return below(40) == 0 ? below(3) * 513 : below(4) == 0 ? between(1, 512) : sizes[below(5)];
+    return below(40) == 0 ? below(3) * 513 : few || below(4) == 0 ? between(1, 512) : sizes[below(5)];
 }
 
 /* The alignment by the books' edition; one that is none is taken for eight. */
@@ -172,6 +189,42 @@ static size_t random_offset(void)
     case 4: return 4096 * p + 48 + 4048 / size * size;
     default: return held[below(held_count)];
     }
+}
+
+/* Whether the give-back of this offset, if a block is live there, comes to the walk: its pool falls empty, by words
+ * that keep their rules, and its arena stays usable. */
+static bool comes_to_walk(size_t offset)
+{
+    const size_t all = arenas * pools, p = offset / 4096;
+    if (p >= all || library.books[class_word(p)] > last_class())
+        return false;
+    const uint32_t *pool = &library.books[class_word(p) - 4], *arena = &library.books[72 + 8 * (p / pools)];
+    const uint32_t size = size_of(pool[4]), first = pool[1];
+    return pool[0] == 1 && first >= 48 && first <= 4096 - size && (first - 48) % size == 0 && pool[2] <= all
+        && pool[3] <= all && arena[3] <= all && arena[2] >= 1 && arena[2] < pools - 1;
+}
+
+/* The walk that a give-back is to come to, by the words that the books hold: free pools is the third of an arena's
+ * record, next the fifth and previous the sixth. */
+static size_t walk_of(size_t offset)
+{
+    if (!comes_to_walk(offset))
+        return WALKS;
+    const uint32_t a = (uint32_t)(offset / 4096 / pools), *records = library.books + 72, *own = records + 8 * a;
+    uint32_t next = own[4];
+    size_t passed = 0;
+    while (next >= 1 && next <= arenas && next - 1 != a && records[8 * (next - 1) + 2] <= own[2]) {
+        if (passed++ == arenas)
+            return TOO_LONG;
+        next = records[8 * (next - 1) + 4];
+    }
+    if (next > arenas)
+        return passed == 0 ? BAD_NEXT : BAD_NEXT_LATER;
+    if (own[5] > arenas)
+        return passed == 0 ? UNREAD_PREVIOUS : BAD_PREVIOUS;
+    if (passed != 0 && next == a + 1)
+        return COMES_BACK;
+    return passed == 0 ? PASSES_NONE : passed == 1 ? PASSES_ONE : PASSES_MORE;
 }
 
 /* What a roll call is to meet, bit by bit. */
@@ -231,6 +284,8 @@ static struct call random_call(void)
                      .map_words = 8 * arenas * pools,
                      .x = random_offset(),
                      .y = random_size()};
+    if (few && below(2) == 0)
+        c.kind = below((uint32_t)(arenas * pools)) < held_count ? GIVE_BACK : ASK;
     if (below(300) == 0) {
         c.kind = FORMAT, c.x = below(4) == 0 ? below(18) : arenas, c.y = below(4) == 0 ? below(66) : pools;
         c.z = below(4) == 0 ? editions[below(4)] : below(2);
@@ -239,6 +294,8 @@ static struct call random_call(void)
         c.x = random_size();
     if (c.kind == RESIZE && below(4) == 0)
         c.y = c.x % 4096 - 48;      /* in blocks of this size, the second one of its pool would start where it does */
+    if (c.kind == GIVE_BACK)
+        c.walk = walk_of(c.x);
     if (c.kind >= ROLL_CALL) {
         look(&c);
         c.roll_words = random_room(c.live);
@@ -309,13 +366,21 @@ static void damage_map(size_t p)
     memcpy(&checks.map[8 * p], &library.map[8 * p], 8 * sizeof *library.map);
 }
 
+/* An arena's next or previous becomes the link to any arena, or 0, or the first that is none. */
+static void damage_links(void)
+{
+    const uint32_t most = (uint32_t)arenas;
+    size_t at = 72 + 8 * below(most) + 4 + below(2);
+    library.books[at] = checks.books[at] = below(3) == 0 ? most + 1 : below(most + 1);
+}
+
 /* Damages words of the books, a bit or a word of the map or a link, the same in both. */
 static void damage(void)
 {
     size_t words = 72 + 8 * arenas + 8 * arenas * pools, p = below((uint32_t)(arenas * pools)), at;
     uint32_t word = odd_word();
     sound = false;
-    switch (library.books[EDITION] > HESKAVERN_SIXTEEN ? 9 : below(14)) {
+    switch (library.books[EDITION] > HESKAVERN_SIXTEEN ? 9 : below(16)) {
     case 0:
         at = 8 * p + below(1 + below(8));
         library.map[at] = checks.map[at] = library.map[at] ^ (uint64_t)1 << below(64);
@@ -355,6 +420,10 @@ static void damage(void)
         at = class_word(p) - 4;
         library.books[at] = checks.books[at] = between(504, 508) / (1 + below(2));   /* or about half of these */
         break;
+    case 11:
+    case 12:
+        damage_links();
+        break;
     default:
         at = below(20) == 0 ? below(2) : 2 + below((uint32_t)words - 2);
         library.books[at] = checks.books[at] = word;
@@ -363,9 +432,10 @@ static void damage(void)
 
 static void fresh(void)
 {
+    few = below(4) == 0;
     do {
-        arenas = below(4) == 0 ? between(1, 16) : between(1, 3);
-        pools = below(8) == 0 ? between(2, 64) : between(2, 4);
+        arenas = below(4) == 0 ? between(1, 16) : few ? between(2, 6) : between(1, 3);
+        pools = below(8) == 0 ? between(2, 64) : few ? between(3, 5) : between(2, 4);
     } while (arenas * pools > MOST_POOLS);
     for (size_t i = 0; i < sizeof library.memory; i++)
         library.memory[i] = (uint8_t)below(256);
@@ -431,6 +501,13 @@ static void note_half_done(const struct call *c)
     met->half_done[number == HESKAVERN_DONE ? HESKAVERN_DAMAGED : number]++;
 }
 
+/* Counts a give-back that came to a walk, and was done or not as that says: 1, 2, 5 and 10 come before it. */
+static void note_walk(const struct call *c, uint32_t number)
+{
+    if (c->walk < WALKS && number == (c->walk < BAD_NEXT ? HESKAVERN_DONE : HESKAVERN_DAMAGED))
+        met->walks[c->walk]++;
+}
+
 /* Counts a roll call that was done or did not fit. */
 static void note_roll(const struct call *c)
 {
@@ -479,6 +556,8 @@ static void note(const struct call *c, heskavern_answer a)
         met->on[c->kind][reason_of(c->x)]++;
     if (c->kind == RESIZE && a.number == HESKAVERN_DAMAGED && a.value != 0)
         note_half_done(c);
+    if (c->kind == GIVE_BACK)
+        note_walk(c, a.number);
     if (c->kind >= ROLL_CALL && (a.number == HESKAVERN_DONE || a.number == HESKAVERN_DOES_NOT_FIT))
         note_roll(c);
     if (a.number != HESKAVERN_DONE)
@@ -560,6 +639,19 @@ static bool say_reasons(void)
     return all;
 }
 
+/* Says what was met of walks, and whether all of it was. */
+static bool say_walks(void)
+{
+    bool all = true;
+    printf("  give-backs that may move an arena, by what it passes");
+    for (size_t i = 0; i < WALKS; i++) {
+        printf("\n    %s: %lu", walks[i], met->walks[i]);
+        all &= met->walks[i] != 0;
+    }
+    printf("\n");
+    return all;
+}
+
 /* Says what was met in an edition, and whether all of it was. */
 static bool say_met(size_t edition)
 {
@@ -575,6 +667,7 @@ static bool say_met(size_t edition)
     printf("; half-done resizes by 5, 6 and 10: %lu %lu %lu; stand-ins: %lu blocks, %lu phrases\n", five, six, ten, own,
            phrases);
     all &= say_reasons();
+    all &= say_walks();
     return say_rolls() && all;
 }
 

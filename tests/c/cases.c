@@ -1,6 +1,6 @@
 /* The cases of 01, run through heskavern.h: K1 to K10, the fills, the moves, and each number from 0 to 7; those of 02's
-   W-206, with number 10, W-211 and W-214; and what the header says is good to know. Each is run in both editions, with
-   01's numbers where that is eight. C99, and C++ too. */
+   W-203, W-206, with number 10, W-211 and W-214; and what the header says is good to know. Each is run in both
+   editions, with 01's numbers where that is eight. C99, and C++ too. */
 #include <stdio.h>
 #include <stdlib.h>
 #include <string.h>
@@ -83,7 +83,7 @@ static void fresh(size_t arenas, size_t pools)
 
 /* The word of the books that has the edition. A word of an arena's record, and of a pool's, by its place there. */
 enum { EDITION = 68 };
-enum { OPEN = 0, MARK = 1, FREED_HEAD = 3 };
+enum { OPEN = 0, MARK = 1, FREED_HEAD = 3, NEXT = 4, PREVIOUS = 5 };
 static uint32_t *arena_word(size_t arena, size_t place) { return &books[72 + 8 * arena + place]; }
 enum { COUNT = 0, FREEBLOCK = 1, CLASS = 4, NEXTOFFSET = 5, MAXNEXTOFFSET = 6 };
 static uint32_t *pool_word(size_t pool, size_t place) { return &books[72 + 8 * books[0] + 8 * pool + place]; }
@@ -188,6 +188,57 @@ static void k7_to_k10(void)
     EXPECT(is(GIVE_BACK((size_t)-1), HESKAVERN_NO_BLOCK, 0));
     EXPECT(done(GIVE_BACK(48), 48));
     EXPECT(is(GIVE_BACK(48), HESKAVERN_NO_BLOCK, 0)); /* its arena is released */
+    expect_untouched();
+}
+
+/* Asks for a block of each of the first n classes: each has a pool of its own. */
+static void ask_classes(uint32_t n)
+{
+    uint32_t i;
+    for (i = 1; i <= n; i++)
+        EXPECT(done(ASK(i * now->smallest), 4096 * (i - 1) + 48));
+}
+
+/* Arena 1, which comes to have two free pools, goes behind arena 0, which has one: so the next pool is of arena 0. */
+static void usable_order(void)
+{
+    fresh(2, 3);
+    ask_classes(6);
+    EXPECT(done(GIVE_BACK(48), 48));
+    EXPECT(done(GIVE_BACK(12336), 12336));
+    EXPECT(done(GIVE_BACK(16432), 16432));
+    EXPECT(done(ASK(7 * now->smallest), 48));
+    expect_untouched();
+}
+
+/* With this value in the word the block cannot be given back, and nothing changes. */
+static void expect_no_walk(uint32_t *word, uint32_t value, size_t offset)
+{
+    uint32_t before = *word;
+    *word = value;
+    remember();
+    EXPECT(is(GIVE_BACK(offset), HESKAVERN_DAMAGED, 0));
+    EXPECT(unchanged());
+    *word = before;
+}
+
+/* The words that an arena moves by: its next is read even where it stays, its previous only where it moves. It passes
+   at most A others, so links may lead round. */
+static void damaged_order(void)
+{
+    fresh(1, 4);
+    ask_classes(3);
+    expect_no_walk(arena_word(0, NEXT), 9, 4144);
+    *arena_word(0, PREVIOUS) = 9;
+    EXPECT(done(GIVE_BACK(4144), 4144));
+    fresh(2, 3);
+    ask_classes(6);
+    EXPECT(done(GIVE_BACK(48), 48));
+    EXPECT(done(GIVE_BACK(12336), 12336));
+    expect_no_walk(arena_word(1, PREVIOUS), 3, 16432);
+    expect_no_walk(arena_word(0, NEXT), 3, 16432);
+    expect_no_walk(arena_word(0, NEXT), 1, 16432); /* arena 0 itself */
+    EXPECT(done(GIVE_BACK(16432), 16432));
     expect_untouched();
 }
 
@@ -902,6 +953,8 @@ static void of_the_papers(void)
     k1_to_k3();
     k4_to_k6();
     k7_to_k10();
+    usable_order();
+    damaged_order();
     fill_with_smallest();
     fill_with_512();
     moves();

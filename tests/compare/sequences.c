@@ -1,6 +1,7 @@
 /* Writes a seeded sequence of replay records for a heap of A arenas of P pools, of edition eight (0) or sixteen (1):
  * sequences SEED CALLS A P EDITION > records. It makes each call on the allocator written from the source as well, so
- * that it knows which blocks are live. */
+ * that it knows which blocks are live. Where there are several arenas it says on stderr how often one of them moved in
+ * the usable list. */
 #define _POSIX_C_SOURCE 200112L
 #include "bytes.h"
 #include "pymalloc.h"
@@ -12,7 +13,7 @@
 #include <stdlib.h>
 
 enum { ASK = 1, GIVE_BACK = 2, RESIZE = 3 };
-enum { STALE = 64 };
+enum { STALE = 64, FEW = 64 };
 
 static struct pymalloc lent_heap, *const heap = &lent_heap;
 static block *memory;
@@ -42,16 +43,29 @@ static void drop(uint32_t offset)
     stale[dropped++ % STALE] = offset;
 }
 
-/* Writes a record. The program ends with the last one that was wanted. */
+static bool has_several_arenas(void)
+{
+    return bytes > heap->pools * POOL_SIZE;
+}
+
+/* What the program ends with, when every call that was wanted is written and made. */
+static int finish(void)
+{
+    if (has_several_arenas())
+        fprintf(stderr, "%lu\n", heap->moves);
+    return fflush(stdout) == 0 ? 0 : 1;
+}
+
+/* Writes a record. The program ends where it would be one more than are wanted. */
 static void put_record(uint32_t op, uint32_t size, uint32_t offset)
 {
     unsigned char record[16] = {0};
+    if (calls++ == wanted)
+        exit(finish());
     put32(record, op);
     put32(record + 4, size);
     put32(record + 8, offset);
     fwrite(record, 1, sizeof record, stdout);
-    if (++calls == wanted)
-        exit(fflush(stdout) == 0 ? 0 : 1);
 }
 
 /* What stands in a field that an op does not use must not matter. */
@@ -157,9 +171,11 @@ static void drain(uint32_t rest)
         give_back(live[order < 2 ? count - 1 : below(count)]);
 }
 
-/* To no room and beyond, then back. */
+/* To no room and beyond, then back. Several arenas often get large blocks, which fill them soonest. */
 static void fill_and_drain(void)
 {
+    if (has_several_arenas() && below(2) == 0)
+        mix = LARGE;
     for (uint32_t refused = between(1, 8); refused > 0;)
         refused -= !ask(some_size());
     drain(below(2) ? 0 : below(count + 1));
@@ -183,6 +199,21 @@ static void empty_pools(void)
                 give_back(live[i - 1]);
         for (uint32_t k = below(4); k > 0; k--)
             ask(below(2) ? size - below(ALIGNMENT) : some_size());
+    }
+}
+
+/* A few blocks of all sizes come and go in runs. Most have a pool of their own, which is taken and falls empty with
+ * them: so an arena comes to have more free pools than the next of the usable list. */
+static void few_blocks(void)
+{
+    uint32_t pools = bytes / POOL_SIZE, most = pools < FEW ? pools : FEW;
+    mix = ANY;
+    for (uint32_t n = times(20); n > 0; n--) {
+        uint32_t rest = below(most);
+        while (count > rest)
+            give_back(some_block());
+        for (uint32_t more = below(most - count + 1); more > 0; more--)
+            ask(some_size());
     }
 }
 
@@ -254,7 +285,10 @@ static void phase(void)
         churn, churn, empty_pools, empty_pools, resizes, refusals, empty_heap, fill_and_drain};
     mix = below(MIXES);
     class = below(NB_SMALL_SIZE_CLASSES);
-    phases[below(calls < 500 ? 7 : 8)]();       /* a heap is not filled at the start of a sequence */
+    if (has_several_arenas() && below(2) == 0)
+        few_blocks();
+    else
+        phases[below(calls < 500 ? 7 : 8)]();   /* a heap is not filled at the start of a sequence */
 }
 
 int main(int argc, char **argv)
@@ -281,5 +315,5 @@ int main(int argc, char **argv)
     }
     while (calls < wanted)
         phase();
-    return 0;
+    return finish();
 }

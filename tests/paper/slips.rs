@@ -1,5 +1,5 @@
 // Small changes to src/paper.rs, one at a time: the slips that 01 names, the other reading of each place that leaves
-// room, the slips of a tired hand, and those of W-206, W-211 and W-214. The build makes a program of each, and
+// room, the slips of a tired hand, and those of W-203, W-206, W-211 and W-214. The build makes a program of each, and
 // tests/broken.rs shows that it is found.
 
 // the build reads the texts, the tests the rest
@@ -17,7 +17,7 @@ const fn slip(name: &'static str, case: Option<&'static str>, old: &'static str,
     Slip { name, case, old, new }
 }
 
-pub const ALL: [&[Slip]; 8] = [NAMED, READINGS, TIRED, SPLIT, SHAPE, EDITIONS, BY_EIGHT, STAND_IN];
+pub const ALL: [&[Slip]; 10] = [NAMED, READINGS, TIRED, SPLIT, SHAPE, EDITIONS, BY_EIGHT, STAND_IN, ORDER, GOING_IN];
 
 /// The slips that 01 names.
 const NAMED: &[Slip] = &[
@@ -1306,5 +1306,358 @@ const STAND_IN: &[Slip] = &[
         match self.heap(lent).and_then(|heap| heap.live(offset)) {",
         "-> Place {
         match self.heap(lent).and_then(|heap| heap.live(offset as u32 as usize)) {",
+    ),
+];
+
+/// The slips of W-203: first those of the walk. A bound of A - 1, or of more than A, is none: a walk that passes A
+/// arenas passes one of them twice, since it never passes its own, and then it has no end.
+const ORDER: &[Slip] = &[
+    slip(
+        "an arena keeps its place in the list",
+        Some("W-203: always rising"),
+        "self.move_back(arena, free)?;",
+        "self.walk(Path::ArenaStays);",
+    ),
+    slip(
+        "in sixteen an arena keeps its place in the list",
+        Some("W-203: the arena of a resize"),
+        "self.move_back(arena, free)?;",
+        "if self.edition == Edition::Eight {
+             self.move_back(arena, free)?;
+         }",
+    ),
+    slip(
+        "only the front arena moves",
+        Some("W-203: one passed, from behind"),
+        "self.move_back(arena, free)?;",
+        "if self.read(USABLE) == arena + 1 {
+             self.move_back(arena, free)?;
+         }",
+    ),
+    slip(
+        "arenas with as many free pools are passed",
+        Some("W-203: as many"),
+        "self.read(self.arena(*other, FREE_POOLS)) < free",
+        "self.read(self.arena(*other, FREE_POOLS)) <= free",
+    ),
+    slip(
+        "arenas with more free pools are passed",
+        Some("W-203: the next ask"),
+        "self.read(self.arena(*other, FREE_POOLS)) < free",
+        "self.read(self.arena(*other, FREE_POOLS)) > free",
+    ),
+    slip(
+        "the walk goes by the number before it rose",
+        Some("W-203, read: free pools"),
+        "self.read(self.arena(*other, FREE_POOLS)) < free",
+        "self.read(self.arena(*other, FREE_POOLS)) < free - 1",
+    ),
+    slip(
+        "an arena that the walk comes back to has the number before it rose",
+        Some("W-203, read: an arena that"),
+        "self.read(self.arena(*other, FREE_POOLS)) < free",
+        "self.read(self.arena(*other, FREE_POOLS)) < free + usize::from(*other == arena)",
+    ),
+    slip(
+        "no more than one arena is passed",
+        Some("W-203: two passed"),
+        "while let Some(other) = following.filter(",
+        "if let Some(other) = following.filter(",
+    ),
+    slip(
+        "no more than two arenas are passed",
+        Some("W-203: all others"),
+        "while let Some(other) = following.filter(|other|",
+        "while let Some(other) = following.filter(|other| passed.len() < 2 &&",
+    ),
+    slip(
+        "only open arenas are passed",
+        Some("W-203: a closed"),
+        "while let Some(other) = following.filter(|other|",
+        "while let Some(other) = following.filter(|other| self.read(self.arena(*other, OPEN)) == 1 &&",
+    ),
+    slip(
+        "the place is looked for in the whole list",
+        Some("W-203, read: a list kept"),
+        "self.walk_ends(arena, free, following);",
+        "let mut left = self.arenas;
+         while let Some(other) = following.filter(|other| *other != arena && left > 0) {
+             left -= 1;
+             if self.read(self.arena(other, FREE_POOLS)) < free {
+                 passed.push(other);
+             }
+             following = self.read(list.next(other)).checked_sub(1).filter(|next| *next < list.most);
+         }",
+    ),
+    slip(
+        "the walk begins at the usable head",
+        Some("W-203: the next ask"),
+        "self.follow(list.next(arena), list.most, Rule::WalkNext)?",
+        "self.follow(list.head, list.most, Rule::WalkNext)?",
+    ),
+    slip(
+        "the walk goes towards the front",
+        Some("W-203: the next ask"),
+        "self.follow(list.next(arena), list.most, Rule::WalkNext)?",
+        "self.follow(list.previous(arena), list.most, Rule::WalkNext)?",
+    ),
+    slip(
+        "own next above A is none",
+        Some("W-203, read: own next"),
+        "self.follow(list.next(arena), list.most, Rule::WalkNext)?",
+        "self.read(list.next(arena)).checked_sub(1).filter(|next| *next < list.most)",
+    ),
+    slip(
+        "a passed arena's next above A is none",
+        Some("W-203: a walk into"),
+        "following = self.follow(list.next(other), list.most, Rule::PassedNext)?;",
+        "if self.read(list.next(other)) > list.most {
+             self.put(list.next(other), 0);
+         }
+         following = self.follow(list.next(other), list.most, Rule::PassedNext)?;",
+    ),
+    slip(
+        "a passed arena's previous above A is a 6",
+        Some("W-203: links that"),
+        "passed.push(other);",
+        "passed.push(other);
+         self.follow(list.previous(other), list.most, Rule::PassedNext)?;",
+    ),
+    slip(
+        "a follower's next is tested although it is not passed",
+        Some("W-203: a walk into"),
+        "self.walk_ends(arena, free, following);",
+        "if let Some(other) = following {
+             self.follow(list.next(other), list.most, Rule::PassedNext)?;
+         }",
+    ),
+    slip(
+        "a follower with more than P free pools is 6",
+        Some("W-203, read: a follower's"),
+        "self.walk_ends(arena, free, following);",
+        "if let Some(other) = following {
+             self.rule(self.read(self.arena(other, FREE_POOLS)) <= self.pools, Rule::PassedNext)?;
+         }",
+    ),
+    slip(
+        "a follower with no free pools is 6",
+        Some("W-203, read: a follower's"),
+        "passed.push(other);",
+        "passed.push(other);
+         self.rule(self.read(self.arena(other, FREE_POOLS)) != 0, Rule::PassedNext)?;",
+    ),
+    slip(
+        "a walk longer than one arena is a 6",
+        Some("W-203: two passed"),
+        "passed.len() <= self.arenas",
+        "passed.len() <= 1",
+    ),
+    slip(
+        "a walk longer than A - 2 arenas is a 6",
+        Some("W-203: all others"),
+        "passed.len() <= self.arenas",
+        "passed.len() + 2 <= self.arenas",
+    ),
+    slip(
+        "a walk longer than P arenas is a 6",
+        Some("W-203: all others"),
+        "passed.len() <= self.arenas",
+        "passed.len() <= self.pools",
+    ),
+    slip(
+        "a walk longer than A arenas stops at A",
+        Some("W-203: a cycle of"),
+        "while let Some(other) = following.filter(|other|",
+        "while let Some(other) = following.filter(|other| passed.len() < self.arenas &&",
+    ),
+    slip(
+        "the walk stops at an arena that was passed before",
+        Some("W-203, read: more"),
+        "while let Some(other) = following.filter(|other|",
+        "while let Some(other) = following.filter(|other| !passed.contains(other) &&",
+    ),
+    slip(
+        "a walk that comes back to its own arena is a 6",
+        Some("W-203: a cycle through"),
+        "self.walk_ends(arena, free, following);",
+        "self.rule(following != Some(arena), Rule::LongWalk)?;",
+    ),
+    slip(
+        "a newly usable arena moves as well",
+        Some("W-203: a newly"),
+        "self.join(self.arena_list(USABLE), arena, Rule::UsableAgainHead)?;",
+        "self.join(self.arena_list(USABLE), arena, Rule::UsableAgainHead)?;
+         self.move_back(arena, free)?;",
+    ),
+    slip(
+        "a released arena walks before it leaves",
+        Some("W-203: a released"),
+        "self.walk(Path::Released);",
+        "self.move_back(arena, free)?;",
+    ),
+];
+
+/// Those of what comes after the walk.
+const GOING_IN: &[Slip] = &[
+    slip(
+        "an arena that passes none joins the list anew",
+        Some("W-203: none passed"),
+        "self.walk(Path::ArenaStays);",
+        "self.leave(list, arena, [Rule::WalkNext, Rule::MovedPrevious])?;
+         self.join(list, arena, Rule::UsableAgainHead)?;",
+    ),
+    slip(
+        "an arena that passes none tells the next one so",
+        None,
+        "self.walk(Path::ArenaStays);",
+        "if let Some(after) = following {
+             self.put(list.previous(after), link_to(Some(arena)));
+         }",
+    ),
+    slip(
+        "an arena that passes none tells the one before so",
+        None,
+        "self.walk(Path::ArenaStays);",
+        "match self.read(list.previous(arena)).checked_sub(1) {
+             Some(before) if before < list.most => self.put(list.next(before), link_to(Some(arena))),
+             Some(_) => {}
+             None => self.put(list.head, link_to(Some(arena))),
+         }",
+    ),
+    slip(
+        "own previous is tested where none is passed",
+        Some("W-203, read: own previous"),
+        "self.walk(Path::ArenaStays);",
+        "self.follow(list.previous(arena), list.most, Rule::MovedPrevious)?;",
+    ),
+    slip(
+        "own previous above A is none",
+        Some("W-203, read: own previous"),
+        "let front = self.read(list.previous(arena)) == 0;",
+        "let front = self.read(list.previous(arena)) > list.most;
+         if front {
+             self.put(list.previous(arena), 0);
+         }",
+    ),
+    slip(
+        "own previous that was passed is a 6",
+        Some("W-203: own previous is a passed"),
+        "let front = self.read(list.previous(arena)) == 0;",
+        "let front = self.read(list.previous(arena)) == 0;
+         self.rule(!passed.iter().any(|other| self.read(list.previous(arena)) == other + 1), Rule::MovedPrevious)?;",
+    ),
+    slip(
+        "an arena at the front is told by the head",
+        Some("W-203: own previous is the arena"),
+        "let front = self.read(list.previous(arena)) == 0;",
+        "let front = self.read(list.head) == arena + 1;
+         if front {
+             self.put(list.previous(arena), 0);
+         }",
+    ),
+    slip(
+        "an arena that moves goes in before the last passed",
+        Some("W-203: the next ask"),
+        "let last = match passed.last() {",
+        "passed.pop();
+         let last = match passed.last() {",
+    ),
+    slip(
+        "an arena that moves goes in after the first passed",
+        Some("W-203: two passed"),
+        "let last = match passed.last() {",
+        "let last = match passed.first() {",
+    ),
+    slip(
+        "an arena that moves goes in after the first that is not passed",
+        Some("W-203: one passed, from the front"),
+        "let last = match passed.last() {",
+        "if let (Some(stop), false) = (following.filter(|stop| *stop != arena), passed.is_empty()) {
+             self.follow(list.next(stop), list.most, Rule::PassedNext)?;
+             passed.push(stop);
+         }
+         let last = match passed.last() {",
+    ),
+    slip(
+        "an arena that moves goes to the end of the list",
+        Some("W-203: one passed, from the front"),
+        "self.go_in_after(list, arena, last);",
+        "let mut last = last;
+         for _ in 0..self.arenas {
+             last = self.follow(list.next(last), list.most, Rule::PassedNext)?.unwrap_or(last);
+         }
+         self.go_in_after(list, arena, last);",
+    ),
+    slip(
+        "an arena that moves does not leave first",
+        Some("W-203: the next ask"),
+        "self.leave(list, arena, [Rule::WalkNext, Rule::MovedPrevious])?;",
+        "self.follow(list.previous(arena), list.most, Rule::MovedPrevious)?;",
+    ),
+    slip(
+        "an arena that moves leaves the unused list",
+        Some("W-203: the next ask"),
+        "self.leave(list, arena, [Rule::WalkNext, Rule::MovedPrevious])?;",
+        "self.leave(self.arena_list(UNUSED), arena, [Rule::WalkNext, Rule::MovedPrevious])?;",
+    ),
+    slip(
+        "an arena that moves leaves the next one's previous",
+        Some("W-203: the next ask"),
+        "self.leave(list, arena, [Rule::WalkNext, Rule::MovedPrevious])?;",
+        "let (first, back) = (passed[0], self.read(list.previous(passed[0])));
+         self.leave(list, arena, [Rule::WalkNext, Rule::MovedPrevious])?;
+         self.put(list.previous(first), back);",
+    ),
+    slip(
+        "what follows the last passed is read before leaving",
+        Some("W-203, read: what follows"),
+        "self.go_in_after(list, arena, last);",
+        "self.put(list.next(last), link_to(following));
+         self.go_in_after(list, arena, last);",
+    ),
+    slip(
+        "the next one's previous stays as it was",
+        Some("W-203: one passed, from the front"),
+        "self.put(list.previous(after), link_to(Some(member)));",
+        "let _ = after;",
+    ),
+    slip(
+        "the next one's previous becomes the last passed",
+        Some("W-203: one passed, from the front"),
+        "self.put(list.previous(after), link_to(Some(member)));",
+        "self.put(list.previous(after), link_to(Some(last)));",
+    ),
+    slip(
+        "the last passed's next stays as it was",
+        Some("W-203: the next ask"),
+        "self.put(list.next(last), link_to(Some(member)));",
+        "",
+    ),
+    slip(
+        "own next is left at none",
+        Some("W-203: one passed, from the front"),
+        "self.put(list.next(member), link_to(next));",
+        "",
+    ),
+    slip(
+        "own previous is left at none",
+        Some("W-203: one passed, the records"),
+        "self.put(list.previous(member), link_to(Some(last)));",
+        "",
+    ),
+    slip(
+        "a resize whose walk is a 6 answers offset 0",
+        Some("W-203: a resize is half"),
+        "return Err(Answer { number: 6, value: new as u32 });",
+        "let walk = matches!(self.trail.broken, Some(Rule::WalkNext | Rule::PassedNext | Rule::LongWalk));
+         return Err(Answer { number: 6, value: if walk { 0 } else { new as u32 } });",
+    ),
+    slip(
+        "own links are written last",
+        Some("W-203, read: own links"),
+        "self.put(list.next(last), link_to(Some(member)));",
+        "self.put(list.next(last), link_to(Some(member)));
+         self.put(list.next(member), link_to(next));
+         self.put(list.previous(member), link_to(Some(last)));",
     ),
 ];

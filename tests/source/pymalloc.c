@@ -1,6 +1,5 @@
-/* The allocator of CPython's Objects/obmalloc.c, with 01's two changes: the usable arenas are not sorted, and there
- * is a fixed number of arenas, all in one lent area. Where the source turns to the system's allocator, there is no
- * room. */
+/* The allocator of CPython's Objects/obmalloc.c, with one change, which is 01's: there is a fixed number of arenas, all
+ * in one lent area. Where the source turns to the system's allocator, there is no room. */
 #include "pymalloc.h"
 
 #include <stdint.h>
@@ -161,6 +160,24 @@ static void release_arena(struct pymalloc *heap, struct arena_object *ao)
     heap->unused_arena_objects = ao;
 }
 
+/* The arena has one free pool more: it moves back past those that now have fewer, if there are any. So the fullest come
+ * first and serve first, and the emptiest may come to be released. */
+static void sort_usable(struct pymalloc *heap, struct arena_object *ao)
+{
+    unsigned nf = ao->nfreepools;
+    if (ao->nextarena == NULL || nf <= ao->nextarena->nfreepools)
+        return;
+    leave_usable(heap, ao);
+    while (ao->nextarena != NULL && nf > ao->nextarena->nfreepools) {
+        ao->prevarena = ao->nextarena;
+        ao->nextarena = ao->nextarena->nextarena;
+    }
+    ao->prevarena->nextarena = ao;
+    if (ao->nextarena != NULL)
+        ao->nextarena->prevarena = ao;
+    heap->moves++;
+}
+
 /* The pool has no live block: it goes back to its arena, for any class. */
 static void free_pool(struct pymalloc *heap, poolp pool)
 {
@@ -174,6 +191,8 @@ static void free_pool(struct pymalloc *heap, poolp pool)
         release_arena(heap, ao);
     else if (nf == 1)
         join_usable(heap, ao);
+    else
+        sort_usable(heap, ao);
 }
 
 void pymalloc_give_back(struct pymalloc *heap, void *p)

@@ -47,10 +47,11 @@ struct pymalloc {
     block *memory;
     unsigned pools;                                 /* pools of an arena */
     unsigned alignment_shift;                       /* 3 or 4: blocks are aligned to 8 or to 16 bytes */
-    struct arena_object *usable_arenas;             /* open, with a pool to hand out */
+    struct arena_object *usable_arenas;             /* open, with a pool to hand out; rising by nfreepools */
     struct arena_object *unused_arena_objects;      /* not open */
     poolp usedpools[2 * MAX_SIZE_CLASSES];          /* for each class the nextpool and prevpool of a list's head */
     struct arena_object arenas[MAX_ARENAS];
+    unsigned long moves;                            /* how often an arena moved in usable_arenas: not the source's */
 };
 
 /* An empty heap over arenas * pools * POOL_SIZE bytes, which start at a multiple of POOL_SIZE, with an alignment_shift

@@ -1,5 +1,5 @@
-//! 01's cases, W-206's and W-214's through the bindings, at either edition of W-211: what a caller in Rust gets for
-//! each number, and what it can get hold of.
+//! 01's cases, W-203's, W-206's and W-214's through the bindings, at either edition of W-211: what a caller in Rust
+//! gets for each number, and what it can get hold of.
 
 mod common;
 
@@ -14,6 +14,8 @@ at_either_edition! {
     resize_moves_within_a_block_size,
     resize_moves_to_a_larger_block,
     no_block_is_there_as_in_k10,
+    the_fullest_arena_serves_first,
+    an_arena_with_a_bad_link_takes_no_pool_back,
     a_block_that_is_given_back_is_dead_while_another_is_out,
     a_block_that_is_set_ready_is_dead_and_the_next_is_none,
     a_pool_of_another_block_size_has_other_blocks,
@@ -143,6 +145,33 @@ fn no_block_is_there_as_in_k10(edition: Edition) -> Result<(), Refusal> {
     }
     assert_eq!(heap.give_back(48), Ok(()));
     assert_eq!(heap.give_back(48), Err(Refusal::NoBlock)); // its arena is released
+    Ok(())
+}
+
+/// W-203. Arena 1, which comes to have two free pools, goes behind arena 0, which has one.
+fn the_fullest_arena_serves_first(edition: Edition) -> Result<(), Refusal> {
+    let (size, _) = smallest(edition);
+    let mut lent = lent(2, 3);
+    let mut heap = lent.format(2, 3, edition)?;
+    let all: Vec<u32> = (1..=6).map(|n| heap.ask(n * size)).collect::<Result<_, _>>()?;
+    assert_eq!(all, [48, 4144, 8240, 12336, 16432, 20528]);
+    for offset in [48, 12336, 16432] {
+        heap.give_back(offset)?;
+    }
+    assert_eq!(heap.ask(7 * size), Ok(48));
+    Ok(())
+}
+
+/// W-203. Its next is read even where no other arena is there to move past.
+fn an_arena_with_a_bad_link_takes_no_pool_back(edition: Edition) -> Result<(), Refusal> {
+    let (size, _) = smallest(edition);
+    let mut lent = lent(1, 4);
+    let mut heap = lent.format(1, 4, edition)?;
+    assert_eq!([heap.ask(size)?, heap.ask(2 * size)?, heap.ask(3 * size)?], [48, 4144, 8240]);
+    lent.books[72 + 4] = 9; // the arena's next
+    let before = lent.clone();
+    assert_eq!(lent.open()?.give_back(4144), Err(Refusal::Damaged));
+    assert!(lent == before);
     Ok(())
 }
 

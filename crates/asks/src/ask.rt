@@ -78,7 +78,7 @@ fn open_arena(books: &mut [u32], arenas: usize, pools: usize, a: usize)
     ensures { λ _. ⌜ Writes (opened pools a) (now (books .entry)) (now (books .exit)) ⌝ }
 {
     leave(books, arenas, ARENA_LINKS, UNUSED_HEAD, a);
-    join_by(books, ARENA_LINKS, USABLE_HEAD, 0, a);
+    join_by(books, ARENA_LINKS, USABLE_HEAD, 0, 0, a);
     let at = RECORDS + 8 * a;
     books[at + OPEN] = 1;
     books[at + CARVE_MARK] = 0;

@@ -41,9 +41,10 @@ pub length-leaveBy : (base head next previous n : ℕ) (b : List ℕ)
 unfolding leaveBy
 length-leaveBy base head next previous n b = simp (length-set, length-only)
 
-pub length-joinBy : (base head old n : ℕ) (b : List ℕ) → length (joinBy base head old n b) ≡ length b
+pub length-joinBy : (base place next previous n : ℕ) (b : List ℕ)
+    → length (joinBy base place next previous n b) ≡ length b
 unfolding joinBy
-length-joinBy base head old n b = simp (length-set, length-only)
+length-joinBy base place next previous n b = simp (length-set, length-only)
 
 -- ---- the words that they read, given
 pub leave-reads : (base head next previous n : ℕ) (b : List ℕ) → at b (nextAt base n) ≡ next
@@ -90,11 +91,11 @@ leave-keeps base head next previous n b j h =
       h .4,
     )
 
-pub join-keeps : (base head old n : ℕ) (b : List ℕ) (j : ℕ)
-    → (j ≢ head) × (j ≢ previousAt base (linked old)) × (j ≢ nextAt base n) × (j ≢ previousAt base n)
-    → at (joinBy base head old n b) j ≡ at b j
+pub join-keeps : (base place next previous n : ℕ) (b : List ℕ) (j : ℕ)
+    → (j ≢ place) × (j ≢ previousAt base (linked next)) × (j ≢ nextAt base n) × (j ≢ previousAt base n)
+    → at (joinBy base place next previous n b) j ≡ at b j
 unfolding joinBy
-join-keeps base head old n b j h = simp (getD-set-other, only-keeps, h .0, h .1, h .2, h .3)
+join-keeps base place next previous n b j h = simp (getD-set-other, only-keeps, h .0, h .1, h .2, h .3)
 
 -- ---- the pools' lists leave every word of an arena record as it is
 pub pool-leave-keeps : (A head next previous n : ℕ) (b : List ℕ) (w a : ℕ) → head < 72 → a < A → w < 8

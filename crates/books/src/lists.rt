@@ -1,6 +1,6 @@
-// Lists threaded through the records: leaving one, joining it at the front, and what the rules of number 6 ask of their
-// links. Member 0's next word is `base`, a member's previous word comes after its next, and a link to member n is
-// n + 1.
+// Lists threaded through the records: leaving one, joining it at the front, going in after a member, and what the rules
+// of number 6 ask of their links. Member 0's next word is `base`, a member's previous word comes after its next, and a
+// link to member n is n + 1.
 use crate::words;
 ghost use mathlib.Core.Path.{_≡_};
 ghost use mathlib.Core.Bool.{not};
@@ -8,7 +8,8 @@ ghost use Prim.Native.Nat.{_+_, _*_, _^_, _<_, _≤_};
 ghost use lib.ListN.{length};
 ghost use Rattle.rules.specs.Say.{if_then_else_, only};
 ghost use Rattle.rules.specs.Books.{at, put, none?, linkTo, linked};
-ghost use Rattle.rules.specs.Lists.{nextAt, previousAt, leaveBy, joinBy, leave, join, mayLeave, mayJoin, poolLinks};
+ghost use Rattle.rules.specs.Lists.{nextAt, previousAt, leaveBy, joinBy, leave, join, goInAfter};
+ghost use Rattle.rules.specs.Lists.{mayLeave, mayJoin, poolLinks};
 ghost use Rattle.books.specs.Lists.{Within, Links};
 
 // The base of the pools' lists, in books of so many arenas. That of the arenas' lists is `words::ARENA_LINKS`.
@@ -75,18 +76,19 @@ pub fn leave_by(books: &mut [u32], base: usize, head: usize, next: u32, previous
     books[at + 1] = 0;
 }
 
-// Member n joins the list of that head, whose old front is given, at the front.
-pub fn join_by(books: &mut [u32], base: usize, head: usize, old: u32, n: usize)
-    requires { ⌜ (head < length (now books)) × (n ≤ 1024) × Within base (length (now books)) (linkTo n)
-        × Within base (length (now books)) old ⌝ }
-    ensures { λ _. ⌜ now (books .exit) ≡ joinBy base head old n (now (books .entry)) ⌝ }
+// Member n, whose own two words are given, joins a list; `place` is the word that leads to it: the head, or the next
+// word of the member before it.
+pub fn join_by(books: &mut [u32], base: usize, place: usize, next: u32, previous: u32, n: usize)
+    requires { ⌜ (place < length (now books)) × (n ≤ 1024) × Within base (length (now books)) (linkTo n)
+        × Within base (length (now books)) next ⌝ }
+    ensures { λ _. ⌜ now (books .exit) ≡ joinBy base place next previous n (now (books .entry)) ⌝ }
 {
     let link = link_to(n);
     let at = base + 8 * n;
-    books[at] = old;
-    books[at + 1] = 0;
-    put_previous(books, base, old, link);
-    books[head] = link;
+    books[at] = next;
+    books[at + 1] = previous;
+    put_previous(books, base, next, link);
+    books[place] = link;
 }
 
 // Neither link of member n leads past the last.
@@ -123,5 +125,16 @@ pub fn join(books: &mut [u32], most: usize, base: usize, head: usize, n: usize)
     ensures { λ _. ⌜ now (books .exit) ≡ join base head n (now (books .entry)) ⌝ }
 {
     let old = books[head];
-    join_by(books, base, head, old, n);
+    join_by(books, base, head, old, 0, n);
+}
+
+// Member n goes in after member q.
+pub fn go_in_after(books: &mut [u32], most: usize, base: usize, q: usize, n: usize)
+    requires { ⌜ (n < most) × (q < most) × (most ≤ 1024) × (base + 8 * most ≤ length (now books) + 6)
+        × (at (now books) (nextAt base q) ≤ most) ⌝ }
+    ensures { λ _. ⌜ now (books .exit) ≡ goInAfter base q n (now (books .entry)) ⌝ }
+{
+    let place = base + 8 * q;
+    let next = books[place];
+    join_by(books, base, place, next, link_to(q), n);
 }

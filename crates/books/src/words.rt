@@ -35,6 +35,10 @@ pub const FREE_POOLS: usize = 2;
 
 pub const FREED_HEAD: usize = 3;
 
+pub const ARENA_NEXT: usize = 4;
+
+pub const ARENA_PREVIOUS: usize = 5;
+
 // A pool record.
 pub const COUNT: usize = 0;
 

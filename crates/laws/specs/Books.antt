@@ -4,7 +4,7 @@
 use mathlib.Core.Path.{_≡_, refl, sym, ap, _∙_, subst}
 use mathlib.Core.Logic.{_≢_, Ne·symm as flip}
 use mathlib.Core.Bool.{true, _&&_}
-use mathlib.Core.List.{List, [], _∷_}
+use mathlib.Core.List.{List, [], _∷_, _++_, append-assoc}
 use Prim.Native.Nat.{ℕ, suc, _+_, _*_, _<_, _≤_}
 use native.Mathlib.Decide.{ℕ-discrete}
 use native.Mathlib.Omega.{arith}
@@ -14,16 +14,19 @@ use lib.Seq.{getD-set-same, getD-set-other, lt-length-set, set-comm}
 use borrow.Author.Tests.{eq-eqb, ne-eqb, le-leb}
 use Rattle.rules.specs.Say.{if_then_else_, _▷_}
 use Rattle.rules.specs.Books.{at, put, classHead, freedHead, arenaNext, arenaPrevious, arenaWord, arena, poolNext, poolPrevious, poolWord, pool, linkTo}
-use Rattle.rules.specs.Lists.{nextAt, previousAt, leave, join, mayLeave, arenaLinks, poolLinks}
+use Rattle.rules.specs.Lists.{nextAt, previousAt, leave, join, goInAfter, mayLeave, arenaLinks, poolLinks}
 use Rattle.laws.specs.Update.{to, to-same, to-other}
-use Rattle.laws.specs.Sequences.{All, Not, In, erase, erase-front, all-map, all-every}
+use Rattle.laws.specs.Sequences.{All, Not, In, Split, split, erase, erase-front, after, after-is, lastLink, last-link, all-map, all-every}
 use Rattle.laws.specs.Linked.{
   Doubly,
   Singly,
+  joinedBy,
   joined,
+  standing,
   left,
   leave-is,
   join-is,
+  go-in-is,
   joined-other,
   left-other,
   joined-length,
@@ -376,16 +379,17 @@ module _ {A N : ℕ} {b : List ℕ} {U : View} (K : Books A N b U) (c p : ℕ) (
       → Books A N (join (poolLinks A) (classHead c) p b) (U ▷ homeTo p (classHead c) ▷ listedTo c (p ∷ U .listed c))
   pool-joins e =
       rw (join-is (poolWord A 2) (poolWord A 3) (poolLinks A) (λ y. omega arith) (λ y. omega arith) (classHead c) p b)
-      (pool-moved (joined (poolWord A 2) (poolWord A 3) (classHead c) p b) (classHead c) (joined-length (poolWord A 2) (poolWord A 3) (classHead c) p b)
-      (λ i f d. joined-other (poolWord A 2) (poolWord A 3) (classHead c) p i b (f p .0) (f p .1) d (λ y _. f y .1))
-      (join-keeps (K .listed) c lc p l (λ j k. omega arith) classes-apart) (λ a k. omega arith) (λ q. absurd (omega arith))
-      (p ∷ U .listed c) (joins (K .listed) c lc p l (λ j k. omega arith) classes-apart))
+      (pool-moved (joined (poolWord A 2) (poolWord A 3) (classHead c) 0 p b) (classHead c) (joined-length (poolWord A 2) (poolWord A 3) (classHead c) 0 p b)
+      (λ i f d. joined-other (poolWord A 2) (poolWord A 3) (classHead c) 0 p i b (f p .0) (f p .1) d (λ y _. f y .0) (λ y _. f y .1))
+      (join-keeps (K .listed) c lc p l (λ j k. omega arith) classes-apart 0 [] (U .listed c) refl refl)
+      (λ a k. omega arith) (λ q. absurd (omega arith)) (p ∷ U .listed c)
+      (joins (K .listed) c lc p l (λ j k. omega arith) classes-apart 0 [] (U .listed c) refl refl))
 
   -- "The pool goes alone on the class list": the same, where the list is empty
   pub pool-alone : U .home p < 2 → U .listed c ≡ []
       → Books A N (b ▷ put (classHead c) (linkTo p) ▷ put (poolWord A poolNext p) 0 ▷ put (poolWord A poolPrevious p) 0)
       (U ▷ homeTo p (classHead c) ▷ listedTo c (p ∷ []))
-  unfolding joined
+  unfolding joinedBy
   pool-alone e none =
       rw (← none) (subst (λ (x : List ℕ). Books A N x (U ▷ homeTo p (classHead c) ▷ listedTo c (p ∷ U .listed c))) alone (pool-joins e))
     where
@@ -458,7 +462,7 @@ module _ {A N : ℕ} {b : List ℕ} {U : View} (K : Books A N b U) (a : ℕ) (la
         (aside p (arenaWord 3 a) (λ c k. omega arith))
         (λ y m z. home-still (arenaWord 3 a) y (omega arith) z (ℕ-discrete y p))
         (comes (K .freed) (Singly (poolWord A 2) (poolWord A 3) b′) a p la l (λ j d. to-other a (p ∷ U .freed a) (U .freed) j d) new old
-        (λ j k q. omega arith) (λ j k. omega arith) (to-same a (p ∷ U .freed a) (U .freed) a refl))
+        (λ j k q. omega arith) (λ j k. omega arith) [] (U .freed a) refl (to-same a (p ∷ U .freed a) (U .freed) a refl))
       where
         b′ : List ℕ
         b′ = b ▷ put (poolWord A 2 p) (at b (arenaWord 3 a)) ▷ put (poolWord A 3 p) 0 ▷ put (arenaWord 3 a) (linkTo p)
@@ -658,13 +662,36 @@ module _ {A N : ℕ} {b : List ℕ} {U : View} (K : Books A N b U) (h a : ℕ) (
       (leave-keeps (K .lists) h hh a la e heads-apart) (λ _. left-own b (heads-apart .lay h hh) a la)
       (leaves (K .lists) h hh a la e heads-apart 0 (λ j k. omega arith)))
 
+  -- an arena that is on no list joins at the gap behind pre, where p is the link to the last: 01's and 02's joining
+  arena-joins-at : (p : ℕ) (pre post : List ℕ) → U .arenas h ≡ pre ++ post → p ≡ lastLink 0 pre → p ≤ A
+      → standing (arenaWord 4) h p b ≤ A → U .base a ≡ 0
+      → Books A N (joined (arenaWord 4) (arenaWord 5) h p a b) (U ▷ baseTo a h ▷ arenasTo h (pre ++ a ∷ post))
+  arena-joins-at p pre post s q m n e =
+      arena-moved (joined (arenaWord 4) (arenaWord 5) h p a b) h (pre ++ a ∷ post) (joined-length (arenaWord 4) (arenaWord 5) h p a b)
+      (λ i f d. joined-other (arenaWord 4) (arenaWord 5) h p a i b (f a .0) (f a .1) d (λ y _. f y .0) (λ y _. f y .1))
+      (λ w x u. joined-other (arenaWord 4) (arenaWord 5) h p a (poolWord A w x) b (omega arith)
+      (omega arith) (omega arith) (λ y f. omega arith) (λ y f. omega arith))
+      (join-keeps (K .lists) h hh a la (λ j k. omega arith) heads-apart p pre post s q) (λ z. absurd (omega arith))
+      (joins (K .lists) h hh a la (λ j k. omega arith) heads-apart p pre post s q)
+
   -- "To join at the front": an arena that is on no list
   pub arena-joins : U .base a ≡ 0 → Books A N (join arenaLinks h a b) (U ▷ baseTo a h ▷ arenasTo h (a ∷ U .arenas h))
   arena-joins e =
       rw (join-is (arenaWord 4) (arenaWord 5) arenaLinks (λ y. omega arith) (λ y. omega arith) h a b)
-      (arena-moved (joined (arenaWord 4) (arenaWord 5) h a b) h (a ∷ U .arenas h) (joined-length (arenaWord 4) (arenaWord 5) h a b)
-      (λ i f d. joined-other (arenaWord 4) (arenaWord 5) h a i b (f a .0) (f a .1) d (λ y _. f y .1))
-      (λ w n u. joined-other (arenaWord 4) (arenaWord 5) h a (poolWord A w n) b (omega arith)
-      (omega arith) (omega arith) (λ y f. omega (arith, head-link (K .lists) h hh)))
-      (join-keeps (K .lists) h hh a la (λ j k. omega arith) heads-apart) (λ q. absurd (omega arith))
-      (joins (K .lists) h hh a la (λ j k. omega arith) heads-apart))
+      (arena-joins-at 0 [] (U .arenas h) refl refl (omega arith) (head-link (K .lists) h hh) e)
+
+  -- 02, W-203: ".. goes in after the last passed": an arena that is on no list goes in after q, which is on this one
+  pub arena-goes-in : (q : ℕ) → q < A → U .base q ≡ h → U .base a ≡ 0
+      → Books A N (goInAfter arenaLinks q a b) (U ▷ baseTo a h ▷ arenasTo h (after q a (U .arenas h)))
+  arena-goes-in q lq eq e =
+      rw (go-in-is (arenaWord 4) (arenaWord 5) arenaLinks (λ y. omega arith) (λ y. omega arith) h a b q, ← is)
+      (arena-joins-at (suc q) (s .pre ++ q ∷ []) (s .post) (s .is ∙ sym (append-assoc (s .pre) (q ∷ []) (s .post)))
+      (sym (last-link q 0 (s .pre))) (omega arith) (member-links (K .lists) h hh q lq eq .0) e)
+    where
+      s : Split q (U .arenas h)
+      s = split q (U .arenas h) (K .lists .all h hh q lq eq)
+
+      is : (s .pre ++ q ∷ []) ++ a ∷ s .post ≡ after q a (U .arenas h)
+      is =
+          append-assoc (s .pre) (q ∷ []) (a ∷ s .post)
+          ∙ sym (ap (after q a) (s .is) ∙ after-is q a (s .pre) (s .post) (rw (s .is) at (K .lists .row h hh .row .once)))

@@ -14,7 +14,7 @@ use borrow.Author.Tests.{eq-eqb, ne-eqb, le-leb, lt-ltb, leb-true}
 use Rattle.rules.specs.declared.AskPlan.{AskPlan}
 use Rattle.rules.specs.declared.AskPlan.the-variants.{NoRoom}
 use Rattle.rules.specs.declared.BackPlan.{BackPlan}
-use Rattle.rules.specs.declared.BackPlan.the-variants.{Joins, Stays, Empties, Returns, Releases}
+use Rattle.rules.specs.declared.BackPlan.the-variants.{Joins, Stays, Empties, Moves, Returns, Releases}
 use Rattle.rules.specs.Say.{if_then_else_}
 use Rattle.rules.specs.Books.{Heap, editionWord}
 use Rattle.rules.specs.Blocks.{
@@ -52,6 +52,7 @@ use Rattle.books.specs.Known.{shaped}
 use Rattle.books.specs.Tests.{either}
 use Rattle.books.specs.Sizes.{Aligned, has-class}
 use Rattle.laws.specs.Update.{to}
+use Rattle.laws.specs.Rising.{following}
 use Rattle.laws.specs.Plain.{
   Plain,
   count,
@@ -60,6 +61,7 @@ use Rattle.laws.specs.Plain.{
   front,
   rest,
   planAsk as plainAsk,
+  past,
   planBack as plainBack,
   afterBack as plainAfterBack,
   fromListed,
@@ -246,6 +248,13 @@ ask-cases {al} {A} {P} {h} {r} L S n F small none asked = go (size-number n)
     go (inl t) = served (t .0) (t .1) (done-or-not al P r (classOf al n))
 
 -- ---- give back
+-- what holds of a path and of every move holds where a walk ends
+past-any : (P : ℕ) (r : Plain) (n : ℕ) (Q : BackPlan → Type 0) → ((q : ℕ) → Q (Moves q)) → (xs : List ℕ) (q : BackPlan)
+    → Q q → Q (past P r n xs q)
+past-any P r n Q moves [] q t = t
+past-any P r n Q moves (x ∷ xs) q t =
+    either Q (ltb (free P r x) n) (past P r n xs (Moves x)) q (λ _. past-any P r n Q moves xs (Moves x) (moves x)) (λ _. t)
+
 -- every path of the plain heap is done, turns the block off, leaves the classes and the virgin blocks, and the marks
 -- but for that of an arena that it releases
 pub plain-back : (P : ℕ) (r : Plain) (p j o : ℕ)
@@ -255,7 +264,10 @@ pub plain-back : (P : ℕ) (r : Plain) (p j o : ℕ)
     × (backPlain P r p j .virgin ≡ r .virgin)
     × ((backPlain P r p j .mark ≡ r .mark) ⊎ (backPlain P r p j .mark ≡ to (p / P) 0 (r .mark)))
 unfolding backAnswer
-plain-back P r p j o = go (none (r .chain p)) (eqb (count r p) 1) (eqb (free P r (p / P) + 1) P) (eqb (free P r (p / P)) 0)
+plain-back P r p j o =
+    go (none (r .chain p)) (eqb (count r p) 1) (eqb (free P r (p / P) + 1) P) (eqb (free P r (p / P)) 0) _
+    (past-any P r (free P r (p / P) + 1) Q (λ q. (refl, refl, refl, refl, inl refl)) (following (p / P) (r .usable)) Empties
+    (refl, refl, refl, refl, inl refl))
   where
     Q : BackPlan → Type 0
     Q q =
@@ -265,13 +277,13 @@ plain-back P r p j o = go (none (r .chain p)) (eqb (count r p) 1) (eqb (free P r
         × (plainAfterBack P r p j q .virgin ≡ r .virgin)
         × ((plainAfterBack P r p j q .mark ≡ r .mark) ⊎ (plainAfterBack P r p j q .mark ≡ to (p / P) 0 (r .mark)))
 
-    go : (t u v w : Bool)
-        → Q (if t then Joins else (if u then (if v then Releases else (if w then Returns else Empties)) else Stays))
-    go true u v w = (refl, refl, refl, refl, inl refl)
-    go false false v w = (refl, refl, refl, refl, inl refl)
-    go false true true w = (refl, refl, refl, refl, inr refl)
-    go false true false true = (refl, refl, refl, refl, inl refl)
-    go false true false false = (refl, refl, refl, refl, inl refl)
+    go : (t u v w : Bool) (q : BackPlan) → Q q
+        → Q (if t then Joins else (if u then (if v then Releases else (if w then Returns else q)) else Stays))
+    go true u v w q e = (refl, refl, refl, refl, inl refl)
+    go false false v w q e = (refl, refl, refl, refl, inl refl)
+    go false true true w q e = (refl, refl, refl, refl, inr refl)
+    go false true false true q e = (refl, refl, refl, refl, inl refl)
+    go false true false false q e = e
 
 module _ {al A P : ℕ} {h : Heap} {r : Plain} (L : Aligned al) (S : Sound al A P h r) (o : ℕ) where
   pub back-dead : live al A P (h .books) (h .map) o ≡ false

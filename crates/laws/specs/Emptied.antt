@@ -1,8 +1,8 @@
--- Give back the last live block of a pool: its arena keeps its place, becomes usable, or is released. And so every
--- give-back of a live block.
+-- Give back the last live block of a pool: its arena keeps its place, moves back in the usable list, becomes usable, or
+-- is released. And so every give-back of a live block.
 -- Assumes nothing.
 use mathlib.Core.Path.{_≡_, refl, sym, ap, _∙_, subst}
-use mathlib.Core.Logic.{_≢_, inr}
+use mathlib.Core.Logic.{_≢_, Ne·symm as flip, inr}
 use mathlib.Core.Bool.{Bool, true, false, not, true≢false}
 use mathlib.Core.List.{List, [], _∷_}
 use Prim.Native.Nat.{ℕ, suc, _+_, _*_, _-_, _/_, _%_, _≤_, _<_}
@@ -14,18 +14,48 @@ use lib.ListN.{replicate}
 use lib.Seq.{sets, set-getD}
 use borrow.Author.Tests.{eq-eqb, ne-eqb, le-leb, lt-ltb, le-ltb, ltb-true, ltb-false, not-true}
 use Rattle.rules.specs.declared.BackPlan.{BackPlan}
-use Rattle.rules.specs.declared.BackPlan.the-variants.{Empties, Returns, Releases}
+use Rattle.rules.specs.declared.BackPlan.the-variants.{Empties, Moves, Returns, Releases}
 use Rattle.rules.specs.Say.{if_then_else_, _▷_}
-use Rattle.rules.specs.Books.{Heap, at, put, putMapBit, usableHead, unusedHead, classHead, freedHead, arenaWord, arena, freeblock, poolWord, pool}
+use Rattle.rules.specs.Books.{
+  Heap,
+  at,
+  put,
+  putMapBit,
+  usableHead,
+  unusedHead,
+  classHead,
+  freedHead,
+  arenaNext,
+  arenaWord,
+  arena,
+  freeblock,
+  poolWord,
+  pool,
+}
 use Rattle.rules.specs.Blocks.{sizeOf, startOf, blockNo}
 use Rattle.rules.specs.Lists.{leave, join, mayLeave, mayJoin, arenaLinks, poolLinks}
-use Rattle.rules.specs.GiveBack.{_⇛_, planBack, emptying, afterBack}
+use Rattle.rules.specs.GiveBack.{_⇛_, walk, planBack, emptying, afterBack}
 use Rattle.books.specs.Starts.{start-is, number-is}
 use Rattle.books.specs.Known.{in-range}
 use Rattle.books.specs.Sizes.{Aligned, capacity-high, capacity-low}
 use Rattle.laws.specs.Update.{to, to-same, to-other, to-cong}
-use Rattle.laws.specs.Sequences.{erase}
-use Rattle.laws.specs.Families.{head-link, stack-link}
+use Rattle.laws.specs.Sequences.{All, In, Not, Once, erase, after, all-two}
+use Rattle.laws.specs.Rising.{
+  following,
+  Rising,
+  all-in,
+  not-erase,
+  in-erase,
+  all-following,
+  in-following,
+  once-following,
+  following-erased,
+  rising-rises,
+  rising-following,
+  rising-erase,
+  rising-after,
+}
+use Rattle.laws.specs.Families.{At, head-link, stack-link, stranger}
 use Rattle.laws.specs.Books.{
   View,
   Books,
@@ -37,6 +67,7 @@ use Rattle.laws.specs.Books.{
   arena-may-leave,
   arena-leaves,
   arena-joins,
+  arena-goes-in,
   arenaTo,
   homeTo,
   baseTo,
@@ -45,7 +76,22 @@ use Rattle.laws.specs.Books.{
   arenasTo,
   freedNone,
 }
-use Rattle.laws.specs.Plain.{Plain, count, inUse, carved, free, setChain, setLive, setListed, setFreed, setUsable, setUnused, setMark}
+use Rattle.laws.specs.Plain.{
+  Plain,
+  count,
+  inUse,
+  carved,
+  free,
+  setChain,
+  setLive,
+  setListed,
+  setFreed,
+  setUsable,
+  setUnused,
+  setMark,
+  past,
+  planBack as plainBack,
+}
 use Rattle.laws.specs.Counting.{many-more, many-le, all-many, none-many}
 use Rattle.laws.specs.Chains.{Blocks, live-below}
 use Rattle.laws.specs.Sound.{home, Sound}
@@ -57,6 +103,10 @@ use Rattle.laws.specs.Held.{
   in-class,
   freed-is,
   use-class,
+  usable-word,
+  usable-row,
+  usable-members,
+  usable-in,
   arena-low,
   home-listed,
   home-freed,
@@ -65,7 +115,8 @@ use Rattle.laws.specs.Held.{
   base-spent,
   base-unused,
 }
-use Rattle.laws.specs.Step.{Aside, HomesAfter, count-same, home-same, homes-same, stepped}
+use Rattle.laws.specs.Step.{Aside, HomesAfter, count-same, free-same, order-aside, home-same, homes-same, stepped}
+use Rattle.laws.specs.Walked.{past-ends, walk-is}
 use Rattle.laws.specs.Paths.{quiet-link, Backed, backed}
 use Rattle.laws.specs.GiveBack.{
   Given,
@@ -169,7 +220,7 @@ module _ {al A P p j i : ℕ} {h : Heap} {r : Plain} {is : List ℕ}
   emptying-is : (q : BackPlan)
       → (if eqb (free P r a + 1) P then mayLeave A arenaLinks a b ⇛ mayJoin A unusedHead b ⇛ Releases
       else if eqb (free P r a + 1) 1 then mayJoin A usableHead b ⇛ Returns
-      else Empties) ≡ q
+      else walk A b a A (arena b arenaNext a) 0) ≡ q
       → planBack al A P b c p ≡ q
   unfolding emptying
   emptying-is q e =
@@ -232,8 +283,12 @@ module _ {al A P p j i : ℕ} {h : Heap} {r : Plain} {is : List ℕ}
       r ▷ setChain p (j ∷ r .chain p) ▷ setLive p j false ▷ setListed c (erase p (r .listed c))
       ▷ setFreed a (p ∷ r .freed a) ▷ setUsable us
 
+  aside : (us : List ℕ) → Aside p a r (emptied us)
+  aside us =
+      record { marks = λ x d. refl; classes = λ y d. refl; chains = λ y d. rw (ne-eqb y p d); virgins = λ y d. refl; lives = λ y d. rw (ne-eqb y p d) }
+
   open-says : (us : List ℕ) (bases : ℕ → ℕ) (arenas : ℕ → List ℕ) → ((x : ℕ) → x ≢ a → bases x ≡ U .base x)
-      → bases a ≡ 2 → arenas 2 ≡ us → arenas 3 ≡ r .unused
+      → bases a ≡ 2 → arenas 2 ≡ us → arenas 3 ≡ r .unused → Rising (free P gone) us
       → Says al A P (record {
         head = U .head;
         pool = U₅ .pool;
@@ -245,9 +300,9 @@ module _ {al A P p j i : ℕ} {h : Heap} {r : Plain} {is : List ℕ}
         arenas = arenas;
       })
       (m₂ G) (putMapBit p (blockNo (sizeOf al c) f) 0 (h .map)) (emptied us)
-  open-says us bases arenas o base-a usable unused =
+  open-says us bases arenas o base-a usable unused order =
       rw (number-is (sizeOf al c) j (omega (arith, s-low G)))
-      (stepped L F lp refl T
+      (stepped L F lp refl (aside us)
       (record {
         heads = λ x. refl;
         pools = λ w y d. rw (ne-eqb y p d);
@@ -270,28 +325,118 @@ module _ {al A P p j i : ℕ} {h : Heap} {r : Plain} {is : List ℕ}
         free-is = free₅ ∙ sym (rw (ne-eqb (r .mark a) 0 marked));
         base-is = base-a ∙ sym (base-usable P (emptied us) a marked (λ z. absurd (omega (arith, one-more))));
       })
-      (record { listed = lists₅; freed = freed₅; usable = usable; unused = unused })
-      (homes-same T (λ y l d. refl) (λ y l d. home₅ y d ∙ F .pools y l .home-is)) (bytes₂ G) j 0 (j-small G) (omega arith) refl)
-    where
-      T : Aside p a r (emptied us)
-      T = record { marks = λ x d. refl; classes = λ y d. refl; chains = λ y d. rw (ne-eqb y p d); virgins = λ y d. refl; lives = λ y d. rw (ne-eqb y p d) }
+      (record { listed = lists₅; freed = freed₅; usable = usable; unused = unused }) order
+      (homes-same (aside us) (λ y l d. refl) (λ y l d. home₅ y d ∙ F .pools y l .home-is)) (bytes₂ G) j 0 (j-small G) (omega arith) refl)
 
-  -- ---- "Otherwise its place in the list stays as it was."
-  back-empties : free P r a + 1 ≢ P → free P r a ≢ 0 → Backed al A P h r p j
-  unfolding afterBack
-  back-empties not-all not-none =
-      backed Empties (emptied (r .usable))
-      (emptying-is Empties (rw (ne-eqb (free P r a + 1) P not-all, ne-eqb (free P r a + 1) 1 (omega arith))))
-      (rw (chn, last, ne-eqb (free P r a + 1) P not-all, ne-eqb (free P r a) 0 not-none)) refl
-      (sound {h = h′} L K₅ F′) (quiet-link L F′ p j (pool A b freeblock p) (I G .class-low) (j-low G) (dead-after G))
-    where
-      h′ : Heap
-      h′ = afterBack al A P c p f Empties h
+  -- ---- the usable arenas rise: the others have as many free pools as before
+  others-free : (y : ℕ) → y ≢ a → free P gone y ≡ free P r y
+  others-free y d = free-same P y (aside (r .usable)) refl d
 
-      F′ : Says al A P U₅ (m₂ G) (h′ .map) (emptied (r .usable))
-      F′ =
-          open-says (r .usable) (U .base) (U .arenas) (λ x d. refl)
-          (F .arenas a la .base-is ∙ base-usable P r a marked not-none) (F .lists .usable) (F .lists .unused)
+  erased-rise : Rising (free P gone) (erase a (r .usable))
+  erased-rise = order-aside P (erase a (r .usable)) (aside (r .usable)) refl (not-erase a (r .usable)) (rising-erase (free P r) a (r .usable) (F .order))
+
+  -- ---- the arena had free pools
+  module _ (some : free P r a ≢ 0) where
+    usable-a : U .base a ≡ usableHead
+    usable-a = F .arenas a la .base-is ∙ base-usable P r a marked some
+
+    here : In a (r .usable)
+    here = usable-in L K F a la marked some
+
+    once : Once (r .usable)
+    once = usable-row L K F .row .once
+
+    -- what follows it in the list: not itself, and each once
+    abbrev behind : List ℕ
+    behind = following a (r .usable)
+
+    apart : Not a behind × Once behind
+    apart = once-following a (r .usable) once here
+
+    -- it leaves
+    abbrev U₆ : View
+    U₆ = U₅ ▷ baseTo a 0 ▷ arenasTo 2 (erase a (U .arenas 2))
+
+    K₆ : Books A (A * P) (leave arenaLinks usableHead a b₅) U₆
+    K₆ = arena-leaves K₅ 2 a (omega arith) la usable-a
+
+    -- arenas that have no fewer free pools than it has then
+    no-fewer : (xs : List ℕ) → Not a xs → All (λ y. free P r a + 1 ≤ free P r y) xs
+        → All (λ y. free P gone a ≤ free P gone y) xs
+    no-fewer =
+        all-two {S = λ y. free P gone a ≤ free P gone y}
+        (λ y (d : a ≢ y) (l : free P r a + 1 ≤ free P r y). omega (arith, one-more, others-free y (flip d)))
+
+    -- ---- and it is not released: the path is the walk's, q
+    module _ (not-all : free P r a + 1 ≢ P) (q : BackPlan) (ends : past P r (free P r a + 1) behind Empties ≡ q) where
+      rules-walk : planBack al A P b c p ≡ q
+      rules-walk = emptying-is q (rw (ne-eqb (free P r a + 1) P not-all, ne-eqb (free P r a + 1) 1 (omega arith)) (walk-is L (G .held) a here ∙ ends))
+
+      plain-walk : plainBack P r p j ≡ q
+      plain-walk = rw (chn, last, ne-eqb (free P r a + 1) P not-all, ne-eqb (free P r a) 0 some) ends
+
+    -- ---- "passing none writes nothing"
+    back-empties : free P r a + 1 ≢ P → All (λ y. free P r a + 1 ≤ free P r y) behind
+        → past P r (free P r a + 1) behind Empties ≡ Empties → Backed al A P h r p j
+    unfolding afterBack
+    back-empties not-all more ends =
+        backed Empties (emptied (r .usable)) (rules-walk not-all Empties ends) (plain-walk not-all Empties ends) refl
+        (sound {h = h′} L K₅ F′) (quiet-link L F′ p j (pool A b freeblock p) (I G .class-low) (j-low G) (dead-after G))
+      where
+        h′ : Heap
+        h′ = afterBack al A P c p f Empties h
+
+        F′ : Says al A P U₅ (m₂ G) (h′ .map) (emptied (r .usable))
+        F′ =
+            open-says (r .usable) (U .base) (U .arenas) (λ x d. refl) usable-a (F .lists .usable) (F .lists .unused)
+            (rising-rises (free P r) (free P gone) a (r .usable) others-free (omega (arith, one-more))
+            (no-fewer behind (apart .0) more) once (F .order))
+
+    -- ---- "otherwise it leaves the list and goes in after the last passed"
+    back-moves : free P r a + 1 ≢ P → (q : ℕ) → In q behind → free P r q < free P r a + 1
+        → All (λ y. free P r a + 1 ≤ free P r y) (following q behind)
+        → past P r (free P r a + 1) behind Empties ≡ Moves q → Backed al A P h r p j
+    unfolding afterBack
+    back-moves not-all q i fewer more ends =
+        backed (Moves q) (emptied us) (rules-walk not-all (Moves q) ends) (plain-walk not-all (Moves q) ends) refl
+        (sound {h = h′} L K₇ F′) (quiet-link L F′ p j (pool A b freeblock p) (I G .class-low) (j-low G) (dead-after G))
+      where
+        us : List ℕ
+        us = after q a (erase a (r .usable))
+
+        h′ : Heap
+        h′ = afterBack al A P c p f (Moves q) h
+
+        other : q ≢ a
+        other = flip (all-in (λ y. a ≢ y) q behind (apart .0) i)
+
+        passed : At A (U .base) usableHead q
+        passed = all-in (At A (U .base) usableHead) q (r .usable) (usable-members L K F) (in-following a q (r .usable) i)
+
+        U₇ : View
+        U₇ = U₆ ▷ baseTo a 2 ▷ arenasTo 2 (after q a (erase a (U .arenas 2)))
+
+        K₇ : Books A (A * P) (h′ .books) U₇
+        K₇ = arena-goes-in K₆ 2 a (omega arith) la q (passed .low) (to-other a 0 (U .base) q other ∙ passed .is) (to-same a 0 (U .base) a refl)
+
+        rise : Rising (free P gone) us
+        rise =
+            rising-after (free P gone) q a (erase a (r .usable)) (in-erase a q (r .usable) other (in-following a q (r .usable) i))
+            (omega (arith, one-more, others-free q other))
+            (rw (following-erased a q (r .usable) once here i)
+            (no-fewer (following q behind) (all-following (λ y. a ≢ y) q behind (apart .0)) more))
+            erased-rise
+
+        F′ : Says al A P U₇ (m₂ G) (h′ .map) (emptied us)
+        F′ =
+            open-says us (U₇ .base) (U₇ .arenas) (λ x d. rw (ne-eqb x a d)) (rw (eq-eqb a a refl))
+            (ap (λ (xs : List ℕ). after q a (erase a xs)) (F .lists .usable)) (F .lists .unused) rise
+
+    -- ---- it passes none, or q is the last that it passes
+    back-walks : free P r a + 1 ≢ P → Backed al A P h r p j
+    back-walks not-all =
+        past-ends P r (free P r a + 1) behind Empties (Backed al A P h r p j) (apart .1)
+        (rising-following (free P r) a (r .usable) (F .order)) (back-empties not-all) (back-moves not-all)
 
   -- ---- "If free pools is now 1, the arena joins the usable list at the front."
   back-returns : free P r a ≡ 0 → Backed al A P h r p j
@@ -311,10 +456,24 @@ module _ {al A P p j i : ℕ} {h : Heap} {r : Plain} {is : List ℕ}
       K₆ : Books A (A * P) (h′ .books) U₆
       K₆ = arena-joins K₅ 2 a (omega arith) la (F .arenas a la .base-is ∙ base-spent P r a marked none)
 
+      -- no usable arena has fewer than 1, and it was none of them
+      off : Not a (r .usable)
+      off =
+          rw (F .lists .usable) at
+          (stranger (K .lists) 2 a (omega arith) (λ e. absurd (omega (arith, F .arenas a la .base-is ∙ base-spent P r a marked none))))
+
+      rise : Rising (free P gone) (a ∷ r .usable)
+      rise = (
+        all-two {S = λ y. free P gone a ≤ free P gone y}
+            (λ y (d : a ≢ y) (t : At A (U .base) 2 y). omega (arith, one-more, none, others-free y (flip d), usable-word L K F y t .1))
+            (r .usable) off (usable-members L K F),
+        order-aside P (r .usable) (aside (r .usable)) refl off (F .order),
+      )
+
       F′ : Says al A P U₆ (m₂ G) (h′ .map) (emptied (a ∷ r .usable))
       F′ =
           open-says (a ∷ r .usable) (U₆ .base) (U₆ .arenas) (λ x d. rw (ne-eqb x a d)) (rw (eq-eqb a a refl))
-          (ap (λ (xs : List ℕ). a ∷ xs) (F .lists .usable)) (F .lists .unused)
+          (ap (λ (xs : List ℕ). a ∷ xs) (F .lists .usable)) (F .lists .unused) rise
 
   -- ---- "If free pools is now P, the arena leaves the usable list, its record becomes 0 except that it joins the
   -- unused list at the front"
@@ -324,7 +483,7 @@ module _ {al A P p j i : ℕ} {h : Heap} {r : Plain} {is : List ℕ}
       backed Releases r′
       (emptying-is Releases (rw (
         eq-eqb (free P r a + 1) P all,
-        arena-may-leave K 2 a (omega arith) la usable-a,
+        arena-may-leave K 2 a (omega arith) la (usable-a some),
         le-leb (at b unusedHead) A (head-link (K .lists) 3 (omega arith)),
       )))
       (rw (chn, last, eq-eqb (free P r a + 1) P all)) refl
@@ -336,12 +495,8 @@ module _ {al A P p j i : ℕ} {h : Heap} {r : Plain} {is : List ℕ}
       h′ : Heap
       h′ = afterBack al A P c p f Releases h
 
-      usable-a : U .base a ≡ usableHead
-      usable-a = F .arenas a la .base-is ∙ base-usable P r a marked (λ z. absurd (omega (arith, pools-low)))
-
-      -- it leaves
-      K₆ : Books A (A * P) (leave arenaLinks usableHead a b₅) (U₅ ▷ baseTo a 0 ▷ arenasTo 2 (erase a (U .arenas 2)))
-      K₆ = arena-leaves K₅ 2 a (omega arith) la usable-a
+      some : free P r a ≢ 0
+      some z = absurd (omega (arith, pools-low))
 
       -- its record becomes 0
       b₇ : List ℕ
@@ -351,7 +506,7 @@ module _ {al A P p j i : ℕ} {h : Heap} {r : Plain} {is : List ℕ}
       U₇ = U₅ ▷ baseTo a 0 ▷ arenasTo 2 (erase a (U .arenas 2)) ▷ arenaTo 0 a 0 ▷ arenaTo 1 a 0 ▷ arenaTo 2 a 0 ▷ freedNone a
 
       K₇ : Books A (A * P) b₇ U₇
-      K₇ = freed-cleared (put-arena (put-arena (put-arena K₆ 0 a 0 (omega arith) la) 1 a 0 (omega arith) la) 2 a 0 (omega arith) la) a la
+      K₇ = freed-cleared (put-arena (put-arena (put-arena (K₆ some) 0 a 0 (omega arith) la) 1 a 0 (omega arith) la) 2 a 0 (omega arith) la) a la
 
       own-links : (arena b₇ 4 a ≡ 0) × (arena b₇ 5 a ≡ 0)
       own-links = K₇ .spent a la (to-same a 0 (U .base) a refl)
@@ -483,7 +638,7 @@ module _ {al A P p j i : ℕ} {h : Heap} {r : Plain} {is : List ℕ}
             usable = ap (erase a) (F .lists .usable);
             unused = ap (λ (xs : List ℕ). a ∷ xs) (F .lists .unused);
           })
-          homes′ (bytes₂ G) j 0 (j-small G) (omega arith) refl)
+          erased-rise homes′ (bytes₂ G) j 0 (j-small G) (omega arith) refl)
 
 -- ---- every give-back of a live block
 pub back-any : {al A P : ℕ} {h : Heap} {r : Plain} → Aligned al → Sound al A P h r → (p j : ℕ) → p < A * P
@@ -500,4 +655,4 @@ back-any {al} {A} {P} {h} {r} L S p j l on =
     go (i ∷ is) e (no d) t u = back-stays G i is e (omega (arith, some G))
     go (i ∷ is) e (yes d) (yes t) u = back-releases G e d t
     go (i ∷ is) e (yes d) (no t) (yes u) = back-returns G e d u
-    go (i ∷ is) e (yes d) (no t) (no u) = back-empties G e d t u
+    go (i ∷ is) e (yes d) (no t) (no u) = back-walks G e d u t

@@ -15,17 +15,19 @@ use Rattle.laws.specs.Sequences.{
   Not,
   Once,
   In,
-  Seg,
   erase,
   Split,
   split,
   erase-is,
   in-drop,
+  in-put,
   once-gone,
   all-drop,
+  all-put,
+  lastLink,
   all-map,
   all-two,
-  head-in,
+  behind-in,
   next-in,
   prev-in,
 }
@@ -82,10 +84,11 @@ module _ {Meets : ℕ → List ℕ → Type 0} {H : ℕ → Type 0} {place : ℕ
         all-two {S = At N (to x v home) (place j)}
         (λ y (d : x ≢ y) (t : At N home (place j) y). record { low = t .low; is = to-other x v home y (flip d) ∙ t .is })
 
-    -- x, which has no home among the heads, comes to the front of list i
-    pub comes : ((j : ℕ) → H j → place j ≡ place i → j ≡ i) → ((j : ℕ) → H j → home x ≢ place j) → rows′ i ≡ x ∷ rows i
+    -- x, which has no home among the heads, comes to list i, at the gap behind pre
+    pub comes : ((j : ℕ) → H j → place j ≡ place i → j ≡ i) → ((j : ℕ) → H j → home x ≢ place j)
+        → (pre post : List ℕ) → rows i ≡ pre ++ post → rows′ i ≡ pre ++ x ∷ post
         → Family Meets′ H place N (to x (place i) home) rows′
-    comes one out r =
+    comes one out pre post s r =
         record {
           row = λ j h. row-after j h (ℕ-discrete j i);
           members = λ j h. members′ j h (ℕ-discrete j i);
@@ -94,14 +97,16 @@ module _ {Meets : ℕ → List ℕ → Type 0} {H : ℕ → Type 0} {place : ℕ
       where
         members′ : (j : ℕ) → H j → Dec (j ≡ i) → All (At N (to x (place i) home) (place j)) (rows′ j)
         members′ j h (yes q) =
-            rw (q, r) (record { low = l; is = to-same x (place i) home x refl }, kept (place i) i (rows i) (stranger i x k (out i k)) (F .members i k))
+            rw (q, r) (all-put (At N (to x (place i) home) (place i)) x pre post (record { low = l; is = to-same x (place i) home x refl })
+            (kept (place i) i (pre ++ post) (rw s at (stranger i x k (out i k))) (rw s at (F .members i k))))
         members′ j h (no q) = rw (others j q) (kept (place i) j (rows j) (stranger j x h (out j h)) (F .members j h))
 
         all′ : (j : ℕ) → H j → (y : ℕ) → y < N → to x (place i) home y ≡ place j → Dec (y ≡ x) → Dec (j ≡ i)
             → In y (rows′ j)
-        all′ j h y m e (yes p) (yes q) = rw (q, r) (inl p)
+        all′ j h y m e (yes p) (yes q) = rw (q, r) (in-put x y pre post (inl p))
         all′ j h y m e (yes p) (no q) = absurd (q (one j h (sym e ∙ to-same x (place i) home y p)))
-        all′ j h y m e (no p) (yes q) = rw (q, r) (inr (F .all i k y m (sym (to-other x (place i) home y p) ∙ e ∙ ap place q)))
+        all′ j h y m e (no p) (yes q) =
+            rw (q, r) (in-put x y pre post (inr (rw s at (F .all i k y m (sym (to-other x (place i) home y p) ∙ e ∙ ap place q)))))
         all′ j h y m e (no p) (no q) = rw (others j q) (F .all j h y m (sym (to-other x (place i) home y p) ∙ e))
 
     -- x leaves list i, and v is its home then, no head
@@ -215,26 +220,19 @@ pub record Apart (nx pv : ℕ → ℕ) (H : ℕ → Type 0) (place : ℕ → ℕ
 module _ {nx pv : ℕ → ℕ} {H : ℕ → Type 0} {place : ℕ → ℕ} {N : ℕ} {home : ℕ → ℕ} {b : List ℕ} {rows : ℕ → List ℕ}
     (F : Family (Doubly nx pv b) H place N home rows) (i : ℕ) (k : H i) where
   pub head-link : at b (place i) ≤ N
-  head-link =
-      link-low N (at b (place i))
-      (head-in (λ y. y < N) (λ n. at b (nx n)) (λ n. at b (pv n)) (at b (place i)) 0 (rows i) (inside F i k) (F .row i k .row .walk))
+  head-link = link-low N (at b (place i)) (behind-in (λ y. y < N) [] (rows i) refl (inside F i k) (F .row i k .row))
 
   module _ (x : ℕ) (l : x < N) (e : home x ≡ place i) where
     s : Split x (rows i)
     s = split x (rows i) (F .all i k x l e)
 
     pub member-links : (at b (nx x) ≤ N) × (at b (pv x) ≤ N)
-    member-links = (
-      link-low N (at b (nx x)) (next-in (λ y. y < N) (λ n. at b (nx n)) (λ n. at b (pv n)) x (s .pre) (s .post) (at b (place i)) 0 all walk),
-      link-low N (at b (pv x)) (prev-in (λ y. y < N) (λ n. at b (nx n)) (λ n. at b (pv n)) x
-          (s .pre) (s .post) (at b (place i)) 0 all walk (λ y q. absurd (omega arith))),
-    )
-      where
-        walk : Seg (λ n. at b (nx n)) (λ n. at b (pv n)) (at b (place i)) 0 (s .pre ++ x ∷ s .post)
-        walk = rw (s .is) at (F .row i k .row .walk)
-
-        all : All (λ y. y < N) (s .pre ++ x ∷ s .post)
-        all = rw (s .is) at (inside F i k)
+    member-links =
+        let row = rw (s .is) at (F .row i k .row) in
+        let all = rw (s .is) at (inside F i k) in (
+          link-low N (at b (nx x)) (next-in (λ y. y < N) (s .pre) (s .post) all row),
+          link-low N (at b (pv x)) (prev-in (λ y. y < N) (s .pre) (s .post) all row),
+        )
 
     -- x leaves: who is neither x nor on its list keeps its links, and every list has its members
     module _ (W : Apart nx pv H place N (length b)) where
@@ -262,24 +260,28 @@ module _ {nx pv : ℕ → ℕ} {H : ℕ → Type 0} {place : ℕ → ℕ} {N : �
               (λ q. d (W .one i j k h q)) (λ y _. W .lay j h .h-nx y) (λ y _. W .lay j h .h-pv y))
               (F .row j h)
 
-  -- x, at home in no list, joins: the same
-  module _ (x : ℕ) (l : x < N) (out : (j : ℕ) → H j → home x ≢ place j) (W : Apart nx pv H place N (length b)) where
-    pub join-keeps : (y : ℕ) → y ≢ x → home y ≢ place i → LinksSame nx pv b (joined nx pv (place i) x b) y
-    join-keeps y d n = join-strange (W .lay i k) x y d (rows i) (stranger F i y k n) (F .row i k)
+  -- x, at home in no list, joins at the gap behind pre, where p is the link to the last: the same
+  module _ (x : ℕ) (l : x < N) (out : (j : ℕ) → H j → home x ≢ place j) (W : Apart nx pv H place N (length b))
+      (p : ℕ) (pre post : List ℕ) (s : rows i ≡ pre ++ post) (e : p ≡ lastLink 0 pre) where
+    pub join-keeps : (y : ℕ) → y ≢ x → home y ≢ place i → LinksSame nx pv b (joined nx pv (place i) p x b) y
+    join-keeps y d n = join-strange (W .lay i k) x y d (rows i) (stranger F i y k n) (F .row i k) pre post e s
 
-    pub joins : Family (Doubly nx pv (joined nx pv (place i) x b)) H place N
-        (to x (place i) home) (to i (x ∷ rows i) rows)
+    pub joins : Family (Doubly nx pv (joined nx pv (place i) p x b)) H place N
+        (to x (place i) home) (to i (pre ++ x ∷ post) rows)
     joins =
-        comes F (Doubly nx pv (joined nx pv (place i) x b)) i x k l (λ j d. to-other i (x ∷ rows i) rows j d) new old
-        (λ j h. W .one i j k h) out (to-same i (x ∷ rows i) rows i refl)
+        comes F (Doubly nx pv (joined nx pv (place i) p x b)) i x k l (λ j d. to-other i (pre ++ x ∷ post) rows j d) new old
+        (λ j h. W .one i j k h) out pre post s (to-same i (pre ++ x ∷ post) rows i refl)
       where
-        new : Doubly nx pv (joined nx pv (place i) x b) (place i) (to i (x ∷ rows i) rows i)
-        new = rw (to-same i (x ∷ rows i) rows i refl) (join-in (W .lay i k) l (stranger F i x k (out i k)) (inside F i k) (F .row i k))
+        new : Doubly nx pv (joined nx pv (place i) p x b) (place i) (to i (pre ++ x ∷ post) rows i)
+        new =
+            rw (to-same i (pre ++ x ∷ post) rows i refl)
+            (join-in (W .lay i k) pre post e l (rw s at (stranger F i x k (out i k))) (rw s at (inside F i k)) (rw s at (F .row i k)))
 
-        old : (j : ℕ) → H j → j ≢ i → Doubly nx pv (joined nx pv (place i) x b) (place j) (rows j)
+        old : (j : ℕ) → H j → j ≢ i → Doubly nx pv (joined nx pv (place i) p x b) (place j) (rows j)
         old j h d =
-            doubly-same (all-map {R = LinksSame nx pv b (joined nx pv (place i) x b)}
+            doubly-same (all-map {R = LinksSame nx pv b (joined nx pv (place i) p x b)}
             (λ y (t : At N home (place j) y). join-keeps y (λ q. out j h (ap home (sym q) ∙ t .is)) (λ q. d (W .one i j k h (sym (t .is) ∙ q))))
             (rows j) (F .members j h))
-            (joined-other nx pv (place i) x (place j) b (W .lay j h .h-nx x) (W .lay j h .h-pv x) (λ q. d (W .one i j k h q)) (λ y _. W .lay j h .h-pv y))
+            (joined-other nx pv (place i) p x (place j) b (W .lay j h .h-nx x) (W .lay j h .h-pv x)
+            (λ q. d (W .one i j k h q)) (λ y _. W .lay j h .h-nx y) (λ y _. W .lay j h .h-pv y))
             (F .row j h)

@@ -17,7 +17,7 @@ use Rattle.rules.specs.declared.Source.the-variants.{Freed, Carved, Opened}
 use Rattle.rules.specs.declared.AskPlan.{AskPlan}
 use Rattle.rules.specs.declared.AskPlan.the-variants.{NoRoom, Damaged, Follow, Ready, Last, Again, Anew}
 use Rattle.rules.specs.declared.BackPlan.{BackPlan}
-use Rattle.rules.specs.declared.BackPlan.the-variants.{Damaged as Broken, Joins, Stays, Empties, Returns, Releases}
+use Rattle.rules.specs.declared.BackPlan.the-variants.{Damaged as Broken, Joins, Stays, Empties, Moves, Returns, Releases}
 use Rattle.rules.specs.Say.{if_then_else_}
 use Rattle.rules.specs.Books.{Heap, at, inRange, arenas, pools, edition, alignment, offsetOf}
 use Rattle.rules.specs.Blocks.{classOf, sizeOf, lastClass, putLink, classAt, sizeAt, live, liveNumber}
@@ -143,6 +143,7 @@ module _ {al : ℕ} (L : Aligned al) (A P : ℕ) (h : Heap) (o : ℕ) where
   back-path c Joins low high = link-first (h .memory) _ (o / 4096) (o % 4096) low high
   back-path c Stays low high = link-first (h .memory) _ (o / 4096) (o % 4096) low high
   back-path c Empties low high = link-first (h .memory) _ (o / 4096) (o % 4096) low high
+  back-path c (Moves q) low high = link-first (h .memory) _ (o / 4096) (o % 4096) low high
   back-path c Returns low high = link-first (h .memory) _ (o / 4096) (o % 4096) low high
   back-path c Releases low high = link-first (h .memory) _ (o / 4096) (o % 4096) low high
 

@@ -291,6 +291,7 @@ module _ (A P e : ℕ) (m : List ℕ)
         };
         bits = dark;
         lists = record { listed = λ c l. refl; freed = λ a l. refl; usable = refl; unused = refl };
+        order = tt;
       }
 
   -- format leaves the fresh plain heap

@@ -31,7 +31,10 @@ use Rattle.rules.specs.Books.{
   classHead,
   openWord,
   carveMark,
+  freePools,
   freedHead,
+  arenaNext,
+  arenaPrevious,
   arenaWord,
   arena,
   poolWord,
@@ -42,7 +45,9 @@ use Rattle.rules.specs.Blocks.{sizeOf, lastClass, capacity}
 use Rattle.books.specs.Known.{Shaped, shaped, in-range}
 use Rattle.books.specs.Sizes.{Aligned, capacity-high, class-low}
 use Rattle.laws.specs.Update.{is-false}
-use Rattle.laws.specs.Sequences.{All, all-map}
+use Rattle.laws.specs.Sequences.{All, In, all-map}
+use Rattle.laws.specs.Rising.{Rising}
+use Rattle.laws.specs.Linked.{Doubly}
 use Rattle.laws.specs.Families.{At, Family}
 use Rattle.laws.specs.Books.{View, Books, ArenaHead}
 use Rattle.laws.specs.Plain.{Plain, count, inUse, carved, free}
@@ -200,6 +205,7 @@ pub record Says (al A P : ℕ) (U : View) (m k : List ℕ) (r : Plain) : Type 0 
   pub pools : (n : ℕ) → n < A * P → PoolSays al P U m r n
   pub bits : (n j : ℕ) → n < A * P → j < 512 → isSet k n j ≡ r .live n j
   pub lists : ListsSay A U r
+  pub order : Rising (free P r) (r .usable)
 
 -- the view of the books b, by the plain heap r
 abbrev pub viewOf : ℕ → ℕ → ℕ → List ℕ → Plain → View
@@ -261,6 +267,7 @@ held {al} {A} {P} {h} {r} S =
         };
         bits = S .bits;
         lists = record { listed = λ c l. refl; freed = λ a l. refl; usable = refl; unused = refl };
+        order = S .rule9;
       };
     }
   where
@@ -329,7 +336,7 @@ closed-mark : (mark : ℕ) → opened mark ≡ 0 → mark ≡ 0
 closed-mark zero e = refl
 closed-mark (suc mark) e = absurd (omega (arith, rw (eqb·suc-zero mark) at e))
 
-open-mark : (mark : ℕ) → opened mark ≡ 1 → mark ≢ 0
+pub open-mark : (mark : ℕ) → opened mark ≡ 1 → mark ≢ 0
 open-mark mark e z = omega (arith, rw z at e)
 
 module _ {al A P : ℕ} {h : Heap} {U : View} {r : Plain} (L : Aligned al)
@@ -364,6 +371,23 @@ module _ {al A P : ℕ} {h : Heap} {U : View} {r : Plain} (L : Aligned al)
 
   free-word : (a : ℕ) → a < A → arena (h .books) 2 a ≡ freeWord P r a
   free-word a l = K .arenas 2 a (omega arith) l ∙ F .arenas a l .free-is
+
+  -- a usable arena is open and has free pools, as many as its word says
+  pub usable-word : (a : ℕ) → At A (U .base) usableHead a
+      → (r .mark a ≢ 0) × (free P r a ≢ 0) × (arena (h .books) freePools a ≡ free P r a)
+  usable-word a t =
+      let u = usable-is P r a (sym (F .arenas a (t .low) .base-is) ∙ t .is) in
+      (u .0, u .1, free-word a (t .low) ∙ rw (ne-eqb (r .mark a) 0 (u .0)))
+
+  -- the usable list is the plain heap's, and has every open arena with free pools
+  pub usable-row : Doubly (arenaWord arenaNext) (arenaWord arenaPrevious) (h .books) usableHead (r .usable)
+  usable-row = rw (F .lists .usable) at (K .lists .row 2 (omega arith))
+
+  pub usable-members : All (At A (U .base) usableHead) (r .usable)
+  usable-members = rw (F .lists .usable) at (K .lists .members 2 (omega arith))
+
+  pub usable-in : (a : ℕ) → a < A → r .mark a ≢ 0 → free P r a ≢ 0 → In a (r .usable)
+  usable-in a l d e = rw (F .lists .usable) at (K .lists .all 2 (omega arith) a l (F .arenas a l .base-is ∙ base-usable P r a d e))
 
   -- the same pools are carved
   pub carved-word : (n : ℕ) → n < A * P → is-carved P (h .books) n ≡ carved P r n
@@ -468,6 +492,7 @@ module _ {al A P : ℕ} {h : Heap} {U : View} {r : Plain} (L : Aligned al)
         rule7 = count-word;
         rule8 = λ n l c. rw (count-word n l, class-word n l, K .pools 1 n (omega arith) l, K .pools 5 n (omega arith) l, K .pools 6 n (omega arith) l)
             (F .pools n l .rule (sym (carved-word n l) ∙ c));
+        rule9 = F .order;
       }
     where
       -- a live block has a number below 506

@@ -1,5 +1,5 @@
 -- What the theorems speak of: histories of calls, run by the rules;
--- their ledgers and editions, made from the calls and their answers; and a heap with no room.
+-- their ledgers and editions, made from the calls and their answers; the usable list; and a heap with no room.
 -- Assumes nothing.
 use mathlib.Core.Logic.{_≢_}
 use mathlib.Core.Path.{_≡_}
@@ -9,7 +9,23 @@ use Prim.Native.Nat.{ℕ, zero, suc, _+_, _*_, _/_, _<_, min}
 use lib.Dec.{ltb, eqb}
 use lib.ListN.{length, set, take, drop}
 use Rattle.rules.specs.Say.{if_then_else_}
-use Rattle.rules.specs.Books.{Heap, arenas, pools, alignmentOf, openWord, arena, class, pool, offsetOf}
+use Rattle.rules.specs.Books.{
+  Heap,
+  at,
+  arenas,
+  pools,
+  alignmentOf,
+  usableHead,
+  openWord,
+  freePools,
+  arenaNext,
+  arena,
+  class,
+  pool,
+  none?,
+  linked,
+  offsetOf,
+}
 use Rattle.rules.specs.Blocks.{classOf, sizeOf, startOf, capacity, classAt, live}
 use Rattle.rules.specs.Outcome.{heapOf}
 use Rattle.rules.specs.View.{part}
@@ -146,6 +162,20 @@ listing g o (suc n) = (if eqb (g o) 0 then [] else (o ∷ g o ∷ [])) ++ listin
 -- how many of the offsets below o hold something
 abbrev pub heldBelow : (ℕ → ℕ) → ℕ → ℕ
 heldBelow g o = howMany (λ x. not (eqb (g x) 0)) o
+
+-- ---- the usable list, by the books alone
+-- the arenas that are met from a link on by next, at most so many
+abbrev pub met : ℕ → (ℕ → ℕ) → ℕ → List ℕ
+met zero next link = []
+met (suc more) next link = if none? link then [] else linked link ∷ met more next (next (linked link))
+
+-- those that are met from the usable head
+abbrev pub usableList : Heap → List ℕ
+usableList h = met (arenas h) (λ a. arena (h .books) arenaNext a) (at (h .books) usableHead)
+
+-- a is an open arena with free pools
+abbrev pub Usable : Heap → ℕ → Type 0
+Usable h a = (a < arenas h) × (arena (h .books) openWord a ≡ 1) × (arena (h .books) freePools a ≢ 0)
 
 -- ---- the heap h of A arenas with P pools has no room for class c:
 -- every pool holds a live block, and every pool of the class is full of live ones

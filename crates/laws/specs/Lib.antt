@@ -1,6 +1,6 @@
 -- What holds after every history of calls, by way of a plain heap of sequences: the sequences and their links (Update
 -- to Families), what the books say (Books), the plain heap (Plain) and that a heap holds it (Counting to Fresh), each
--- path of ask and give back (Step to Sources), the calls and what is held (Holding to NoRoom), and the theorems, of
+-- path of ask and give back (Step to Sources), the calls and what is held (Holding to Usable), and the theorems, of
 -- any heap (Refused to StandIn) and of every history (History to Code).
 --
 -- Letters that mean one thing throughout. A arenas of P pools; al the alignment, and L that it is 8 or 16. h the heap:
@@ -9,6 +9,7 @@
 -- h′: after the step.
 pub mod Update
 pub mod Sequences
+pub mod Rising
 pub mod Linked
 pub mod Families
 pub mod Books
@@ -23,6 +24,7 @@ pub mod Step
 pub mod Paths
 pub mod AskListed
 pub mod GiveBack
+pub mod Walked
 pub mod Emptied
 pub mod Taken
 pub mod Sources
@@ -33,6 +35,7 @@ pub mod Resized
 pub mod Free
 pub mod Roll
 pub mod NoRoom
+pub mod Usable
 pub mod Refused
 pub mod First
 pub mod StandIn

@@ -12,8 +12,26 @@ use lib.ListN.{length, set, length-set}
 use lib.Seq.{getD-set-same, getD-set-other, lt-length-set}
 use Rattle.rules.specs.Say.{if_then_else_, only}
 use Rattle.rules.specs.Books.{at, none?}
-use Rattle.rules.specs.Lists.{leave, join, leaveBy, joinBy}
-use Rattle.laws.specs.Sequences.{All, Not, Once, Row, Joined, Left, row-same, row-joins, row-leaves, head-in, next-in, prev-in, all-map, all-two}
+use Rattle.rules.specs.Lists.{leave, join, goInAfter, leaveBy, joinBy}
+use Rattle.laws.specs.Sequences.{
+  All,
+  Not,
+  Once,
+  Row,
+  lastLink,
+  place,
+  Joined,
+  Left,
+  row-same,
+  row-joins,
+  row-leaves,
+  next-in,
+  prev-in,
+  before-in,
+  behind-in,
+  all-map,
+  all-two,
+}
 
 -- ---- the two kinds of lists, by their head word
 -- from the head word h exactly xs is met, linked both ways
@@ -45,17 +63,21 @@ pub record Lay (nx pv : ℕ → ℕ) (h N len : ℕ) : Type 0 where
   pub pv-in : (n : ℕ) → n < N → pv n < len
 
 -- ---- the writes, over any two words nx n and pv n of member n
--- v is stored at the word that f gives for the link's target, if it has one; that word, or h where there is no target
+-- v is stored at the word that f gives for the link's target, if it has one
 abbrev store : List ℕ → (ℕ → ℕ) → ℕ → ℕ → List ℕ
 store b f zero v = b
 store b f (suc n) v = set b (f n) v
 
-abbrev place : ℕ → (ℕ → ℕ) → ℕ → ℕ
-place h f zero = h
-place h f (suc n) = f n
+-- x joins behind the link p, at the front where p is 0, and k is the link that stood there
+unfoldable pub joinedBy : (nx pv : ℕ → ℕ) (h k p x : ℕ) → List ℕ → List ℕ
+joinedBy nx pv h k p x b = set (store (set (set b (nx x) k) (pv x) p) pv k (suc x)) (place h nx p) (suc x)
 
-unfoldable pub joined : (nx pv : ℕ → ℕ) (h x : ℕ) → List ℕ → List ℕ
-joined nx pv h x b = set (store (set (set b (nx x) (at b h)) (pv x) 0) pv (at b h) (suc x)) h (suc x)
+-- the same, that link being read from the books
+abbrev pub standing : (nx : ℕ → ℕ) (h p : ℕ) → List ℕ → ℕ
+standing nx h p b = place (at b h) (λ n. at b (nx n)) p
+
+abbrev pub joined : (nx pv : ℕ → ℕ) (h p x : ℕ) → List ℕ → List ℕ
+joined nx pv h p x b = joinedBy nx pv h (standing nx h p b) p x b
 
 unfoldable pub left : (nx pv : ℕ → ℕ) (h x : ℕ) → List ℕ → List ℕ
 left nx pv h x b =
@@ -101,31 +123,46 @@ module _ (nx pv : ℕ → ℕ) (base : ℕ) (e : (y : ℕ) → nx y ≡ base + 8
   leave-is =
       rw (place-only nx base h (at b (base + 8 * n + 1)) e, store-only _ pv base (at b (base + 8 * n)) (at b (base + 8 * n + 1)) f, ← f n, ← e n)
 
-  pub join-is : join base h n b ≡ joined nx pv h n b
-  unfolding joinBy joined
-  join-is = let q : n + 1 ≡ suc n = omega arith in rw (store-only _ pv base (at b h) (n + 1) f, ← f n, ← e n, q)
+  -- joining at the front and going in after q are one, behind the link 0 and behind the link to q
+  join-by-is : (k p : ℕ) → joinBy base (place h nx p) k p n b ≡ joinedBy nx pv h k p n b
+  unfolding joinBy joinedBy
+  join-by-is k p = let q : n + 1 ≡ suc n = omega arith in rw (store-only _ pv base k (n + 1) f, ← f n, ← e n, q)
+
+  pub join-is : join base h n b ≡ joined nx pv h 0 n b
+  join-is = join-by-is (at b h) 0
+
+  pub go-in-is : (q : ℕ) → goInAfter base q n b ≡ joined nx pv h (suc q) n b
+  go-in-is q = let d : q + 1 ≡ suc q = omega arith in rw (← e q, d) (join-by-is (at b (nx q)) (suc q))
 
 -- ---- what they write, b′ being the books after
 module _ {nx pv : ℕ → ℕ} {h N len : ℕ} (L : Lay nx pv h N len) (x : ℕ) (b b′ : List ℕ) where
-  join-writes : (k : ℕ) → b′ ≡ set (store (set (set b (nx x) k) (pv x) 0) pv k (suc x)) h (suc x)
-      → nx x < length b → pv x < length b → h < length b → ((y : ℕ) → k ≡ suc y → pv y < length b) → k ≢ suc x
-      → Joined x (λ n. at b (nx n)) (λ n. at b (pv n)) k (λ n. at b′ (nx n)) (λ n. at b′ (pv n)) (at b′ h)
-  join-writes k e i j l m d =
+  join-writes : (k p : ℕ) → b′ ≡ joinedBy nx pv h k p x b → nx x < length b → pv x < length b → h < length b
+      → ((y : ℕ) → p ≡ suc y → nx y < length b) → ((y : ℕ) → k ≡ suc y → pv y < length b) → p ≢ suc x → k ≢ suc x
+      → Joined x p k (λ n. at b (nx n)) (λ n. at b (pv n)) (at b h) (λ n. at b′ (nx n)) (λ n. at b′ (pv n)) (at b′ h)
+  unfolding joinedBy
+  join-writes k p e i j l f g c d =
       record {
-        head = rw e (search (getD-set-same, lt-length-set, lt-store));
-        own-next = past (nx x) (L .nx-h x) (λ y _. L .nx-pv x y)
-            ∙ getD-set-other (set b (nx x) k) (pv x) (nx x) 0 0 (L .nx-pv x x)
+        own-next = past (nx x) (λ _. L .nx-h x) (λ y q. L .nx-nx x y (λ t. c (q ∙ ap suc (sym t)))) (λ y _. L .nx-pv x y)
+            ∙ getD-set-other (set b (nx x) k) (pv x) (nx x) p 0 (L .nx-pv x x)
             ∙ getD-set-same b (nx x) k 0 i;
-        own-prev = past (pv x) (L .pv-h x) (λ y q. L .pv-pv x y (λ t. d (q ∙ ap suc (sym t))))
-            ∙ getD-set-same (set b (nx x) k) (pv x) 0 0 (lt-length-set b (nx x) k j);
-        old-head = λ y n f. rw e (simp (getD-set-other, L .pv-h)
-            (store-same pv k (suc x) y (set (set b (nx x) k) (pv x) 0) f (lt-length-set (set b (nx x) k) (pv x) 0 (lt-length-set b (nx x) k (m y f)))));
-        next-same = λ y n. past (nx y) (L .nx-h y) (λ z _. L .nx-pv y z) ∙ simp (getD-set-other, L .nx-pv, L .nx-nx);
-        prev-same = λ y n f. past (pv y) (L .pv-h y) (λ z q. L .pv-pv y z (λ t. f (q ∙ ap suc (sym t)))) ∙ simp (getD-set-other, L .pv-pv, L .pv-nx);
+        own-prev = past (pv x) (λ _. L .pv-h x) (λ y _. L .pv-nx x y) (λ y q. L .pv-pv x y (λ t. d (q ∙ ap suc (sym t))))
+            ∙ getD-set-same (set b (nx x) k) (pv x) p 0 (lt-length-set b (nx x) k j);
+        rest = record {
+          head = λ z. rw (e, z) (search (getD-set-same, lt-length-set, lt-store));
+          head-same = λ z. past h (λ q. absurd (z q)) (λ y _. L .h-nx y) (λ y _. L .h-pv y) ∙ simp (getD-set-other, L .h-nx, L .h-pv);
+          before = λ y a q. let u : nx y < length b = f y q in rw (e, q) (search (getD-set-same, lt-length-set, lt-store));
+          behind = λ y a q. rw e (simp (getD-set-other, place-other nx h p (pv y) (λ _. L .pv-h y) (λ z _. L .pv-nx y z))
+              (store-same pv k (suc x) y (set (set b (nx x) k) (pv x) p) q (lt-length-set (set b (nx x) k) (pv x) p (lt-length-set b (nx x) k (g y q)))));
+          next-same = λ y a q. past (nx y) (λ _. L .nx-h y) (λ z r. L .nx-nx y z (λ t. q (r ∙ ap suc (sym t)))) (λ z _. L .nx-pv y z)
+              ∙ simp (getD-set-other, L .nx-pv, L .nx-nx);
+          prev-same = λ y a q. past (pv y) (λ _. L .pv-h y) (λ z _. L .pv-nx y z) (λ z r. L .pv-pv y z (λ t. q (r ∙ ap suc (sym t))))
+              ∙ simp (getD-set-other, L .pv-pv, L .pv-nx);
+        };
       }
     where
-      past : (i : ℕ) → i ≢ h → ((y : ℕ) → k ≡ suc y → i ≢ pv y) → at b′ i ≡ at (set (set b (nx x) k) (pv x) 0) i
-      past i a c = rw e (simp (getD-set-other, store-other))
+      past : (i : ℕ) → (p ≡ 0 → i ≢ h) → ((y : ℕ) → p ≡ suc y → i ≢ nx y) → ((y : ℕ) → k ≡ suc y → i ≢ pv y)
+          → at b′ i ≡ at (set (set b (nx x) k) (pv x) p) i
+      past i m n o = let d : i ≢ place h nx p = place-other nx h p i m n in rw e (simp (getD-set-other, store-other))
 
   leave-writes : (p n : ℕ) → b′ ≡ set (set (store (set b (place h nx p) n) pv n p) (nx x) 0) (pv x) 0
       → h < length b → ((y : ℕ) → p ≡ suc y → nx y < length b) → ((y : ℕ) → n ≡ suc y → pv y < length b)
@@ -136,7 +173,7 @@ module _ {nx pv : ℕ → ℕ} {h N len : ℕ} (L : Lay nx pv h N len) (x : ℕ)
         head-same = λ z. past h (L .h-nx x) (L .h-pv x) (λ y _. L .h-pv y)
             ∙ getD-set-other b (place h nx p) h n 0 (place-other nx h p h (λ q. absurd (z q)) (λ y _. L .h-nx y));
         before = λ y a c. past (nx y) (L .nx-nx y x a) (L .nx-pv y x) (λ z _. L .nx-pv y z) ∙ rw c (getD-set-same b (nx y) n 0 (f y c));
-        after = λ y a c. rw e (simp (getD-set-other, L .pv-pv, L .pv-nx)
+        behind = λ y a c. rw e (simp (getD-set-other, L .pv-pv, L .pv-nx)
             (store-same pv n p y (set b (place h nx p) n) c (lt-length-set b (place h nx p) n (g y c))));
         next-same = λ y a c. past (nx y) (L .nx-nx y x a) (L .nx-pv y x) (λ z _. L .nx-pv y z)
             ∙ getD-set-other b (place h nx p) (nx y) n 0 (place-other nx h p (nx y) (λ _. L .nx-h y) (λ z q. L .nx-nx y z (λ t. c (q ∙ ap suc (sym t)))));
@@ -149,14 +186,14 @@ module _ {nx pv : ℕ → ℕ} {h N len : ℕ} (L : Lay nx pv h N len) (x : ℕ)
 
 -- ---- the list itself
 module _ {nx pv : ℕ → ℕ} {h N : ℕ} {b : List ℕ} (L : Lay nx pv h N (length b)) where
-  pub join-in : {x : ℕ} {xs : List ℕ} → x < N → Not x xs → All (λ y. y < N) xs → Doubly nx pv b h xs
-      → Doubly nx pv (joined nx pv h x b) h (x ∷ xs)
-  unfolding joined
-  join-in {x} {xs} l n i r =
+  pub join-in : {x p : ℕ} (pre post : List ℕ) → p ≡ lastLink 0 pre → x < N → Not x (pre ++ post)
+      → All (λ y. y < N) (pre ++ post) → Doubly nx pv b h (pre ++ post)
+      → Doubly nx pv (joined nx pv h p x b) h (pre ++ x ∷ post)
+  join-in {x} {p} pre post e l n i r =
       record {
-        row = row-joins (join-writes L x b (joined nx pv h x b) (at b h) refl (L .nx-in x l) (L .pv-in x l) (L .h-in)
-            (λ y e. L .pv-in y (head-in (λ y. y < N) (λ n. at b (nx n)) (λ n. at b (pv n)) (at b h) 0 xs i (r .row .walk) y e))
-            (λ e. head-in (λ y. x ≢ y) (λ n. at b (nx n)) (λ n. at b (pv n)) (at b h) 0 xs n (r .row .walk) x e refl)) n (r .row);
+        row = row-joins pre post e (join-writes L x b (joined nx pv h p x b) (standing nx h p b) p refl (L .nx-in x l) (L .pv-in x l) (L .h-in)
+            (λ y q. L .nx-in y (before-in (λ y. y < N) pre post e i y q)) (λ y q. L .pv-in y (behind-in (λ y. y < N) pre post e i (r .row) y q))
+            (λ q. before-in (λ y. x ≢ y) pre post e n x q refl) (λ q. behind-in (λ y. x ≢ y) pre post e n (r .row) x q refl)) n (r .row);
       }
 
   pub leave-in : (x : ℕ) (pre post : List ℕ) → All (λ y. y < N) (pre ++ x ∷ post) → Doubly nx pv b h (pre ++ x ∷ post)
@@ -165,9 +202,8 @@ module _ {nx pv : ℕ → ℕ} {h N : ℕ} {b : List ℕ} (L : Lay nx pv h N (le
   leave-in x pre post i r =
       record {
         row = row-leaves pre post (leave-writes L x b (left nx pv h x b) (at b (pv x)) (at b (nx x)) refl (L .h-in)
-            (λ y e. L .nx-in y (prev-in (λ y. y < N) (λ n. at b (nx n)) (λ n. at b (pv n)) x pre post
-            (at b h) 0 i (r .row .walk) (λ y e. absurd (omega arith)) y e))
-            (λ y e. L .pv-in y (next-in (λ y. y < N) (λ n. at b (nx n)) (λ n. at b (pv n)) x pre post (at b h) 0 i (r .row .walk) y e))) (r .row);
+            (λ y e. L .nx-in y (prev-in (λ y. y < N) pre post i (r .row) y e))
+            (λ y e. L .pv-in y (next-in (λ y. y < N) pre post i (r .row) y e))) (r .row);
       }
 
 -- ---- where the words of a list stand, the list stands
@@ -217,11 +253,13 @@ module _ {nx pv : ℕ → ℕ} {b b′ xs : List ℕ} {h : ℕ} (same : All (Lin
       }
 
 -- ---- joining and leaving touch no other word
-pub joined-other : (nx pv : ℕ → ℕ) (h x i : ℕ) (b : List ℕ) → i ≢ nx x → i ≢ pv x → i ≢ h
-    → ((y : ℕ) → at b h ≡ suc y → i ≢ pv y)
-    → at (joined nx pv h x b) i ≡ at b i
-unfolding joined
-joined-other nx pv h x i b p q r s = simp (getD-set-other, store-other)
+pub joined-other : (nx pv : ℕ → ℕ) (h p x i : ℕ) (b : List ℕ) → i ≢ nx x → i ≢ pv x → i ≢ h
+    → ((y : ℕ) → p ≡ suc y → i ≢ nx y) → ((y : ℕ) → standing nx h p b ≡ suc y → i ≢ pv y)
+    → at (joined nx pv h p x b) i ≡ at b i
+unfolding joinedBy
+joined-other nx pv h p x i b q r s t u =
+    let d : i ≢ place h nx p = place-other nx h p i (λ _. s) t in
+    simp (getD-set-other, store-other)
 
 pub left-other : (nx pv : ℕ → ℕ) (h x i : ℕ) (b : List ℕ) → i ≢ nx x → i ≢ pv x → i ≢ h
     → ((y : ℕ) → at b (pv x) ≡ suc y → i ≢ nx y) → ((y : ℕ) → at b (nx x) ≡ suc y → i ≢ pv y)
@@ -231,9 +269,9 @@ left-other nx pv h x i b p q r s t =
     let d : i ≢ place h nx (at b (pv x)) = place-other nx h (at b (pv x)) i (λ _. r) s in
     simp (getD-set-other, store-other)
 
-pub joined-length : (nx pv : ℕ → ℕ) (h x : ℕ) (b : List ℕ) → length (joined nx pv h x b) ≡ length b
-unfolding joined
-joined-length nx pv h x b = simp (length-set, store-length)
+pub joined-length : (nx pv : ℕ → ℕ) (h p x : ℕ) (b : List ℕ) → length (joined nx pv h p x b) ≡ length b
+unfolding joinedBy
+joined-length nx pv h p x b = simp (length-set, store-length)
 
 pub left-length : (nx pv : ℕ → ℕ) (h x : ℕ) (b : List ℕ) → length (left nx pv h x b) ≡ length b
 unfolding left
@@ -250,21 +288,23 @@ left-own {nx} {pv} {h} {N} b L x l =
 
 -- ---- a record that is no member, nor the one that joins or leaves, keeps its links
 module _ {nx pv : ℕ → ℕ} {h N : ℕ} {b : List ℕ} (L : Lay nx pv h N (length b))
-    (x y : ℕ) (d : y ≢ x) (xs : List ℕ) (n : Not y xs) (r : Doubly nx pv b h xs) where
-  pub join-strange : LinksSame nx pv b (joined nx pv h x b) y
-  join-strange = (
-    joined-other nx pv h x (nx y) b (L .nx-nx y x d) (L .nx-pv y x) (L .nx-h y) (λ z e. L .nx-pv y z),
-    joined-other nx pv h x (pv y) b (L .pv-nx y x) (L .pv-pv y x d) (L .pv-h y)
-        (λ z e. L .pv-pv y z (head-in (λ z. y ≢ z) (λ n. at b (nx n)) (λ n. at b (pv n)) (at b h) 0 xs n (r .row .walk) z e)),
-  )
+    (x y : ℕ) (d : y ≢ x) (xs : List ℕ) (n : Not y xs) (r : Doubly nx pv b h xs) (pre post : List ℕ) where
+  pub join-strange : {p : ℕ} → p ≡ lastLink 0 pre → xs ≡ pre ++ post → LinksSame nx pv b (joined nx pv h p x b) y
+  join-strange {p} f e =
+      let row = rw e at (r .row) in
+      let not = rw e at n in (
+        joined-other nx pv h p x (nx y) b (L .nx-nx y x d) (L .nx-pv y x) (L .nx-h y)
+            (λ z q. L .nx-nx y z (before-in (λ z. y ≢ z) pre post f not z q)) (λ z q. L .nx-pv y z),
+        joined-other nx pv h p x (pv y) b (L .pv-nx y x) (L .pv-pv y x d) (L .pv-h y) (λ z q. L .pv-nx y z)
+            (λ z q. L .pv-pv y z (behind-in (λ z. y ≢ z) pre post f not row z q)),
+      )
 
-  pub leave-strange : (pre post : List ℕ) → xs ≡ pre ++ x ∷ post → LinksSame nx pv b (left nx pv h x b) y
-  leave-strange pre post e =
-      let walk = rw e at (r .row .walk) in
+  pub leave-strange : xs ≡ pre ++ x ∷ post → LinksSame nx pv b (left nx pv h x b) y
+  leave-strange e =
+      let row = rw e at (r .row) in
       let not = rw e at n in (
         left-other nx pv h x (nx y) b (L .nx-nx y x d) (L .nx-pv y x) (L .nx-h y)
-            (λ z f. L .nx-nx y z (prev-in (λ z. y ≢ z) (λ n. at b (nx n)) (λ n. at b (pv n)) x pre post (at b h) 0 not walk (λ y e. absurd (omega arith)) z f))
-            (λ z f. L .nx-pv y z),
+            (λ z f. L .nx-nx y z (prev-in (λ z. y ≢ z) pre post not row z f)) (λ z f. L .nx-pv y z),
         left-other nx pv h x (pv y) b (L .pv-nx y x) (L .pv-pv y x d) (L .pv-h y) (λ z f. L .pv-nx y z)
-            (λ z f. L .pv-pv y z (next-in (λ z. y ≢ z) (λ n. at b (nx n)) (λ n. at b (pv n)) x pre post (at b h) 0 not walk z f)),
+            (λ z f. L .pv-pv y z (next-in (λ z. y ≢ z) pre post not row z f)),
       )

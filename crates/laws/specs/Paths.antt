@@ -22,6 +22,8 @@ use Rattle.rules.specs.GiveBack.{planBack, afterBack}
 use Rattle.books.specs.Known.{in-range}
 use Rattle.books.specs.Sizes.{Aligned, size-low}
 use Rattle.laws.specs.Update.{to, to-same, to-other}
+use Rattle.laws.specs.Sequences.{all-every}
+use Rattle.laws.specs.Rising.{Rising, rising-same}
 use Rattle.laws.specs.Plain.{
   Plain,
   count,
@@ -234,8 +236,11 @@ module _ {al A P p : ℕ} {U : View} {m k : List ℕ} {r : Plain} (L : Aligned a
         free-is = R .free-is ∙ ap (λ (n : ℕ). if eqb (r .mark (p / P)) 0 then 0 else n) (sym (free-still (p / P)));
         base-is = R .base-is ∙ sym (base-same r (insideRows p j d ks virgins listed r) P (p / P) refl (free-still (p / P)));
       })
-      (record { listed = x; freed = F .lists .freed; usable = F .lists .usable; unused = F .lists .unused })
+      (record { listed = x; freed = F .lists .freed; usable = F .lists .usable; unused = F .lists .unused }) order
       (homes-same T (λ y l e. refl) (λ y l e. o y e ∙ F .pools y l .home-is)) M j d lj ld refl
     where
       T : Aside p (p / P) r (insideRows p j d ks virgins listed r)
       T = record { marks = λ y e. refl; classes = λ y e. refl; chains = λ y e. rw (ne-eqb y p e); virgins = v; lives = λ y e. rw (ne-eqb y p e) }
+
+      order : Rising (free P (insideRows p j d ks virgins listed r)) (r .usable)
+      order = rising-same (free P r) (free P (insideRows p j d ks virgins listed r)) (r .usable) (all-every free-still (r .usable)) (F .order)

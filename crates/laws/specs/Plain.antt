@@ -1,5 +1,5 @@
 -- The plain heap: sequences instead of links, and no bytes. Blocks go by their number in the pool. Its steps decide
--- the same paths as 01's, and none of them is damage.
+-- the same paths as 01's, with 02's order of the usable arenas, and none of them is damage.
 -- Assumes nothing.
 use mathlib.Core.Bool.{Bool, true, false, not}
 use mathlib.Core.List.{List, [], _∷_}
@@ -11,7 +11,7 @@ use Rattle.rules.specs.declared.Source.the-variants.{Freed, Carved, Opened}
 use Rattle.rules.specs.declared.AskPlan.{AskPlan}
 use Rattle.rules.specs.declared.AskPlan.the-variants.{NoRoom, Damaged, Follow, Ready, Last, Again, Anew}
 use Rattle.rules.specs.declared.BackPlan.{BackPlan}
-use Rattle.rules.specs.declared.BackPlan.the-variants.{Damaged as Broken, Joins, Stays, Empties, Returns, Releases}
+use Rattle.rules.specs.declared.BackPlan.the-variants.{Damaged as Broken, Joins, Stays, Empties, Moves, Returns, Releases}
 use Rattle.rules.specs.Say.{if_then_else_, _▷_}
 use Rattle.rules.specs.Books.{noClass}
 use Rattle.rules.specs.Blocks.{classOf, sizeOf, startOf, capacity}
@@ -19,7 +19,8 @@ use Rattle.rules.specs.Outcome.{answerOf}
 use Rattle.rules.specs.Ask.{askAnswer}
 use Rattle.rules.specs.Resize.{keeps}
 use Rattle.laws.specs.Update.{to}
-use Rattle.laws.specs.Sequences.{erase}
+use Rattle.laws.specs.Sequences.{erase, after}
+use Rattle.laws.specs.Rising.{following}
 
 pub record Plain : Type 0 where
   pub usable : List ℕ  -- the open arenas with free pools, front first
@@ -270,6 +271,12 @@ module _ (al P : ℕ) (r : Plain) (c : ℕ) where
   afterAsk (Anew s p) =
       r ▷ takeFrom s ▷ setListed c (p ∷ []) ▷ setClass p c ▷ setVirgin p 2 ▷ setChain p (1 ∷ []) ▷ setLive p 0 true
 
+-- ---- the arenas xs follow one that has n free pools: the path on which it moves past them as long as they have fewer.
+-- q is the path where it passes none of them
+abbrev pub past : ℕ → Plain → ℕ → List ℕ → BackPlan → BackPlan
+past P r n [] q = q
+past P r n (x ∷ xs) q = if ltb (free P r x) n then past P r n xs (Moves x) else q
+
 -- ---- give back block k of pool p
 module _ (P : ℕ) (r : Plain) (p k : ℕ) where
   -- the pool's arena and its class
@@ -285,7 +292,7 @@ module _ (P : ℕ) (r : Plain) (p k : ℕ) where
       else if eqb (count r p) 1 then
       (if eqb (free P r a + 1) P then Releases
       else if eqb (free P r a) 0 then Returns
-      else Empties)
+      else past P r (free P r a + 1) (following a (r .usable)) Empties)
       else Stays
 
   abbrev pub takeBack : Plain → Plain
@@ -299,6 +306,7 @@ module _ (P : ℕ) (r : Plain) (p k : ℕ) where
   afterBack Joins = r ▷ takeBack ▷ setListed c (p ∷ r .listed c)
   afterBack Stays = r ▷ takeBack
   afterBack Empties = r ▷ takeBack ▷ empty
+  afterBack (Moves q) = r ▷ takeBack ▷ empty ▷ setUsable (after q a (erase a (r .usable)))
   afterBack Returns = r ▷ takeBack ▷ empty ▷ setUsable (a ∷ r .usable)
   afterBack Releases =
       r ▷ takeBack ▷ empty ▷ setUsable (erase a (r .usable)) ▷ setUnused (a ∷ r .unused) ▷ setMark a 0 ▷ setFreed a []

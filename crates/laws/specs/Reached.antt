@@ -12,7 +12,7 @@ use Rattle.rules.specs.declared.Source.the-variants.{Freed, Carved, Opened}
 use Rattle.rules.specs.declared.AskPlan.{AskPlan}
 use Rattle.rules.specs.declared.AskPlan.the-variants.{NoRoom, Damaged, Follow, Ready, Last, Again, Anew}
 use Rattle.rules.specs.declared.BackPlan.{BackPlan}
-use Rattle.rules.specs.declared.BackPlan.the-variants.{Damaged as Broken, Joins, Stays, Empties, Returns, Releases}
+use Rattle.rules.specs.declared.BackPlan.the-variants.{Damaged as Broken, Joins, Stays, Empties, Moves, Returns, Releases}
 use Rattle.rules.specs.Books.{
   Heap,
   memoryLength,
@@ -45,7 +45,7 @@ use Rattle.rules.specs.Ask.{
   askAnswer,
   askStep,
 }
-use Rattle.rules.specs.GiveBack.{emptying, planBack, afterBack, backAnswer, backStep}
+use Rattle.rules.specs.GiveBack.{walk, emptying, planBack, afterBack, backAnswer, backStep}
 use Rattle.rules.specs.Resize.{giveOld, moved, resizeStep}
 use Rattle.rules.specs.Outcome.{heapOf}
 use Rattle.rules.specs.View.{part, rollBlocks, rollPool, rollPools}
@@ -87,7 +87,7 @@ use Rattle.laws.specs.Theorems.{begun}
 
 -- the paths by number: of an ask 0 no room, 1 by link, 2 by a block set ready, 3 as the last spare block, 4 freed of
 -- the same class, 5 freed of another, 6 carved, 7 opened; of a give-back 1 joins, 2 stays, 3 empties, 4 the arena
--- newly usable, 5 released
+-- newly usable, 5 released, 6 the arena moves in the usable list
 abbrev sourceNo : Source → ℕ
 sourceNo (Freed a) = 5
 sourceNo (Carved a) = 6
@@ -109,6 +109,7 @@ backNo Stays = 2
 backNo Empties = 3
 backNo Returns = 4
 backNo Releases = 5
+backNo (Moves q) = 6
 
 -- the path that an event's call takes on a heap of A arenas with P pools; of a resize the offset that it answers, of
 -- the others nothing
@@ -136,7 +137,7 @@ events (t ∷ ts) = t .0 ∷ events ts
 unfoldable pub reaches : ℕ → ℕ → List Turn → State → Bool
 unfolding inRange alignmentOf exact bit putBit isStart linkAt putLink live liveNumber leaveBy joinBy freshBooks noLink
     fromFreeblock fromListed setAnew sameClass takeAgain fromMark fromFreed fromUsable fromUnused planAsk takeFrom
-    afterAsk askAnswer askStep emptying planBack afterBack backAnswer backStep giveOld moved resizeStep rangeNumber
+    afterAsk askAnswer askStep walk emptying planBack afterBack backAnswer backStep giveOld moved resizeStep rangeNumber
     editionNumber lengthNumber reachNumber fitNumber shapeNumber sizeNumber roomNumber format ask giveBack resize write
     after
 reaches A P [] x = true
@@ -234,6 +235,22 @@ two-arenas e = let s = alignmentOf e in record {
   bytes = 111 ∷ 119 ∷ 101 ∷ 100 ∷ 0 ∷ 0 ∷ 0 ∷ 33 ∷ replicate (s - 8) 0;
 }
 
+-- two arenas of three pools: when the second gets a second pool back it moves back past the first, which gives the next
+-- pool then; the first, with as many as the second, keeps its place
+abbrev pub past-one : ℕ → Story
+past-one e = let s = alignmentOf e in record {
+  edition = e;
+  A = 2;
+  P = 3;
+  turns =
+      (asks s, 7) ∷ (asks (2 * s), 6) ∷ (asks (3 * s), 6) ∷ (asks (4 * s), 7) ∷ (asks (5 * s), 6) ∷ (asks (6 * s), 6)
+      ∷ (gives 48, 4) ∷ (gives 12336, 4) ∷ (gives 16432, 6) ∷ (asks (7 * s), 5) ∷ (gives 4144, 4) ∷ (gives 8240, 3)
+      ∷ [];
+  listed = 48 ∷ 7 * s ∷ 20528 ∷ 6 * s ∷ [];
+  offset = 8240;
+  bytes = [];
+}
+
 pub reached-two : BothReached two-pools
 unfolding ends events
 reached-two = (reached (two-pools 0) (λ f g k. tt), reached (two-pools 1) (λ f g k. tt))
@@ -245,3 +262,7 @@ reached-three = (reached (three-pools 0) (λ f g k. tt), reached (three-pools 1)
 pub reached-arenas : BothReached two-arenas
 unfolding ends events
 reached-arenas = (reached (two-arenas 0) (λ f g k. tt), reached (two-arenas 1) (λ f g k. tt))
+
+pub reached-past : BothReached past-one
+unfolding ends events
+reached-past = (reached (past-one 0) (λ f g k. tt), reached (past-one 1) (λ f g k. tt))

@@ -14,7 +14,7 @@ use Rattle.rules.specs.declared.Sized.{Sized}
 use Rattle.rules.specs.declared.AskPlan.{AskPlan}
 use Rattle.rules.specs.declared.AskPlan.the-variants.{NoRoom, Damaged, Follow, Ready, Last, Again, Anew}
 use Rattle.rules.specs.declared.BackPlan.{BackPlan}
-use Rattle.rules.specs.declared.BackPlan.the-variants.{Damaged as Broken, Joins, Stays, Empties, Returns, Releases}
+use Rattle.rules.specs.declared.BackPlan.the-variants.{Damaged as Broken, Joins, Stays, Empties, Moves, Returns, Releases}
 use Rattle.rules.specs.Say.{if_then_else_}
 use Rattle.rules.specs.Books.{Heap, inRange, exact, arenas, pools, editionWord, edition, isEdition, alignment}
 use Rattle.rules.specs.Blocks.{sizeAt, live, isBlock, liveNumber}
@@ -83,6 +83,7 @@ back-path al A P c h o Broken = λ _. refl
 back-path al A P c h o Joins = was-done refl
 back-path al A P c h o Stays = was-done refl
 back-path al A P c h o Empties = was-done refl
+back-path al A P c h o (Moves q) = was-done refl
 back-path al A P c h o Returns = was-done refl
 back-path al A P c h o Releases = was-done refl
 
@@ -104,6 +105,7 @@ path-six o Broken d = refl
 path-six o Joins d = absurd (d refl)
 path-six o Stays d = absurd (d refl)
 path-six o Empties d = absurd (d refl)
+path-six o (Moves q) d = absurd (d refl)
 path-six o Returns d = absurd (d refl)
 path-six o Releases d = absurd (d refl)
 

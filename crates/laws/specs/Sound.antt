@@ -1,5 +1,5 @@
--- The heap h holds the plain heap r, soundly: W-201's rules 1 to 8, each as a part of its own, in that order, al being
--- the alignment of the books' edition.
+-- The heap h holds the plain heap r, soundly: W-201's rules 1 to 8, and W-203's as the ninth, each as a part of its
+-- own, in that order, al being the alignment of the books' edition.
 -- Assumes nothing.
 use mathlib.Core.Path.{_≡_}
 use mathlib.Core.Logic.{_⊎_}
@@ -45,6 +45,7 @@ use Rattle.rules.specs.Books.{
   carved as is-carved,
 }
 use Rattle.rules.specs.Blocks.{sizeOf, lastClass, lastStart, capacity}
+use Rattle.laws.specs.Rising.{Rising}
 use Rattle.laws.specs.Plain.{Plain, count as live-blocks, inUse, carved, free}
 use Rattle.laws.specs.Linked.{Doubly, Singly}
 use Rattle.laws.specs.Families.{Family}
@@ -161,3 +162,6 @@ pub record Sound (al A P : ℕ) (h : Heap) (r : Plain) : Type 0 where
       → PoolRule al n (h .memory) (pool A (h .books) count n) (pool A (h .books) freeblock n)
       (pool A (h .books) class n) (pool A (h .books) nextoffset n) (pool A (h .books) maxnextoffset n)
       (r .live n) (r .chain n) (r .virgin n)
+  -- W-203: "CPython keeps the list rising by free pools", and "the audit checks the order last": 'rising' means never
+  -- falling, for arenas may have equally many
+  pub rule9 : Rising (free P r) (r .usable)

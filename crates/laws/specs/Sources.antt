@@ -95,7 +95,7 @@ use Rattle.laws.specs.Plain.{
 use Rattle.laws.specs.Counting.{many-none, many-all, many-le}
 use Rattle.laws.specs.Chains.{Blocks}
 use Rattle.laws.specs.Sound.{Sound}
-use Rattle.laws.specs.Held.{Held, held, InClassOf, classed, use-class, no-freed, freed-is, usable-is, unused-is, home-freed, home-away, base-usable}
+use Rattle.laws.specs.Held.{Held, held, InClassOf, classed, use-class, usable-word, no-freed, freed-is, unused-is, home-freed, home-away, base-usable}
 use Rattle.laws.specs.Paths.{quiet-same, Hand, hand-out, Grows, grows-same, Asked, asked}
 use Rattle.laws.specs.Emptied.{put-zero}
 use Rattle.laws.specs.AskListed.{front-of, ask-listed}
@@ -192,11 +192,8 @@ module _ {al A P c : ℕ} {h : Heap} {r : Plain} (L : Aligned al)
     la : a < A
     la = front .low
 
-    open-free : (r .mark a ≢ 0) × (free P r a ≢ 0)
-    open-free = usable-is P r a (sym (F .arenas a la .base-is) ∙ front .is)
-
-    free-word : arena b 2 a ≡ free P r a
-    free-word = K .arenas 2 a (omega arith) la ∙ F .arenas a la .free-is ∙ rw (ne-eqb (r .mark a) 0 (open-free .0))
+    open-free : (r .mark a ≢ 0) × (free P r a ≢ 0) × (arena b 2 a ≡ free P r a)
+    open-free = usable-word L K F a front
 
     usable-first : (q : AskPlan) → fromUsable al A P h c a ≡ q → planAsk al A P h c ≡ q
     unfolding planAsk
@@ -208,8 +205,8 @@ module _ {al A P c : ℕ} {h : Heap} {r : Plain} (L : Aligned al)
     counted-is : (q : AskPlan) → counted al A P h c a q ≡ q
     counted-is q =
         rw (
-          le-leb 1 (arena b 2 a) (omega (arith, free-word, open-free .1)),
-          le-leb (arena b 2 a) P (rw free-word (many-le (λ i. not (inUse r (a * P + i))) P)),
+          le-leb 1 (arena b 2 a) (omega (arith, open-free .2, open-free .1)),
+          le-leb (arena b 2 a) P (rw (open-free .2) (many-le (λ i. not (inUse r (a * P + i))) P)),
           arena-may-leave K 2 a (omega arith) la (front .is),
           or-true,
         )
@@ -255,6 +252,9 @@ module _ {al A P c : ℕ} {h : Heap} {r : Plain} (L : Aligned al)
             };
             marked = open-free .0;
             marks = λ x d. refl;
+            behind = others;
+            front = us;
+            order = F .order;
             carved-p = was .1;
             carved-others = λ y l d. refl;
           }
@@ -417,6 +417,9 @@ module _ {al A P c : ℕ} {h : Heap} {r : Plain} (L : Aligned al)
             lists = record { listed = F .lists .listed; freed = F .lists .freed; usable = F .lists .usable; unused = F .lists .unused };
             marked = marked′;
             marks = λ x d. to-other a (r .mark a + 1) (r .mark) x d;
+            behind = others;
+            front = us;
+            order = F .order;
             carved-p = rw (mark-of, at-mark, eq-eqb a a refl) (lt-ltb (r .mark a) (r .mark a + 1) (omega arith));
             carved-others = λ y l d. others-carved y d (ℕ-discrete (y / P) a);
           }
@@ -578,6 +581,9 @@ module _ {al A P c : ℕ} {h : Heap} {r : Plain} (L : Aligned al)
             };
             marked = marked′;
             marks = λ x d. to-other a 1 (r .mark) x d;
+            behind = [];
+            front = refl;
+            order = (tt, tt);
             carved-p = rw (first-of, at-zero, eq-eqb a a refl);
             carved-others = λ y l d. others-carved y d (ℕ-discrete (y / P) a);
           }

@@ -3,7 +3,7 @@
 -- and bytes stand.
 -- Assumes nothing.
 use mathlib.Core.Path.{_≡_, refl, sym, ap, ap₂, _∙_}
-use mathlib.Core.Logic.{_≢_, inl, inr}
+use mathlib.Core.Logic.{_≢_, Ne·symm as flip, inl, inr}
 use mathlib.Core.Bool.{Bool, true, not}
 use mathlib.Core.List.{List}
 use Prim.Native.Nat.{ℕ, _+_, _*_, _/_, _≤_, _<_}
@@ -19,7 +19,8 @@ use Rattle.rules.specs.Blocks.{sizeOf, startOf, linkAt, putLink}
 use Rattle.bits.specs.Map.{put-block, length-put}
 use Rattle.books.specs.Sizes.{Aligned, size-low}
 use Rattle.laws.specs.Update.{to}
-use Rattle.laws.specs.Sequences.{all-map}
+use Rattle.laws.specs.Sequences.{Not, all-map}
+use Rattle.laws.specs.Rising.{Rising, rising-same}
 use Rattle.laws.specs.Books.{View}
 use Rattle.laws.specs.Plain.{Plain, count, inUse, carved, free, howMany}
 use Rattle.laws.specs.Counting.{many-same}
@@ -78,10 +79,17 @@ link-after m p f v l =
 pub count-same : (r r′ : Plain) (y : ℕ) → r′ .live y ≡ r .live y → count r′ y ≡ count r y
 count-same r r′ y e = ap (λ (f : ℕ → Bool). howMany f 512) e
 
-free-same : {p a : ℕ} {r r′ : Plain} (P x : ℕ) → Aside p a r r′ → p / P ≡ a → x ≢ a → free P r′ x ≡ free P r x
+pub free-same : {p a : ℕ} {r r′ : Plain} (P x : ℕ) → Aside p a r r′ → p / P ≡ a → x ≢ a → free P r′ x ≡ free P r x
 free-same {p} {a} {r} {r′} P x T of d =
     many-same (λ i. not (inUse r (x * P + i))) (λ i. not (inUse r′ (x * P + i))) P
     (λ i l. ap (λ (n : ℕ). not (ltb 0 n)) (count-same r r′ (x * P + i) (T .lives (x * P + i) (λ e. d (sym (digits-div x l) ∙ ap (λ (z : ℕ). z / P) e ∙ of)))))
+
+-- so arenas without a rise as they did
+pub order-aside : {p a : ℕ} {r r′ : Plain} (P : ℕ) (xs : List ℕ) → Aside p a r r′ → p / P ≡ a → Not a xs
+    → Rising (free P r) xs
+    → Rising (free P r′) xs
+order-aside {r = r} {r′ = r′} P xs T of n =
+    rising-same (free P r) (free P r′) xs (all-map {R = λ y. free P r′ y ≡ free P r y} (λ y d. free-same P y T of (flip d)) xs n)
 
 -- an arena belongs where its mark and its free pools say
 pub base-same : (r r′ : Plain) (P x : ℕ) → r′ .mark x ≡ r .mark x → free P r′ x ≡ free P r x → base P r′ x ≡ base P r x
@@ -122,7 +130,7 @@ bits-after {al} {A} {P} {U} {m} {k} {r} F p j d l u v n i ln li =
 module _ {al A P p a : ℕ} {U U′ : View} {m m′ k : List ℕ} {r r′ : Plain} (L : Aligned al)
     (F : Says al A P U m k r) (lp : p < A * P) (of : p / P ≡ a) (T : Aside p a r r′)
     (W : Still p a U U′) (Q : PoolSays al P U′ m′ r′ p) (R : ArenaSays P U′ r′ a)
-    (X : ListsSay A U′ r′) (H : HomesAfter al A P p U′ r r′) (M : BytesAfter p m m′) where
+    (X : ListsSay A U′ r′) (Z : Rising (free P r′) (r′ .usable)) (H : HomesAfter al A P p U′ r r′) (M : BytesAfter p m m′) where
   -- the links of another pool's chain stand
   blocks-still : (s y v : ℕ) {free next : ℕ} {live : ℕ → Bool} {chain : List ℕ} → 4 ≤ s → y ≢ p
       → Blocks s y m free next live chain v → Blocks s y m′ free next live chain v
@@ -154,6 +162,7 @@ module _ {al A P p a : ℕ} {U U′ : View} {m m′ k : List ℕ} {r r′ : Plai
         pools = λ n l. pools′ n l (ℕ-discrete n p);
         bits = λ n i ln li. bits-after F p j d lp lj ld n i ln li ∙ ap (λ (g : ℕ → ℕ → Bool). g n i) (sym live-is);
         lists = X;
+        order = Z;
       }
     where
       zero-arena : (w x : ℕ) → 6 ≤ w → w < 8 → x < A → Dec (x ≡ a) → U′ .arena w x ≡ 0

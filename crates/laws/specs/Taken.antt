@@ -2,7 +2,7 @@
 -- the pool is set to the class, or taken again for its own.
 -- Assumes nothing.
 use mathlib.Core.Path.{_≡_, refl, sym, ap, _∙_, subst}
-use mathlib.Core.Logic.{_≢_, inr}
+use mathlib.Core.Logic.{_≢_, Ne·symm as flip, inr}
 use mathlib.Core.Bool.{Bool, true, false, not, _&&_, true≢false, and-false}
 use mathlib.Core.List.{List, [], _∷_}
 use Prim.Native.Nat.{ℕ, suc, _+_, _*_, _-_, _/_, _%_, _≤_, _<_}
@@ -39,14 +39,15 @@ use Rattle.books.specs.Starts.{number-is, first-block}
 use Rattle.books.specs.Known.{in-range}
 use Rattle.books.specs.Sizes.{Aligned, size-low, size-high, capacity-high, capacity-low, class-low}
 use Rattle.laws.specs.Update.{is-false, to, to-same, to-other, to-cong}
-use Rattle.laws.specs.Sequences.{erase}
+use Rattle.laws.specs.Sequences.{Once, erase, erase-front, all-map}
+use Rattle.laws.specs.Rising.{Rising, rising-falls}
 use Rattle.laws.specs.Books.{View, Books, put-pool, put-arena, pool-alone, arena-leaves, poolTo, arenaTo, homeTo, listedTo}
 use Rattle.laws.specs.Plain.{Plain, count, inUse, carved, free, setUsable, setChain, setLive, setListed, setClass, setVirgin}
 use Rattle.laws.specs.Counting.{many-more, none-many}
 use Rattle.laws.specs.Chains.{Blocks, taken, anew, live-below}
 use Rattle.laws.specs.Sound.{base, Sound}
 use Rattle.laws.specs.Held.{Says, ArenaSays, ListsSay, InClassOf, sound, in-class, arena-low, home-listed, base-usable, base-spent}
-use Rattle.laws.specs.Step.{Aside, Still, BytesAfter, homes-same, stepped, link-after, no-bytes}
+use Rattle.laws.specs.Step.{Aside, Still, BytesAfter, free-same, order-aside, homes-same, stepped, link-after, no-bytes}
 use Rattle.laws.specs.Paths.{Quiet, quiet-link, count-on}
 
 -- ---- no block of a pool with no live blocks is live, however high its number
@@ -103,7 +104,8 @@ withArenas usable unused mark freed r =
     }
 
 -- the books b say U₁ then, and the plain heap's arenas are us, un, mark and freed. Pool p, which has no live block,
--- is on no list; all else is as the view U and the plain heap r have it
+-- is on no list, and its arena a is the first of the usable ones, which rise by free pools; all else is as the view U
+-- and the plain heap r have it
 pub record From (al A P p a : ℕ) (b : List ℕ) (U U₁ : View) (r : Plain)
     (us un : List ℕ) (mark : ℕ → ℕ) (freed : ℕ → List ℕ) : Type 0 where
   pub books : Books A (A * P) b U₁
@@ -117,6 +119,9 @@ pub record From (al A P p a : ℕ) (b : List ℕ) (U U₁ : View) (r : Plain)
   pub lists : ListsSay A U₁ (withArenas us un mark freed r)
   pub marked : mark a ≢ 0
   pub marks : (x : ℕ) → x ≢ a → mark x ≡ r .mark x
+  pub behind : List ℕ
+  pub front : us ≡ a ∷ behind
+  pub order : Rising (free P r) us
   pub carved-p : carved P (withArenas us un mark freed r) p ≡ true
   pub carved-others : (y : ℕ) → y < A * P → y ≢ p → carved P (withArenas us un mark freed r) y ≡ carved P r y
 
@@ -263,6 +268,7 @@ module _ {al A P p a c : ℕ} {b m q us un : List ℕ} {U U₁ : View} {r : Plai
         usable = usable-now (eqb (free P r a) 1);
         unused = rw and-false (O .lists .unused);
       })
+      (rw (O .front) (rise (ℕ-discrete (free P r a) 1)))
       (homes-same T (O .carved-others) (λ y l d. to-other p (classHead c) (U₁ .home) y d ∙ O .homes y d ∙ F .pools y l .home-is)) M k 1 lk (omega arith) refl
     where
       r′ : Plain
@@ -279,6 +285,20 @@ module _ {al A P p a c : ℕ} {b m q us un : List ℕ} {U U₁ : View} {r : Plai
       base-now (no z) =
           let e : newView pools .base a ≡ 2 = rw (ne-eqb (free P r a) 1 z) base-a in
           e ∙ sym (base-usable P r′ a (O .marked) (λ u. z (omega (arith, one-less k lk))))
+
+      -- the arena was the first of them, and each once
+      once : Once (a ∷ O .behind)
+      once = rw (O .lists .usable ∙ O .front) at (O .books .lists .row 2 (omega arith) .row .once)
+
+      was-rising : Rising (free P r) (a ∷ O .behind)
+      was-rising = rw (O .front) at (O .order)
+
+      rise : Dec (free P r a ≡ 1) → Rising (free P r′) (spentUsable (eqb (free P r a) 1) a (a ∷ O .behind))
+      rise (yes z) = rw (z, erase-front a (O .behind) once) (order-aside P (O .behind) T (O .of) (once .0) (was-rising .1))
+      rise (no z) =
+          rw (ne-eqb (free P r a) 1 z)
+          (rising-falls (free P r) (free P r′) a (O .behind) (omega (arith, one-less k lk))
+          (all-map {R = λ y. free P r′ y ≡ free P r y} (λ y (d : a ≢ y). free-same P y T (O .of) (flip d)) (O .behind) (once .0)) was-rising)
 
       usable-now : (t : Bool) → (if t && true then erase a (U₁ .arenas 2) else U₁ .arenas 2) ≡ spentUsable t a us
       usable-now true = ap (erase a) (O .lists .usable)

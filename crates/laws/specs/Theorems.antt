@@ -21,6 +21,8 @@ use Rattle.rules.specs.Books.{
   alignmentOf,
   alignment,
   classHead,
+  freePools,
+  arena,
 }
 use Rattle.rules.specs.Blocks.{classOf, sizeOf, lastClass, sizeAt, live, deadNumber}
 use Rattle.rules.specs.View.{part}
@@ -42,6 +44,8 @@ use Rattle.rules.specs.Numbers.{
 }
 use Rattle.books.specs.Sizes.{Aligned, of-sixteen, aligned, size-low}
 use Rattle.laws.specs.Update.{is-false}
+use Rattle.laws.specs.Sequences.{In}
+use Rattle.laws.specs.Rising.{Rising}
 use Rattle.laws.specs.Sound.{Shape}
 use Rattle.laws.specs.Held.{held, head-zero}
 use Rattle.laws.specs.Holding.{
@@ -63,6 +67,7 @@ use Rattle.laws.specs.Calls.{shape-zero, dead-some, view-is, view-size-i
 use Rattle.laws.specs.Free.{live-held, ask-free, ask-bytes, resize-free}
 use Rattle.laws.specs.Roll.{listing-same, listing-count, listing-place, sizeHeld, roll-is}
 use Rattle.laws.specs.NoRoom.{four-full, full-four}
+use Rattle.laws.specs.Usable.{list-rises, list-usable, usable-listed}
 use Rattle.laws.specs.StandIn.{stand-in-means}
 use Rattle.laws.specs.History.{
   Event,
@@ -75,6 +80,8 @@ use Rattle.laws.specs.History.{
   NoSix,
   listing,
   heldBelow,
+  usableList,
+  Usable,
   Full,
 }
 use Rattle.laws.specs.Tied.{Tied, first-format, one-of-two, step, tied}
@@ -130,6 +137,17 @@ module _ (h : Heap) (A P e : ℕ) (ok : format h A P e .answer .number ≡ 0) (e
       (ask x n .answer .number ≡ 4 → Full (alignment x) (arenas x) (pools x) x (classOf (alignment x) n))
       × (Full (alignment x) (arenas x) (pools x) x (classOf (alignment x) n) → ask x n .answer .number ≡ 4)
   four-means n low high = rw (shape .alignment-is, shape .arenas-are, shape .pools-are) (four-full L (T .sound) n low high, full-four L (T .sound) n low high)
+
+  -- ---- 02, W-203: "CPython keeps the list rising by free pools"
+  -- no arena of the usable list has more free pools than one that follows it
+  pub usable-rises : Rising (λ a. arena (end .heap .books) freePools a) (usableList (end .heap))
+  usable-rises = list-rises L (T .sound)
+
+  -- and the list has an arena exactly if it is open and has free pools
+  pub usable-means : (a : ℕ)
+      → (In a (usableList (end .heap)) → Usable (end .heap) a)
+      × (Usable (end .heap) a → In a (usableList (end .heap)))
+  usable-means a = (list-usable L (T .sound) a, usable-listed L (T .sound) a)
 
   -- ---- the entries of the ledger
   -- an offset where something is held is live, and one where nothing is held is not

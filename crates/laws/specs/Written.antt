@@ -98,6 +98,7 @@ module _ {al A P : ℕ} {h : Heap} {r : Plain} (L : Aligned al) (S : Sound al A 
                 };
             bits = F .bits;
             lists = F .lists;
+            order = F .order;
           }
 
   -- what is held elsewhere

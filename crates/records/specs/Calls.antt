@@ -15,7 +15,7 @@ use Rattle.rules.specs.declared.Source.the-variants.{Freed, Carved, Opened}
 use Rattle.rules.specs.declared.AskPlan.{AskPlan}
 use Rattle.rules.specs.declared.AskPlan.the-variants.{NoRoom, Damaged, Follow, Ready, Last, Again, Anew}
 use Rattle.rules.specs.declared.BackPlan.{BackPlan}
-use Rattle.rules.specs.declared.BackPlan.the-variants.{Damaged as Broken, Joins, Stays, Empties, Returns, Releases}
+use Rattle.rules.specs.declared.BackPlan.the-variants.{Damaged as Broken, Joins, Stays, Empties, Moves, Returns, Releases}
 use Rattle.rules.specs.Say.{if_then_else_, only}
 use Rattle.rules.specs.Books.{
   Heap,
@@ -38,7 +38,7 @@ use Rattle.rules.specs.Books.{
   linked,
 }
 use Rattle.rules.specs.Blocks.{largest, classOf, classAt, sizeAt, live, isBlock, deadNumber, liveNumber}
-use Rattle.rules.specs.Lists.{nextAt, previousAt, leave, join, arenaLinks, arenaLeaves}
+use Rattle.rules.specs.Lists.{nextAt, previousAt, leave, join, goInAfter, arenaLinks, arenaLeaves}
 use Rattle.rules.specs.Outcome.{Outcome, outcome, answerOf, done, refused, passing}
 use Rattle.rules.specs.Ask.{takeFrom, arenaOf, spend, alone, afterAsk, askAnswer, askStep}
 use Rattle.rules.specs.GiveBack.{takeBack, empty, release, afterBack, backAnswer, backStep}
@@ -106,7 +106,16 @@ module _ {K : ℕ → Type 0} {b b′ : List ℕ} where
       → ((j : ℕ) → K j
       → (j ≢ head) × (j ≢ previousAt base (linked (at b′ head))) × (j ≢ nextAt base n) × (j ≢ previousAt base n))
       → Same K b b′ → Same K b (join base head n b′)
-  join-kept base head n h k = record { word = λ j l. join-keeps base head _ n b′ j (h j l) ∙ k .word j l }
+  join-kept base head n h k = record { word = λ j l. join-keeps base head _ _ n b′ j (h j l) ∙ k .word j l }
+
+  pub go-in-kept : (base q n : ℕ)
+      → ((j : ℕ) → K j
+      → (j ≢ nextAt base q)
+      × (j ≢ previousAt base (linked (at b′ (nextAt base q))))
+      × (j ≢ nextAt base n)
+      × (j ≢ previousAt base n))
+      → Same K b b′ → Same K b (goInAfter base q n b′)
+  go-in-kept base q n h k = record { word = λ j l. join-keeps base (nextAt base q) _ _ n b′ j (h j l) ∙ k .word j l }
 
 -- a change that is made only where a test holds
 only-kept : {b : List ℕ} (t : Bool) (f : Heap → Heap) (h : Heap) → Kept b (h .books) → Kept b (f h .books)
@@ -180,6 +189,7 @@ module _ (al A P c p f : ℕ) (few : c ≤ 63) {b : List ℕ} where
   back-kept Joins h k = join-kept _ _ _ (λ j l. omega arith) (take-back-kept h k)
   back-kept Stays h k = take-back-kept h k
   back-kept Empties h k = emptied-kept h k
+  back-kept (Moves q) h k = go-in-kept _ _ _ (λ j l. omega arith) (leave-kept _ _ _ (λ j l. omega arith) (emptied-kept h k))
   back-kept Returns h k = join-kept _ _ _ (λ j l. omega arith) (emptied-kept h k)
   back-kept Releases h k = release-kept (p / P) (empty al A P c p f (takeBack al A P c p f h)) (emptied-kept h k)
 
@@ -230,6 +240,7 @@ back-small o Broken = omega arith
 back-small o Joins = omega arith
 back-small o Stays = omega arith
 back-small o Empties = omega arith
+back-small o (Moves q) = omega arith
 back-small o Returns = omega arith
 back-small o Releases = omega arith
 

@@ -17,7 +17,7 @@ use Rattle.rules.specs.declared.Source.the-variants.{Freed, Carved, Opened}
 use Rattle.rules.specs.declared.AskPlan.{AskPlan}
 use Rattle.rules.specs.declared.AskPlan.the-variants.{NoRoom, Damaged, Follow, Ready, Last, Again, Anew}
 use Rattle.rules.specs.declared.BackPlan.{BackPlan}
-use Rattle.rules.specs.declared.BackPlan.the-variants.{Damaged as Broken, Joins, Stays, Empties, Returns, Releases}
+use Rattle.rules.specs.declared.BackPlan.the-variants.{Damaged as Broken, Joins, Stays, Empties, Moves, Returns, Releases}
 use Rattle.rules.specs.Say.{only}
 use Rattle.rules.specs.Books.{
   Heap,
@@ -40,15 +40,16 @@ use Rattle.rules.specs.Books.{
 use Rattle.rules.specs.Blocks.{sizeOf, isStart}
 use Rattle.rules.specs.Lists.{nextAt, previousAt, leave, mayLeave, mayJoin, arenaLinks, poolLinks, arenaLeaves}
 use Rattle.rules.specs.Ask.{takeFrom, arenaOf, spend, alone, afterAsk}
-use Rattle.rules.specs.GiveBack.{emptying, planBack, takeBack, empty, release, afterBack}
+use Rattle.rules.specs.GiveBack.{settling, emptying, planBack, takeBack, empty, afterBack}
 use Rattle.rules.specs.Outcome.{heapOf}
 use Rattle.books.specs.Lists.{Links, links, length-leaveBy, length-joinBy}
 use Rattle.books.specs.Records.{other-word}
 use Rattle.books.specs.Tests.{either, after}
 use Rattle.plans.specs.Fits.{FitsSource, FitsAsk}
 use Rattle.asks.specs.HandOut.{Spends, usable-stays, taken-spends, fewer, spend-stays, spend-leaves, spend-links}
-use Rattle.steps.specs.Backs.{emptied-keeps, takenBack, taken-before, zeroed-keeps}
-use Rattle.records.specs.Calls.{Same, none-written, put-kept, sets-kept, leave-kept, join-kept}
+use Rattle.steps.specs.Arenas.{FitsArena, fits-settling, zeroed-keeps, left-low}
+use Rattle.steps.specs.Backs.{last-fits}
+use Rattle.records.specs.Calls.{Same, none-written, put-kept, sets-kept, leave-kept, join-kept, go-in-kept}
 
 -- in books of A arenas, the class of pool y is the same
 abbrev pub Still : ℕ → ℕ → List ℕ → List ℕ → Type 0
@@ -186,12 +187,22 @@ FitsBack A P b p Broken = Unit
 FitsBack A P b p Joins = Unit
 FitsBack A P b p Stays = Unit
 FitsBack A P b p Empties = Unit
-FitsBack A P b p Returns = at b usableHead ≤ A
-FitsBack A P b p Releases = Links A arenaLinks (p / P) b × (at b unusedHead ≤ A)
+FitsBack A P b p (Moves q) = FitsArena A b (p / P) (Moves q)
+FitsBack A P b p Returns = FitsArena A b (p / P) Returns
+FitsBack A P b p Releases = FitsArena A b (p / P) Releases
 
 module _ (al A P : ℕ) (b : List ℕ) (c p : ℕ) where
   abbrev F : BackPlan → Type 0
   F = FitsBack A P b p
+
+  fits-arena : (q : BackPlan) → FitsArena A b (p / P) q → F q
+  fits-arena Broken t = tt
+  fits-arena Joins t = tt
+  fits-arena Stays t = tt
+  fits-arena Empties t = tt
+  fits-arena (Moves q) t = t
+  fits-arena Returns t = t
+  fits-arena Releases t = t
 
   fits-emptying : F (emptying al A P b c p)
   unfolding emptying
@@ -199,12 +210,7 @@ module _ (al A P : ℕ) (b : List ℕ) (c p : ℕ) where
       after F (mayLeave (A * P) (poolLinks A) p b) _ _ tt
       (λ _. after F (leb (arena b freedHead (p / P)) (A * P)) _ _ tt
       (λ _. after F (leb (arena b freePools (p / P)) (P - 1)) _ _ tt
-      (λ _. either F (eqb (arena b freePools (p / P) + 1) P) _ _
-      (λ _. after F (mayLeave A arenaLinks (p / P) b) _ _ tt
-      (λ leaves. after F (mayJoin A unusedHead b) _ _ tt (λ joins. (links A arenaLinks (p / P) b leaves, leb-true _ A joins))))
-      (λ _. either F (eqb (arena b freePools (p / P) + 1) 1) _ _
-      (λ _. after F (mayJoin A usableHead b) _ _ tt (λ joins. leb-true _ A joins))
-      (λ _. tt)))))
+      (λ _. fits-arena (settling A b (p / P) P) (fits-settling A b (p / P) P))))
 
   pub fits-back : F (planBack al A P b c p)
   unfolding planBack
@@ -219,29 +225,20 @@ module _ (al A P c p f y : ℕ) (few : c ≤ 63) (home : p / P < A) (h : Heap) w
   taken-still : Still A y (h .books) (takeBack al A P c p f h .books)
   taken-still = put-kept _ _ (λ j l. omega arith) (put-kept _ _ (λ j l. omega arith) none-written)
 
-  -- the heap when its pool is emptied
-  abbrev last : Heap
-  last = empty al A P c p f (takeBack al A P c p f h)
+  -- the books when its pool is emptied; what the path knows of the arenas' lists still holds of them
+  abbrev last : List ℕ
+  last = empty al A P c p f (takeBack al A P c p f h) .books
 
-  emptied-still : Still A y (h .books) (last .books)
+  emptied-still : Still A y (h .books) last
   emptied-still =
       put-kept _ _ (λ j l. omega arith) (put-kept _ _ (λ j l. omega arith) (put-kept _ _ (λ j l. omega arith) (put-kept _ _ (λ j l. omega arith)
       (leave-kept _ _ _ (λ j l. omega arith) taken-still))))
 
-  -- the words of the arenas' lists are then as they were
-  list-word : (j : ℕ) → j < 72 + 8 * A → j ≢ classHead c → j ≢ arenaWord freedHead (p / P)
-      → j ≢ arenaWord freePools (p / P) → at (last .books) j ≡ at (h .books) j
-  list-word j l d e g = emptied-keeps A P c p (takenBack A p f (h .books)) j l d e g ∙ taken-before A P c p f (h .books) j l
+  still-fits : (q : BackPlan) → FitsArena A (h .books) (p / P) q → FitsArena A last (p / P) q
+  still-fits = last-fits A P c p f (h .books) few home
 
-  releases-still : Links A arenaLinks (p / P) (h .books) → at (h .books) unusedHead ≤ A
-      → Still A y (h .books) (release al A P c p f (p / P) last .books)
-  releases-still lead low =
-      let next = list-word (nextAt arenaLinks (p / P)) (omega arith) (omega arith) (omega arith) (omega arith) in
-      let previous = list-word (previousAt arenaLinks (p / P)) (omega arith) (omega arith) (omega arith) (omega arith) in
-      let old = zeroed-keeps (p / P) (last .books) .1 ∙ list-word unusedHead (omega arith) (omega arith) (omega arith) (omega arith) in
-      join-kept _ _ _ (λ j l. omega (arith, old))
-      (sets-kept (arenaWord 0 (p / P)) (replicate 8 0) (λ j l. inr (omega arith))
-      (leave-kept _ _ _ (λ j l. omega (arith, next, previous, lead .next, lead .previous)) emptied-still))
+  left-still : Links A arenaLinks (p / P) last → Still A y (h .books) (leave arenaLinks usableHead (p / P) last)
+  left-still t = leave-kept _ _ _ (λ j l. omega (arith, t .next, t .previous)) emptied-still
 
   pub back-still : (q : BackPlan) → FitsBack A P (h .books) p q
       → Still A y (h .books) (afterBack al A P c p f q h .books)
@@ -250,7 +247,11 @@ module _ (al A P c p f y : ℕ) (few : c ≤ 63) (home : p / P < A) (h : Heap) w
   back-still Joins t = join-kept _ _ _ (λ j l. omega arith) taken-still
   back-still Stays t = taken-still
   back-still Empties t = emptied-still
-  back-still Returns t =
-      let old = list-word usableHead (omega arith) (omega arith) (omega arith) (omega arith) in
-      join-kept _ _ _ (λ j l. omega (arith, old, t)) emptied-still
-  back-still Releases t = releases-still (t .0) (t .1)
+  back-still (Moves q) t =
+      let u = still-fits (Moves q) t in
+      go-in-kept _ _ _ (λ j l. omega (arith, u .1, left-low A (p / P) (nextAt arenaLinks q) last (u .0) (u .2))) (left-still (u .0))
+  back-still Returns t = let u = still-fits Returns t in join-kept _ _ _ (λ j l. omega (arith, u)) emptied-still
+  back-still Releases t =
+      let u = still-fits Releases t in
+      join-kept _ _ _ (λ j l. omega (arith, zeroed-keeps (p / P) last .1, u .1))
+      (sets-kept (arenaWord 0 (p / P)) (replicate 8 0) (λ j l. inr (omega arith)) (left-still (u .0)))

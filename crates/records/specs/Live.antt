@@ -18,7 +18,7 @@ use Rattle.rules.specs.declared.Source.the-variants.{Freed}
 use Rattle.rules.specs.declared.AskPlan.{AskPlan}
 use Rattle.rules.specs.declared.AskPlan.the-variants.{NoRoom, Damaged, Follow, Ready, Last, Again, Anew}
 use Rattle.rules.specs.declared.BackPlan.{BackPlan}
-use Rattle.rules.specs.declared.BackPlan.the-variants.{Damaged as Broken, Joins, Stays, Empties, Returns, Releases}
+use Rattle.rules.specs.declared.BackPlan.the-variants.{Damaged as Broken, Joins, Stays, Empties, Moves, Returns, Releases}
 use Rattle.rules.specs.Say.{if_then_else_}
 use Rattle.rules.specs.Books.{
   Heap,
@@ -269,6 +269,7 @@ module _ {al : ℕ} (L : Aligned al) (A P : ℕ) (range : Range A P) where
     plan-given t Joins fits = taken-back t Joins fits refl refl
     plan-given t Stays fits = taken-back t Stays fits refl refl
     plan-given t Empties fits = taken-back t Empties fits refl refl
+    plan-given t (Moves q) fits = taken-back t (Moves q) fits refl refl
     plan-given t Returns fits = taken-back t Returns fits refl refl
     plan-given t Releases fits = taken-back t Releases fits refl refl
 

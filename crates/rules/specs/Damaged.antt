@@ -50,7 +50,8 @@ use Rattle.rules.specs.Lines.{
   rolls,
   has,
   spoil,
-  word,
+  word=,
+  word?,
   link,
   bitIn,
   every,
@@ -72,20 +73,14 @@ inPool p w = poolWord 3 w p
 abbrev inArena : ℕ → ℕ → ℕ
 inArena a w = arenaWord w a
 
--- ---- damage: the word at place i, the link at byte o of memory, the bit of block k of pool p becomes ..
-abbrev word= : ℕ → ℕ → Line
-word= i v = spoil (putWord i v)
-
+-- ---- damage: the link at byte o of memory, the bit of block k of pool p becomes ..
 abbrev link= : ℕ → ℕ → Line
 link= o v = spoil (onMemory (putLink o v))
 
 abbrev bit= : ℕ → ℕ → ℕ → Line
 bit= p k d = spoil (onMap (putMapBit p k d))
 
--- ---- a look: the word at place i, the bit of block k of pool p, word i of the map is ..
-abbrev word? : ℕ → ℕ → Line
-word? i v = has (word i) v
-
+-- ---- a look: the bit of block k of pool p, word i of the map is ..
 abbrev bit? : ℕ → ℕ → ℕ → Line
 bit? p k d = has (bitIn p k) d
 
@@ -513,13 +508,12 @@ emptyFreedHead =
     ∷ word? (inPool 0 poolNext) 9 ∷ word? (inPool 0 poolPrevious) 0 ∷ word? (inPool 8 poolPrevious) 5
     ∷ word? (inArena 0 freedHead) 1 ∷ word? (inPool 0 count) 0 ∷ [])
 
--- "or outside 0 to P − 1 when a pool returns"; "Otherwise its place in the list stays as it was",
--- and the arena's links are not read
+-- "or outside 0 to P − 1 when a pool returns"; the usable head is not read where the arena stays usable
 abbrev emptyFreePools : List Line
 emptyFreePools =
     emptied (word= (inArena 0 freePools) 3 ∷ gives 48 6 0
-    ∷ word= (inArena 0 freePools) 1 ∷ word= (inArena 0 arenaNext) 99 ∷ word= usableHead 99 ∷ gives 48 0 48
-    ∷ word? (inArena 0 freePools) 2 ∷ word? (inArena 0 arenaNext) 99 ∷ word? usableHead 99
+    ∷ word= (inArena 0 freePools) 1 ∷ word= usableHead 99 ∷ gives 48 0 48
+    ∷ word? (inArena 0 freePools) 2 ∷ word? usableHead 99
     ∷ word? (inPool 0 class) 0 ∷ word? (inPool 0 nextoffset) 64 ∷ [])
 
 -- R3: "If free pools is now 1, the arena joins the usable list at the front"

@@ -1,4 +1,4 @@
--- 01 as definitions, in its order, what each call promises, and the four tables that the prover computes about them.
+-- 01 as definitions, in its order, what each call promises, and the five tables that the prover computes about them.
 pub mod Say
 pub mod Books
 pub mod Blocks
@@ -16,5 +16,6 @@ pub mod Whole
 pub mod Lines
 pub mod Cases
 pub mod Damaged
+pub mod Order
 pub mod Sixteen
 pub mod Replays

@@ -7,7 +7,7 @@ use lib.Dec.{eqb}
 use Rattle.rules.specs.declared.Answer.{Answer}
 use Rattle.rules.specs.declared.Sized.{Sized}
 use Rattle.rules.specs.declared.Rolled.{Rolled}
-use Rattle.rules.specs.Books.{Heap, at, inRange, exact, alignmentOf, bit, putBit, mapWord, carved}
+use Rattle.rules.specs.Books.{Heap, at, inRange, exact, alignmentOf, bit, putBit, mapWord, putWord, carved}
 use Rattle.rules.specs.Blocks.{isStart, linkAt, putLink, live, isBlock, liveNumber}
 use Rattle.rules.specs.Lists.{leaveBy, joinBy}
 use Rattle.rules.specs.Outcome.{heapOf}
@@ -29,7 +29,7 @@ use Rattle.rules.specs.Ask.{
   askAnswer,
   askStep,
 }
-use Rattle.rules.specs.GiveBack.{emptying, planBack, afterBack, backAnswer, backStep}
+use Rattle.rules.specs.GiveBack.{walk, emptying, planBack, afterBack, backAnswer, backStep}
 use Rattle.rules.specs.Resize.{giveOld, moved, resizeStep}
 use Rattle.rules.specs.View.{rollBlocks, rollPool, rollPools}
 use Rattle.rules.specs.Numbers.{
@@ -78,6 +78,13 @@ unfoldable pub bitIn : ℕ → ℕ → Heap → ℕ
 unfolding bit
 bitIn p k h = bit (at (h .map) (mapWord p k)) (k % 64)
 
+-- ---- damage, and a look: the word at place i of the books becomes v, is v
+abbrev pub word= : ℕ → ℕ → Line
+word= i v = spoil (putWord i v)
+
+abbrev pub word? : ℕ → ℕ → Line
+word? i v = has (word i) v
+
 -- ---- equal answers, equal lists
 abbrev answers : ℕ → ℕ → Answer → Bool
 answers k o r = eqb (r .number) k && eqb (r .offset) o
@@ -102,7 +109,7 @@ same (x ∷ xs) (y ∷ ys) = eqb x y && same xs ys
 unfoldable pub runs : List Line → Heap → Bool
 unfolding inRange exact alignmentOf bit putBit carved isStart linkAt putLink live isBlock liveNumber leaveBy joinBy
     freshBooks noLink fromFreeblock fromListed setAnew sameClass takeAgain fromMark fromFreed fromUsable fromUnused
-    planAsk takeFrom afterAsk askAnswer askStep emptying planBack afterBack backAnswer backStep
+    planAsk takeFrom afterAsk askAnswer askStep walk emptying planBack afterBack backAnswer backStep
     giveOld moved resizeStep rollBlocks rollPool rollPools rangeNumber editionNumber lengthNumber reachNumber
     fitNumber shapeNumber sizeNumber roomNumber
     format ask giveBack resize view viewSize standIn write rollCall link bitIn

@@ -1,4 +1,5 @@
--- 01, "The steps": to leave a list and to join it at the front, said once for the pools' lists and the arenas'.
+-- 01, "The steps": to leave a list and to join it at the front, said once for the pools' lists and the arenas'. With it
+-- 02's going in after a member (W-203).
 -- Assumes nothing.
 use mathlib.Core.Bool.{Bool, not, _&&_}
 use mathlib.Core.List.{List}
@@ -39,21 +40,26 @@ leaveBy base head next previous n b =
     ▷ put (previousAt base n) 0
 
 -- "To join at the front: next is the old head, previous 0; the old head's previous and the head become this one."
--- The old head being given
-unfoldable pub joinBy : ℕ → ℕ → ℕ → ℕ → List ℕ → List ℕ
-joinBy base head old n b =
+-- 02, W-203: ".. goes in after the last passed, own links first". Its two words being given, and the place of the word
+-- that leads to it: the head, or the next word of the member that it goes in after
+unfoldable pub joinBy : ℕ → ℕ → ℕ → ℕ → ℕ → List ℕ → List ℕ
+joinBy base place next previous n b =
     b
-    ▷ put (nextAt base n) old
-    ▷ put (previousAt base n) 0
-    ▷ only (not (none? old)) (put (previousAt base (linked old)) (linkTo n))
-    ▷ put head (linkTo n)
+    ▷ put (nextAt base n) next
+    ▷ put (previousAt base n) previous
+    ▷ only (not (none? next)) (put (previousAt base (linked next)) (linkTo n))
+    ▷ put place (linkTo n)
 
 -- ---- the same, the words being read from the books
 abbrev pub leave : ℕ → ℕ → ℕ → List ℕ → List ℕ
 leave base head n b = leaveBy base head (at b (nextAt base n)) (at b (previousAt base n)) n b
 
 abbrev pub join : ℕ → ℕ → ℕ → List ℕ → List ℕ
-join base head n b = joinBy base head (at b head) n b
+join base head n b = joinBy base head (at b head) 0 n b
+
+-- n goes in after member q
+abbrev pub goInAfter : ℕ → ℕ → ℕ → List ℕ → List ℕ
+goInAfter base q n b = joinBy base (nextAt base q) (at b (nextAt base q)) (linkTo q) n b
 
 -- ---- what they ask of the words they use, links being at most `most`:
 -- leaving reads own next and previous, joining the old head
@@ -72,6 +78,9 @@ arenaLeaves head a = onBooks (leave arenaLinks head a)
 
 abbrev pub arenaJoins : ℕ → ℕ → Heap → Heap
 arenaJoins head a = onBooks (join arenaLinks head a)
+
+abbrev pub arenaGoesInAfter : ℕ → ℕ → Heap → Heap
+arenaGoesInAfter q a = onBooks (goInAfter arenaLinks q a)
 
 -- ---- the class lists of books of A arenas
 abbrev pub poolLinks : ℕ → ℕ

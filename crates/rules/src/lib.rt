@@ -39,12 +39,14 @@ pub enum AskPlan {
     Anew(Source, usize),
 }
 
-// The path of a give-back: what becomes of the block's pool, and then of the pool's arena.
+// The path of a give-back: what becomes of the block's pool, and then of the pool's arena. Moves has the number of the
+// arena that it passes last.
 pub enum BackPlan {
     Damaged,
     Joins,
     Stays,
     Empties,
+    Moves(usize),
     Returns,
     Releases,
 }

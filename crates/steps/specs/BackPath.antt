@@ -1,23 +1,36 @@
 -- The path of a give-back by the tests that its functions make, of which the rules' definitions are a chain.
 -- Assumes nothing.
 use mathlib.Core.Path.{_≡_, refl, sym, ap, _∙_}
+use mathlib.Core.Logic.{_≢_}
 use mathlib.Core.Bool.{Bool, true, false, _&&_, _||_}
 use mathlib.Core.List.{List}
 use Prim.Native.Nat.{ℕ, _+_, _*_, _-_, _/_, _%_}
 use lib.Dec.{leb, eqb}
 use borrow.Author.Tests.{eq-eqb, ne-eqb}
 use Rattle.rules.specs.declared.BackPlan.{BackPlan}
-use Rattle.rules.specs.declared.BackPlan.the-variants.{Damaged, Joins, Stays, Empties, Returns, Releases}
+use Rattle.rules.specs.declared.BackPlan.the-variants.{Damaged, Joins, Stays, Empties, Moves, Returns, Releases}
 use Rattle.rules.specs.Say.{if_then_else_, _▷_}
-use Rattle.rules.specs.Books.{Heap, onBooks, usableHead, unusedHead, classHead, freePools, freedHead, arena, none?}
+use Rattle.rules.specs.Books.{Heap, onBooks, classHead, freePools, freedHead, arena, none?}
 use Rattle.rules.specs.Blocks.{sizeOf, isStart, classAt}
-use Rattle.rules.specs.Lists.{join, mayLeave, mayJoin, arenaLinks}
+use Rattle.rules.specs.Lists.{mayJoin}
 use Rattle.rules.specs.Outcome.{Outcome, outcome, answerOf}
-use Rattle.rules.specs.GiveBack.{_⇛_, emptying, planBack, takeBack, empty, backAnswer, afterBack, givenBack, backStep}
+use Rattle.rules.specs.GiveBack.{
+  _⇛_,
+  settling,
+  emptying,
+  planBack,
+  takeBack,
+  empty,
+  backAnswer,
+  afterBack,
+  givenBack,
+  backStep,
+}
 use Rattle.books.specs.declared.pool.Pool.{Pool}
 use Rattle.books.specs.Lists.{pool-may-leave}
 use Rattle.books.specs.Records.{poolAt, mayGive, linksLead}
-use Rattle.steps.specs.Backs.{gave, mayEmpty, maySettle, released, settled}
+use Rattle.steps.specs.Arenas.{FitsArena, settled}
+use Rattle.steps.specs.Backs.{gave, mayEmpty}
 
 -- a give-back whose class and path are known, and so what it leaves
 pub step-is : (al A P c : ℕ) (h : Heap) (o : ℕ) (x : Outcome) (q : BackPlan) → c ≡ classAt A (h .books) o
@@ -71,51 +84,39 @@ module _ (al A P : ℕ) (b : List ℕ) (c p : ℕ) (q : Pool) (loaded : q ≡ po
   joins t z u = rw (plan-is (sizeOf al c) (q .freeblock) refl refl, t, eq-eqb (q .freeblock) 0 z, u)
 
 -- ---- and of the last block of its pool, whose arena a has so many free pools
--- what becomes of the arena
-abbrev pub settling : ℕ → ℕ → BackPlan
-settling P free = if eqb (free + 1) P then Releases else if eqb (free + 1) 1 then Returns else Empties
-
--- the rules of a path, made one test
-one-test : (x y z l u j all first : Bool)
-    → (x ⇛ y ⇛ z ⇛ (if all then l ⇛ u ⇛ Releases else if first then j ⇛ Returns else Empties))
-    ≡ (((x && y && z) && (if all then l && u else if first then j else true))
-    ⇛ (if all then Releases else if first then Returns else Empties))
-one-test true true true true u j true first = refl
-one-test true true true false u j true first = refl
-one-test true true true l u j false true = refl
-one-test true true true l u j false false = refl
-one-test true true false l u j all first = refl
-one-test true false z l u j all first = refl
-one-test false y z l u j all first = refl
+-- the rules of the pool's return, made one test
+one-test : (x y z : Bool) (rest : BackPlan) → (x ⇛ y ⇛ z ⇛ rest) ≡ (x && y && z ⇛ rest)
+one-test true true z rest = refl
+one-test true false z rest = refl
+one-test false y z rest = refl
 
 module _ (al A P : ℕ) (b : List ℕ) (c p a free : ℕ) (q : Pool) (loaded : q ≡ poolAt A b p)
     (home : a ≡ p / P) (so-many : free ≡ arena b freePools a) where
-  emptying-is : emptying al A P b c p ≡ (mayEmpty A P a q free b && maySettle A P a free b ⇛ settling P free)
+  emptying-is : emptying al A P b c p ≡ (mayEmpty A P a q free b ⇛ settling A b a P)
   unfolding emptying
   emptying-is =
-      rw (← home, ← so-many, loaded, pool-may-leave (A * P) A p b)
-      (one-test (linksLead (poolAt A b p) (A * P)) (leb (arena b freedHead a) (A * P)) (leb free (P - 1)) (mayLeave A arenaLinks a b)
-      (mayJoin A unusedHead b) (mayJoin A usableHead b) (eqb (free + 1) P) (eqb (free + 1) 1))
+      rw (so-many, home, loaded, pool-may-leave (A * P) A p b)
+      (one-test (linksLead (poolAt A b p) (A * P)) (leb (arena b freedHead (p / P)) (A * P)) (leb (arena b freePools (p / P)) (P - 1))
+      (settling A b (p / P) P))
 
-  pub stuck : mayEmpty A P a q free b && maySettle A P a free b ≡ false → emptying al A P b c p ≡ Damaged
+  pub stuck : mayEmpty A P a q free b ≡ false → emptying al A P b c p ≡ Damaged
   stuck t = rw (emptying-is, t)
 
-  pub settles : mayEmpty A P a q free b && maySettle A P a free b ≡ true → emptying al A P b c p ≡ settling P free
+  pub settles : mayEmpty A P a q free b ≡ true → emptying al A P b c p ≡ settling A b a P
   settles t = rw (emptying-is, t)
 
 -- what a give-back leaves that empties its pool: the block is taken back, the pool goes to its arena, and the arena
 -- is settled
-pub emptied-settled : (al A P c : ℕ) (h : Heap) (o free : ℕ)
-    → givenBack al A P c h o (settling P free)
+pub emptied-settled : (al A P c : ℕ) (h : Heap) (o : ℕ) (plan : BackPlan)
+    → FitsArena A (h .books) (o / 4096 / P) plan → plan ≢ Damaged
+    → givenBack al A P c h o plan
     ≡ outcome (answerOf 0 o) (h ▷ takeBack al A P c (o / 4096) (o % 4096) ▷ empty al A P c (o / 4096) (o % 4096)
-    ▷ onBooks (settled P (o / 4096 / P) free))
+    ▷ onBooks (settled (o / 4096 / P) plan))
 unfolding backAnswer afterBack
-emptied-settled al A P c h o free = go (eqb (free + 1) P) (eqb (free + 1) 1)
-  where
-    go : (all first : Bool) → givenBack al A P c h o (if all then Releases else if first then Returns else Empties)
-        ≡ outcome (answerOf 0 o) (h ▷ takeBack al A P c (o / 4096) (o % 4096) ▷ empty al A P c (o / 4096) (o % 4096)
-        ▷ onBooks (λ b. if all then released (o / 4096 / P) b
-        else if first then join arenaLinks usableHead (o / 4096 / P) b else b))
-    go true first = refl
-    go false true = refl
-    go false false = refl
+emptied-settled al A P c h o Damaged t d = absurd (d refl)
+emptied-settled al A P c h o Joins t d = absurd t
+emptied-settled al A P c h o Stays t d = absurd t
+emptied-settled al A P c h o Empties t d = refl
+emptied-settled al A P c h o (Moves q) t d = refl
+emptied-settled al A P c h o Returns t d = refl
+emptied-settled al A P c h o Releases t d = refl

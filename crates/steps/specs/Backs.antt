@@ -1,17 +1,19 @@
 -- The books after each part of a give-back, and the words that a part leaves as they were for the next.
 -- Assumes nothing.
 use mathlib.Core.Path.{_≡_, refl, _∙_}
-use mathlib.Core.Logic.{_≢_, inl}
+use mathlib.Core.Logic.{_≢_}
 use mathlib.Core.Bool.{Bool, true, _&&_}
 use mathlib.Core.List.{List, []}
 use Prim.Native.Nat.{ℕ, zero, suc, _+_, _*_, _-_, _/_, _%_, _≤_, _<_}
 use native.Mathlib.Omega.{arith}
 use borrow.Author.Tests.{leb-true}
-use lib.Dec.{leb, eqb}
-use lib.ListN.{length, length-set, replicate}
-use lib.Seq.{getD-set-other, sets, length-sets}
+use lib.Dec.{leb}
+use lib.ListN.{length, length-set}
+use lib.Seq.{getD-set-other}
 use Rattle.rules.specs.declared.Answer.{Answer}
-use Rattle.rules.specs.Say.{if_then_else_, _▷_}
+use Rattle.rules.specs.declared.BackPlan.{BackPlan}
+use Rattle.rules.specs.declared.BackPlan.the-variants.{Damaged, Joins, Stays, Empties, Moves, Returns, Releases}
+use Rattle.rules.specs.Say.{_▷_}
 use Rattle.rules.specs.Books.{
   Heap,
   at,
@@ -31,8 +33,8 @@ use Rattle.rules.specs.Books.{
   pool,
 }
 use Rattle.rules.specs.Blocks.{sizeOf, blockNo, classAt, sizeAt}
-use Rattle.rules.specs.Lists.{nextAt, previousAt, leave, join, mayLeave, mayJoin, arenaLinks, poolLinks}
-use Rattle.rules.specs.GiveBack.{takeBack, empty, release}
+use Rattle.rules.specs.Lists.{nextAt, previousAt, leave, arenaLinks, poolLinks}
+use Rattle.rules.specs.GiveBack.{takeBack, empty}
 use Rattle.rules.specs.Outcome.{heapOf, answerOf, passing}
 use Rattle.books.specs.declared.pool.Pool.{Pool}
 use Rattle.books.specs.Sizes.{Aligned, size-low, size-high, class-low}
@@ -40,8 +42,8 @@ use Rattle.books.specs.Known.{LiveBlock}
 use Rattle.books.specs.Records.{poolAt, mayGive, linksLead, leads}
 use Rattle.books.specs.Starts.{Start}
 use Rattle.books.specs.Tests.{both}
-use Rattle.books.specs.Lists.{leave-keeps, length-leaveBy, pool-leave-keeps}
-use Rattle.loops.specs.Sets.{sets-other}
+use Rattle.books.specs.Lists.{Links, leave-keeps, length-leaveBy, pool-leave-keeps}
+use Rattle.steps.specs.Arenas.{FitsArena, before-links}
 
 -- ---- what a give-back answers, as one number, which comes back in a register
 -- of offset o: its number
@@ -126,23 +128,6 @@ freedFirst A a p b =
 abbrev pub emptied : ℕ → ℕ → ℕ → ℕ → List ℕ → List ℕ
 emptied A P c p b = empty 0 A P c p 0 (heapOf [] b []) .books
 
-abbrev pub released : ℕ → List ℕ → List ℕ
-released a b = release 0 0 0 0 0 0 a (heapOf [] b []) .books
-
--- ---- arena a, which had so many free pools, has one more: all are free and it is released, or it had none and is
--- usable again, or neither
--- what the rules ask of it
-abbrev pub maySettle : ℕ → ℕ → ℕ → ℕ → List ℕ → Bool
-maySettle A P a free b =
-    if eqb (free + 1) P then mayLeave A arenaLinks a b && mayJoin A unusedHead b
-    else if eqb (free + 1) 1 then mayJoin A usableHead b
-    else true
-
--- its part of the writes
-abbrev pub settled : ℕ → ℕ → ℕ → List ℕ → List ℕ
-settled P a free b =
-    if eqb (free + 1) P then released a b else if eqb (free + 1) 1 then join arenaLinks usableHead a b else b
-
 -- ---- the pool's freeblock and count are all that the block's return writes
 module _ (A p f : ℕ) (b : List ℕ) where
   pub taken-keeps : (j : ℕ) → j ≢ poolWord A freeblock p → j ≢ poolWord A count p → at (takenBack A p f b) j ≡ at b j
@@ -152,10 +137,6 @@ module _ (A p f : ℕ) (b : List ℕ) where
   length-taken = simp length-set
 
 -- ---- the return of the pool to its arena leaves the first heads and the arenas' links
--- a place before the first link is none of the links
-before-links : (base j n : ℕ) → j < base → (j ≢ nextAt base n) × (j ≢ previousAt base n)
-before-links base j n h = (omega arith, omega arith)
-
 module _ (A P c p : ℕ) (b : List ℕ) where
   -- word j stands before the pool records and is neither the class head nor the arena's freed-pool head or free pools
   pub emptied-keeps : (j : ℕ) → j < 72 + 8 * A → j ≢ classHead c → j ≢ arenaWord freedHead (p / P)
@@ -190,28 +171,6 @@ pub left-keeps : (A c p a : ℕ) (b : List ℕ) → a < A → classHead c < 72
     × (arena (leave (poolLinks A) (classHead c) p b) freePools a ≡ arena b freePools a)
 left-keeps A c p a b l h = (length-leaveBy (poolLinks A) (classHead c) _ _ p b, pool-leave-keeps A (classHead c) _ _ p b freePools a h l (omega arith))
 
--- the books in the middle of a release: the arena has left the usable list, and its record is 0
-abbrev pub zeroed : ℕ → List ℕ → List ℕ
-zeroed a b = sets (leave arenaLinks usableHead a b) (arenaWord 0 a) (replicate 8 0)
-
--- they keep their length and the unused head
-pub zeroed-keeps : (a : ℕ) (b : List ℕ)
-    → (length (zeroed a b) ≡ length b) × (at (zeroed a b) unusedHead ≡ at b unusedHead)
-zeroed-keeps a b =
-    let next = at b (nextAt arenaLinks a) in
-    let previous = at b (previousAt arenaLinks a) in
-    let before : 3 < arenaLinks = omega arith in (
-      length-sets (leave arenaLinks usableHead a b) (arenaWord 0 a) (replicate 8 0) ∙ length-leaveBy arenaLinks usableHead next previous a b,
-      sets-other (leave arenaLinks usableHead a b) (arenaWord 0 a) (replicate 8 0) unusedHead (inl (omega arith))
-          ∙ leave-keeps arenaLinks usableHead next previous a b unusedHead (
-            omega arith,
-            before-links arenaLinks 3 (previous - 1) before .0,
-            before-links arenaLinks 3 (next - 1) before .1,
-            before-links arenaLinks 3 a before .0,
-            before-links arenaLinks 3 a before .1,
-          ),
-    )
-
 -- ---- what the next part of a give-back knows of the books that the parts before it leave
 module _ (A P c p f : ℕ) (b : List ℕ) where
   pub taken-before : (j : ℕ) → j < 72 + 8 * A → at (takenBack A p f b) j ≡ at b j
@@ -240,12 +199,23 @@ module _ (A P c p f : ℕ) (b : List ℕ) where
       → j ≢ arenaWord freePools (p / P) → at last j ≡ at b j
   last-link few j h k d e = emptied-keeps A P c p (takenBack A p f b) j h (omega arith) d e ∙ taken-before j h
 
-  -- so what the rules ask of the arena can be tested before the first write
-  pub may-settle-last : c ≤ 63 → p / P < A → (free : ℕ) → maySettle A P (p / P) free last ≡ maySettle A P (p / P) free b
-  may-settle-last few l free =
-      rw (
-        last-head usableHead (omega arith),
-        last-head unusedHead (omega arith),
-        last-link few (nextAt arenaLinks (p / P)) (omega arith) (omega arith) (omega arith) (omega arith),
-        last-link few (previousAt arenaLinks (p / P)) (omega arith) (omega arith) (omega arith) (omega arith),
-      )
+  last-links : c ≤ 63 → p / P < A → Links A arenaLinks (p / P) b → Links A arenaLinks (p / P) last
+  last-links few l t =
+      record {
+        next = rw (last-link few (nextAt arenaLinks (p / P)) (omega arith) (omega arith) (omega arith) (omega arith)) (t .next);
+        previous = rw (last-link few (previousAt arenaLinks (p / P)) (omega arith) (omega arith) (omega arith) (omega arith)) (t .previous);
+      }
+
+  -- so what the arena's path knows can be tested before the first write
+  pub last-fits : c ≤ 63 → p / P < A → (plan : BackPlan) → FitsArena A b (p / P) plan → FitsArena A last (p / P) plan
+  last-fits few l Damaged t = tt
+  last-fits few l Joins t = t
+  last-fits few l Stays t = t
+  last-fits few l Empties t = tt
+  last-fits few l (Moves q) t = (
+    last-links few l (t .0),
+    t .1,
+    rw (last-link few (nextAt arenaLinks q) (omega arith) (omega arith) (omega arith) (omega arith)) (t .2),
+  )
+  last-fits few l Returns t = rw (last-head usableHead (omega arith)) t
+  last-fits few l Releases t = (last-links few l (t .0), rw (last-head unusedHead (omega arith)) (t .1))

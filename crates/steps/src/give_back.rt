@@ -1,9 +1,12 @@
 // A give-back: the record of the block's pool is loaded once, the path is decided from it and from the books before,
-// and then written: the block, then its pool's list, then its arena's. The path is no value in between, and the answer
-// is a number, which comes back in a register.
+// and then written: the block, then its pool's list, then its arena's. Only the arena's part of the path is a value in
+// between, and the answer is a number, which comes back in a register.
+use crate::walk::keeps;
+use crate::walk::walk;
 use bits::clear_bit;
 use books::blocks::is_start;
 use books::links::put_link;
+use books::lists::go_in_after;
 use books::lists::join;
 use books::lists::leave;
 use books::lists::leave_by;
@@ -34,6 +37,7 @@ use books::words::arena_of;
 use books::words::arena_word;
 use books::words::index;
 use loops::put_words;
+use rules::BackPlan;
 ghost use mathlib.Core.Path.{_≡_};
 ghost use mathlib.Core.Bool.{true};
 ghost use Prim.Native.Nat.{_+_, _*_, _-_, _/_, _%_, _^_, _<_, _≤_};
@@ -49,15 +53,15 @@ ghost use Rattle.rules.specs.Books.{
   poolWord,
 };
 ghost use Rattle.rules.specs.Blocks.{blockNo, sizeAt};
-ghost use Rattle.rules.specs.Lists.{arenaLinks};
+ghost use Rattle.rules.specs.Lists.{nextAt, arenaLinks};
 ghost use Rattle.rules.specs.Outcome.{heapOf, outcome};
-ghost use Rattle.rules.specs.GiveBack.{takeBack, emptying, givenBack, backStep};
+ghost use Rattle.rules.specs.GiveBack.{settling, takeBack, emptying, givenBack, backStep};
 ghost use Rattle.rules.specs.Resize.{giveOld};
 ghost use Rattle.books.specs.Known.{Shaped, LiveBlock};
 ghost use Rattle.plans.specs.Class.{Range};
 ghost use Rattle.books.specs.Lists.{Links};
 ghost use Rattle.steps.specs.Backs.{gave, Counted, mayEmpty, FitsEmpty, freedFirst, emptied};
-ghost use Rattle.steps.specs.Backs.{released, maySettle, settled};
+ghost use Rattle.steps.specs.Arenas.{FitsArena, movedAfter, released, settled};
 
 // The block at f, of number k, goes to the front of the freed blocks of pool p, whose record is given.
 fn take_back(
@@ -125,19 +129,33 @@ fn release(books: &mut [u32], arenas: usize, pools: usize, a: usize)
     join(books, arenas, ARENA_LINKS, UNUSED_HEAD, a);
 }
 
-// Arena a, which had so many free pools, has one more: where all are free it is released, where it had none it is
-// usable again.
-fn settle(books: &mut [u32], arenas: usize, pools: usize, a: usize, free: usize)
-    requires { ⌜ Range arenas pools × (length (now books) ≡ booksLength arenas pools) × (a < arenas) × (free < 2 ^ 32)
-        × (maySettle arenas pools a free (now books) ≡ true) ⌝ }
-    ensures { λ _. ⌜ now (books .exit) ≡ settled pools a free (now (books .entry)) ⌝ }
+// Arena a leaves the usable list and goes in after arena q.
+fn move_after(books: &mut [u32], arenas: usize, pools: usize, q: usize, a: usize)
+    requires { ⌜ Range arenas pools × (length (now books) ≡ booksLength arenas pools) × (a < arenas)
+        × FitsArena arenas (now books) a (BackPlan.Moves q) ⌝ }
+    ensures { λ _. ⌜ now (books .exit) ≡ movedAfter q a (now (books .entry)) ⌝ }
 {
-    if free + 1 == pools {
-        release(books, arenas, pools, a);
-        return;
-    }
-    if free + 1 == 1 {
-        join(books, arenas, ARENA_LINKS, USABLE_HEAD, a);
+    leave(books, arenas, ARENA_LINKS, USABLE_HEAD, a);
+    go_in_after(books, arenas, ARENA_LINKS, q, a);
+}
+
+// What becomes of arena a, one of whose pools has come free, is written.
+fn settle(books: &mut [u32], arenas: usize, pools: usize, a: usize, plan: BackPlan)
+    requires { ⌜ Range arenas pools × (length (now books) ≡ booksLength arenas pools) × (a < arenas)
+        × FitsArena arenas (now books) a plan ⌝ }
+    ensures { λ _. ⌜ now (books .exit) ≡ settled a plan (now (books .entry)) ⌝ }
+{
+    match plan {
+        BackPlan::Moves(q) => {
+            move_after(books, arenas, pools, q, a);
+        }
+        BackPlan::Returns => {
+            join(books, arenas, ARENA_LINKS, USABLE_HEAD, a);
+        }
+        BackPlan::Releases => {
+            release(books, arenas, pools, a);
+        }
+        _ => {}
     }
 }
 
@@ -150,19 +168,23 @@ fn may_empty(books: &[u32], arenas: usize, pools: usize, a: usize, pool: Pool, f
     pool.may_leave(all) & (arena_word(books, FREED_HEAD, a) <= all) & (free <= pools - 1)
 }
 
-// The arena's links, and the head of the list that it would join, lead somewhere.
-fn may_settle(books: &[u32], arenas: usize, pools: usize, a: usize, free: usize) -> bool
+// What will become of arena a, which has so many free pools and gets one more: where all are free it is released, where
+// it had none it is usable again, otherwise it walks.
+fn settling(books: &[u32], arenas: usize, pools: usize, a: usize, free: usize) -> BackPlan
     requires { ⌜ Range arenas pools × (length (now books) ≡ booksLength arenas pools)
-        × (a < arenas) × (free < 2 ^ 32) ⌝ }
-    ensures { λ r. ⌜ r ≡ maySettle arenas pools a free (now (books .entry)) ⌝ }
+        × (a < arenas) × (free < 2 ^ 32) × (free ≡ arena (now books) freePools a) ⌝ }
+    ensures { λ r. ⌜ r ≡ settling arenas (now (books .entry)) a pools ⌝ }
 {
     if free + 1 == pools {
-        return may_leave(books, arenas, ARENA_LINKS, a) & may_join(books, arenas, UNUSED_HEAD);
+        return keeps(
+            may_leave(books, arenas, ARENA_LINKS, a),
+            keeps(may_join(books, arenas, UNUSED_HEAD), BackPlan::Releases),
+        );
     }
-    if free + 1 == 1 {
-        return may_join(books, arenas, USABLE_HEAD);
+    if free == 0 {
+        return keeps(may_join(books, arenas, USABLE_HEAD), BackPlan::Returns);
     }
-    true
+    walk(books, arenas, a, free + 1)
 }
 
 // A give-back with which the pool falls to count 0: 0, or 6.
@@ -187,14 +209,16 @@ fn back_last(
     let p = offset / 4096;
     let a = arena_of(shape.arenas, shape.pools, p);
     let free = arena_word(books, FREE_POOLS, a);
-    let may = may_empty(books, shape.arenas, shape.pools, a, pool, free)
-        & may_settle(books, shape.arenas, shape.pools, a, free);
-    if !may {
+    if !may_empty(books, shape.arenas, shape.pools, a, pool, free) {
+        return DAMAGED;
+    }
+    let plan = settling(books, shape.arenas, shape.pools, a, free);
+    if let BackPlan::Damaged = plan {
         return DAMAGED;
     }
     take_back(memory, books, map, shape, p, pool, offset % 4096, k);
     empty_pool(books, shape.arenas, shape.pools, a, p, pool);
-    settle(books, shape.arenas, shape.pools, a, free);
+    settle(books, shape.arenas, shape.pools, a, plan);
     0
 }
 

@@ -1,7 +1,8 @@
-//! 01's cases, W-206's, W-211's and W-214's, for any program behind the calls. Each number is 01's, or follows from the
-//! sentence that its case names.
+//! 01's cases, W-203's, W-206's, W-211's and W-214's, for any program behind the calls. Each number is 01's, or follows
+//! from the sentence that its case names.
 
 use crate::desk::*;
+use crate::order;
 use crate::readings;
 use crate::sixteen;
 use crate::steps::Call::*;
@@ -11,9 +12,9 @@ use crate::{Answer, Calls, Place};
 /// A case by its name. It panics where the program answers otherwise.
 pub type Case = (&'static str, fn(&mut dyn Calls));
 
-/// Every case: 01's own, W-206's, W-214's, W-211's and those of the readings.
+/// Every case: 01's own, W-206's, W-214's, W-211's, W-203's and those of the readings.
 pub fn all() -> Vec<Case> {
-    [PAPER, SPLIT, STAND_IN, sixteen::CASES, readings::CASES].concat()
+    [PAPER, SPLIT, STAND_IN, sixteen::CASES, order::CASES, order::READINGS, readings::CASES].concat()
 }
 
 const PAPER: &[Case] = &[
@@ -257,7 +258,7 @@ fn roll_call(calls: &mut dyn Calls) {
     assert_eq!(desk.roll(5), (Answer { number: 7, value: 0 }, vec![stays; 5]));
 }
 
-/// The arena that is usable again comes first, whatever room the others have.
+/// The arena that is usable again comes first and, with a second free pool, moves back past the other (W-203).
 fn two_usable_arenas(calls: &mut dyn Calls) {
     let mut desk = Desk::fresh(calls, 2, 3);
     for (n, size) in [8, 16, 24, 32, 40, 48].into_iter().enumerate() {
@@ -266,7 +267,7 @@ fn two_usable_arenas(calls: &mut dyn Calls) {
     for pool in [0, 3, 4] {
         desk.done(GiveBack { offset: 4096 * pool + 48 }, 4096 * pool as u32 + 48);
     }
-    desk.done(Ask { size: 56 }, 16_432);
+    desk.done(Ask { size: 56 }, 48);
 }
 
 /// The last arena is released as well, and is carved again from its first pool.

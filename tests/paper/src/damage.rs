@@ -1,5 +1,5 @@
 //! Seeded sequences of steps: heaps reached by calls, heaps that are spoilt on the way, and heaps made up at random, of
-//! one edition or the other.
+//! one edition or the other, with pools of few classes or with most pools of a class of their own.
 
 use std::collections::VecDeque;
 
@@ -83,7 +83,9 @@ pub struct Source {
     pub pools: usize,
     /// The edition that format was last told, or that the heap was made up in.
     pub edition: usize,
-    /// The block sizes that are asked for; few of them, so that pools fill and empty.
+    /// Whether most pools come to have a class of their own, so that whole pools come free and their arenas move.
+    apart: bool,
+    /// The block sizes that are asked for; few of them, so that pools fill and empty, or as many as make pools apart.
     sizes: Vec<usize>,
     /// The offsets that were handed out and not given back, as far as the answers tell.
     held: Vec<usize>,
@@ -103,28 +105,35 @@ impl Source {
     pub fn new(seed: u64) -> Source {
         let mut rng = Rng::new(seed);
         let large = rng.one_in(100);
-        let (arenas, pools) = if large {
-            (rng.between(1, 16), rng.between(2, 64))
-        } else {
-            rng.pick(&[(1, 2), (1, 2), (1, 3), (1, 4), (2, 2), (2, 2), (2, 3), (3, 2), (3, 3), (4, 2)])
-        };
         let kind = match rng.below(16) {
             0 => Kind::Sound,
             1..=7 => Kind::Spoilt,
             _ => Kind::MadeUp,
         };
-        let calls_left = match kind {
-            _ if large => rng.between(8, 400),
-            Kind::Sound => rng.between(100, 1600),
-            Kind::Spoilt => rng.between(40, 400),
-            Kind::MadeUp => rng.between(8, 64),
-        };
+        let apart = kind != Kind::MadeUp && !large && rng.one_in(4);
+        let (arenas, pools) = shape(&mut rng, large, apart);
+        let calls_left = how_many_calls(&mut rng, kind, large);
         let edition = rng.below(2);
-        let sizes = sizes(&mut rng, kind, 8 + 8 * edition);
-        let (held, gone, waiting, mends) = (Vec::new(), VecDeque::new(), VecDeque::new(), Vec::new());
-        let (rise, stuck) = (80, 0);
-        let mut source =
-            Source { rng, kind, arenas, pools, edition, sizes, held, gone, rise, calls_left, stuck, waiting, mends };
+        let alignment = 8 + 8 * edition;
+        let sizes = if apart { each_size(2 * arenas * pools, alignment) } else { sizes(&mut rng, kind, alignment) };
+        let (held, gone, rise, stuck) = (Vec::new(), VecDeque::new(), 80, 0);
+        let (waiting, mends) = (VecDeque::new(), Vec::new());
+        let mut source = Source {
+            rng,
+            kind,
+            arenas,
+            pools,
+            edition,
+            apart,
+            sizes,
+            held,
+            gone,
+            rise,
+            calls_left,
+            stuck,
+            waiting,
+            mends,
+        };
         source.begin();
         source
     }
@@ -205,20 +214,26 @@ impl Source {
             let wrong = self.wrong_lengths();
             let call = if self.rng.one_in(4) { self.format() } else { self.call(heap, wrong[0]) };
             self.waiting.extend([Step::Lend(wrong), Step::Call(call), Step::Lend(exact)]);
-        } else if self.kind != Kind::Sound && self.rng.one_in(60) {
-            self.take_again(heap);
-        } else if self.kind != Kind::Sound && self.rng.one_in(60) {
-            self.go_to_the_split(heap);
-        } else if self.kind != Kind::Sound && self.rng.one_in(60) {
-            self.go_to_the_shape(heap);
-        } else if self.kind != Kind::Sound && self.rng.one_in(60) {
-            self.go_to_the_last_class(heap);
-        } else if self.kind != Kind::Sound && self.rng.one_in(60) {
-            self.go_to_the_count(heap);
-        } else {
+        } else if self.apart && self.rng.one_in(6) {
+            self.empty_a_pool(heap);
+        } else if self.kind == Kind::Sound || !self.go_to_an_edge(heap) {
             let call = self.call(heap, exact[0]);
             self.waiting.push_back(Step::Call(call));
         }
+    }
+
+    /// Now and then, where the heap need not be sound, a call meets words that lie on one side or the other of a rule.
+    fn go_to_an_edge(&mut self, heap: &Buffers) -> bool {
+        match self.rng.below(60) {
+            0 => self.take_again(heap),
+            1 => self.go_to_the_split(heap),
+            2 => self.go_to_the_shape(heap),
+            3 => self.go_to_the_last_class(heap),
+            4 => self.go_to_the_count(heap),
+            5..=7 if self.pools > 2 => self.go_to_the_order(heap),
+            _ => return false,
+        }
+        true
     }
 
     /// Lengths of which one or more are one short, one long or 0, or books that are cut at their first words or about
@@ -236,6 +251,35 @@ impl Source {
         }
         lent
     }
+}
+
+/// Few on a heap that soon gives nothing but refusals.
+fn how_many_calls(rng: &mut Rng, kind: Kind, large: bool) -> usize {
+    match kind {
+        _ if large => rng.between(8, 400),
+        Kind::Sound => rng.between(100, 1600),
+        Kind::Spoilt => rng.between(40, 400),
+        Kind::MadeUp => rng.between(8, 64),
+    }
+}
+
+/// How many arenas, and pools of each. An arena of two pools never moves: with one free pool it is newly usable, with
+/// two it is released.
+fn shape(rng: &mut Rng, large: bool, apart: bool) -> (usize, usize) {
+    if large {
+        return (rng.between(1, 16), rng.between(2, 64));
+    }
+    if apart {
+        let arenas = if rng.one_in(4) { rng.between(3, 16) } else { rng.between(3, 5) };
+        return (arenas, rng.pick(&[2, 3, 3, 3, 4, 4]));
+    }
+    let small = [(1, 2), (1, 2), (1, 3), (1, 4), (2, 2), (2, 2), (2, 3), (3, 2), (3, 3), (4, 2), (3, 4), (4, 3)];
+    rng.pick(&small)
+}
+
+/// The block sizes of this many classes, the first ones, or of all.
+fn each_size(classes: usize, alignment: usize) -> Vec<usize> {
+    (1..=classes.min(512 / alignment)).map(|blocks| alignment * blocks).collect()
 }
 
 /// One to four block sizes: of small blocks, of large ones, or of any.
@@ -441,6 +485,7 @@ impl Source {
     /// One word, link or bit is spoilt, or a word of the map, and will mostly be mended after a few calls.
     fn spoil(&mut self, heap: &Buffers) {
         let (spoilt, mend) = match self.rng.below(20) {
+            _ if self.apart && self.rng.one_in(2) => self.spoil_order(heap),
             0..=3 => self.spoil_link(heap),
             4..=6 => self.spoil_bit(heap),
             7 => self.spoil_bits(heap),
@@ -604,6 +649,113 @@ impl Source {
         self.waiting.extend([Step::Word(at, count), Step::Call(call), Step::Word(at, heap.books[at])]);
     }
 
+    /// All that is held in a pool is given back, so that it comes free.
+    fn empty_a_pool(&mut self, heap: &Buffers) {
+        let pool = self.offset(heap) / 4096;
+        let held = self.held.iter().filter(|offset| **offset / 4096 == pool);
+        self.waiting.extend(held.map(|offset| Step::Call(Call::GiveBack { offset: *offset })));
+        let call = Call::Ask { size: self.size() };
+        self.waiting.push_back(Step::Call(call));
+    }
+
+    /// The last block of a pool is given back, and its arena comes to have a row of followers: the walk of W-203 goes
+    /// along it. Then the words are mostly as they were, but for own free pools.
+    fn go_to_the_order(&mut self, heap: &Buffers) {
+        let offset = self.last_in_its_pool(heap);
+        let pool = (offset / 4096).min(self.arenas * self.pools - 1);
+        let arena = pool / self.pools;
+        let free = self.rng.between(1, self.pools - 2) as u32;
+        let words = self.row_of_followers(arena, free);
+        let own = [(self.arena_word(arena, 2), free), (self.pool_word(pool, 0), 1)];
+        self.waiting.extend(words.iter().chain(&own).map(|(at, word)| Step::Word(*at, *word)));
+        let resize = self.rng.one_in(6);
+        let call =
+            if resize { Call::Resize { offset, size: self.new_size(heap, offset) } } else { Call::GiveBack { offset } };
+        self.waiting.push_back(Step::Call(call));
+        if !self.rng.one_in(3) {
+            self.waiting.extend(words.iter().map(|(at, _)| Step::Word(*at, heap.books[*at])));
+        }
+    }
+
+    /// The words of a row of arenas that follow this one, none or all others or some: most have no more free pools than
+    /// it has and point back to the one before.
+    fn row_of_followers(&mut self, arena: usize, free: u32) -> Vec<(usize, u32)> {
+        let mut row: Vec<usize> = (0..self.arenas).filter(|other| *other != arena).collect();
+        (1..row.len()).rev().for_each(|n| row.swap(n, self.rng.below(n + 1)));
+        let length = if self.rng.one_in(2) { row.len().min(self.rng.below(3)) } else { self.rng.below(row.len() + 1) };
+        let mut words = vec![(self.arena_word(arena, 5), self.previous_of_moved(arena, &row))];
+        let mut from = arena;
+        for other in &row[..length] {
+            let fewer = self.rng.below(free as usize + 1) as u32;
+            let number = if self.rng.one_in(12) { free + 1 + self.rng.below(2) as u32 } else { fewer };
+            let back = if self.rng.one_in(6) { self.arena_link() } else { from as u32 + 1 };
+            words.push((self.arena_word(from, 4), *other as u32 + 1));
+            words.extend([(self.arena_word(*other, 5), back), (self.arena_word(*other, 2), number)]);
+            from = *other;
+        }
+        words.push((self.arena_word(from, 4), self.end_of_row(arena, &row, length)));
+        // the one that the row leads to mostly has as many or more
+        if let (Some(other), false) = (row.get(length), self.rng.one_in(3)) {
+            let pools = self.pools as u32;
+            let number = self.rng.pick(&[free + 1, free + 1, free + 2, pools, pools + 1, u32::MAX]);
+            words.push((self.arena_word(*other, 2), number));
+        }
+        words
+    }
+
+    /// What the last of this many in a row of followers leads to: none, the next in the row, the arena, one of the row
+    /// or above A.
+    fn end_of_row(&mut self, arena: usize, row: &[usize], length: usize) -> u32 {
+        let above = self.arenas as u32 + 1;
+        match self.rng.below(8) {
+            0 => arena as u32 + 1,
+            1 => self.rng.pick(&[above, above, above + 1, u32::MAX]),
+            2 | 3 if length > 0 => row[self.rng.below(length)] as u32 + 1,
+            4 | 5 => row.get(length).map_or(0, |next| *next as u32 + 1),
+            _ => 0,
+        }
+    }
+
+    /// None, one of the row, the first more often, the arena itself, or above A.
+    fn previous_of_moved(&mut self, arena: usize, row: &[usize]) -> u32 {
+        let above = self.arenas as u32 + 1;
+        match self.rng.below(8) {
+            0 => self.rng.pick(&[above, above, above + 1, u32::MAX]),
+            1 => arena as u32 + 1,
+            2 if !row.is_empty() => row[0] as u32 + 1,
+            3 | 4 if !row.is_empty() => self.rng.pick(row) as u32 + 1,
+            _ => 0,
+        }
+    }
+
+    /// A block that is held alone in its pool, as far as the books tell, or any that is held.
+    fn last_in_its_pool(&mut self, heap: &Buffers) -> usize {
+        let all = self.arenas * self.pools;
+        let alone = |offset: &usize| offset / 4096 < all && heap.books[self.pool_word(offset / 4096, 0)] == 1;
+        let alone: Vec<usize> = self.held.iter().copied().filter(alone).collect();
+        if alone.is_empty() {
+            self.offset(heap)
+        } else {
+            self.rng.pick(&alone)
+        }
+    }
+
+    /// The usable head, or a link or the free pools of an arena that is or may be listed.
+    fn spoil_order(&mut self, heap: &Buffers) -> (Step, Step) {
+        let (arenas, pools) = (self.arenas as u32, self.pools as u32);
+        let front = (heap.books[2] as usize).clamp(1, self.arenas) - 1;
+        let any = self.rng.below(self.arenas);
+        let arena = self.rng.pick(&[front, any, any]);
+        let word = self.rng.pick(&[2, 4, 4, 4, 5, 5]);
+        let at = if self.rng.one_in(12) { 2 } else { self.arena_word(arena, word) };
+        let other = self.rng.between(1, self.arenas) as u32;
+        let new = match word {
+            2 => self.rng.pick(&[0, 1, 2, pools - 1, pools, pools + 1, u32::MAX]),
+            _ => self.rng.pick(&[0, other, other, other, other, arena as u32 + 1, arenas + 1, u32::MAX]),
+        };
+        (Step::Word(at, new), Step::Word(at, heap.books[at]))
+    }
+
     fn spoil_word(&mut self, heap: &Buffers) -> (Step, Step) {
         let arena = self.rng.below(self.arenas);
         let pool = self.rng.below(self.arenas * self.pools);
@@ -756,7 +908,7 @@ impl Source {
         let nextoffset = block_start(size, self.rng.pick(&[near + 1, near + 2, blocks, blocks - 1]));
         // a full pool uses both on leaving its list, which few do
         let above = self.arenas * self.pools + 1;
-        let [next, previous] = [0; 2].map(|_| if self.rng.one_in(24) { above } else { self.pool_link() as usize });
+        let [next, previous] = [0; 2].map(|_| if self.rng.one_in(12) { above } else { self.pool_link() as usize });
         let words = [count, freeblock, next, previous, class, nextoffset, 4096 - size];
         for (word, value) in words.into_iter().enumerate() {
             self.set(self.pool_word(pool, word), value as u32);

@@ -24,6 +24,8 @@ pub const OPEN: usize = 0;
 pub const CARVE_MARK: usize = 1;
 pub const FREE_POOLS: usize = 2;
 pub const FREED_HEAD: usize = 3;
+pub const ARENA_NEXT: usize = 4;
+pub const ARENA_PREVIOUS: usize = 5;
 
 /// Words of a pool's record.
 pub const COUNT: usize = 0;

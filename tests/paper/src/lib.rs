@@ -1,5 +1,5 @@
-//! 01, and W-206, W-211 and W-214 of 02, read a second time: the calls as a trait, one program that keeps them, and
-//! what tells any other program from it.
+//! 01, and W-203, W-206, W-211 and W-214 of 02, read a second time: the calls as a trait, one program that keeps them,
+//! and what tells any other program from it.
 
 pub mod cases;
 pub mod compare;
@@ -8,6 +8,7 @@ pub mod desk;
 pub mod editions;
 #[cfg(feature = "library")]
 pub mod library;
+pub mod order;
 pub mod paper;
 pub mod readings;
 pub mod sides;

@@ -1,6 +1,6 @@
 //! 01 as a program: its calls over lent buffers, in its order and its words, on any lengths and any contents. The split
 //! of 5 that W-206 of 02 makes stands at the live test, the two editions of W-211 where 01 says classes and blocks, the
-//! call of W-214 beside view.
+//! call of W-214 beside view, and the order of the usable arenas of W-203 where a give-back frees a pool.
 //!
 //! A step writes as it goes, in the order that 01 gives, and notes what stood there before. Where a used word breaks
 //! its rule, the notes are walked back and the answer is 6. So 01 can be laid beside this file sentence by sentence.
@@ -578,9 +578,60 @@ impl Heap<'_> {
             self.walk(Path::UsableAgain);
             self.join(self.arena_list(USABLE), arena, Rule::UsableAgainHead)?;
         } else {
-            self.walk(Path::ArenaStays);
+            self.move_back(arena, free)?;
         }
         Ok(())
+    }
+
+    /// After free pools rises and the arena is neither released nor newly usable (W-203), it moves back past following
+    /// arenas as long as they have fewer free pools than it now has. A walk longer than A arenas is a 6. Passing none
+    /// writes nothing, otherwise it leaves the list and goes in after the last passed.
+    fn move_back(&mut self, arena: usize, free: usize) -> Refused<()> {
+        let list = self.arena_list(USABLE);
+        let mut passed = Vec::new();
+        let mut following = self.follow(list.next(arena), list.most, Rule::WalkNext)?;
+        while let Some(other) = following.filter(|other| self.read(self.arena(*other, FREE_POOLS)) < free) {
+            passed.push(other);
+            self.rule(passed.len() <= self.arenas, Rule::LongWalk)?;
+            following = self.follow(list.next(other), list.most, Rule::PassedNext)?;
+        }
+        self.walk_ends(arena, free, following);
+        let last = match passed.last() {
+            Some(last) => *last,
+            None => {
+                self.walk(Path::ArenaStays);
+                return Ok(());
+            }
+        };
+        self.walk(if passed.len() == 1 { Path::PassesOne } else { Path::PassesMore });
+        let front = self.read(list.previous(arena)) == 0;
+        self.walk(if front { Path::MovesFromFront } else { Path::MovesFromBehind });
+        self.leave(list, arena, [Rule::WalkNext, Rule::MovedPrevious])?;
+        self.go_in_after(list, arena, last);
+        Ok(())
+    }
+
+    /// Notes where the walk of an arena ends, if that is at itself or at one with as many free pools.
+    fn walk_ends(&mut self, arena: usize, free: usize, following: Option<usize>) {
+        match following {
+            Some(other) if other == arena => self.walk(Path::ComesBack),
+            Some(other) if self.read(self.arena(other, FREE_POOLS)) == free => self.walk(Path::StopsAtEqual),
+            _ => {}
+        }
+    }
+
+    /// To go in after the last passed, own links first: next is what the last passed's next is then, previous the last
+    /// passed; that next arena's previous, if any, and the last passed's next become this one. No link can be above A
+    /// here, because the walk or leaving the list has used it.
+    fn go_in_after(&mut self, list: List, member: usize, last: usize) {
+        let next = self.read(list.next(last)).checked_sub(1);
+        self.put(list.next(member), link_to(next));
+        self.put(list.previous(member), link_to(Some(last)));
+        self.walk(if next.is_none() { Path::GoesInLast } else { Path::GoesInBetween });
+        if let Some(after) = next {
+            self.put(list.previous(after), link_to(Some(member)));
+        }
+        self.put(list.next(last), link_to(Some(member)));
     }
 
     /// The arena leaves the usable list, its record becomes 0 except that it joins the unused list at the front.

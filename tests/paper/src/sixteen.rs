@@ -261,6 +261,7 @@ fn stand_in(calls: &mut dyn Calls) {
     }
 }
 
+/// By W-203's order, as in eight.
 fn two_usable_arenas(calls: &mut dyn Calls) {
     let mut desk = Desk::sixteen(calls, 2, 3);
     for (n, size) in [16, 32, 48, 64, 80, 96].into_iter().enumerate() {
@@ -269,7 +270,7 @@ fn two_usable_arenas(calls: &mut dyn Calls) {
     for pool in [0, 3, 4] {
         desk.done(GiveBack { offset: 4096 * pool + 48 }, 4096 * pool as u32 + 48);
     }
-    desk.done(Ask { size: 112 }, 16_432);
+    desk.done(Ask { size: 112 }, 48);
 }
 
 /// A release leaves word 68 as it is, so the arena is opened in the same edition.

@@ -36,7 +36,15 @@ named! {
         Empties = "give back: the pool is empty and is freed",
         Released = "give back: the arena is released",
         UsableAgain = "give back: the arena joins the usable list",
-        ArenaStays = "give back: the arena stays where it is",
+        ArenaStays = "give back: the arena passes none and stays where it is",
+        PassesOne = "give back: the arena moves back past one",
+        PassesMore = "give back: the arena moves back past two or more",
+        MovesFromFront = "give back: the arena that moves was at the front",
+        MovesFromBehind = "give back: the arena that moves was behind another",
+        GoesInLast = "give back: the arena that moves goes in at the list's end",
+        GoesInBetween = "give back: the arena that moves goes in before another",
+        StopsAtEqual = "give back: the walk stops at an arena with as many free pools",
+        ComesBack = "give back: the walk comes back to its own arena and stops there",
         FromBehind = "a member leaves its list from behind another",
         Kept = "resize: the offset is kept",
         Moved = "resize: the block moves",
@@ -92,6 +100,10 @@ named! {
         ReleasedPrevious = "give back: released arena's previous above A",
         ReleasedHead = "give back: unused head above A on a release",
         UsableAgainHead = "give back: usable head above A where the arena joins",
+        WalkNext = "give back: own next above A where the walk begins",
+        PassedNext = "give back: a passed arena's next above A",
+        LongWalk = "give back: the walk passes more than A arenas",
+        MovedPrevious = "give back: moved arena's previous above A",
     }
 }
 

@@ -10,7 +10,7 @@ use lib.Seq.{sets}
 use borrow.Author.Needs.{needs}
 use Rattle.rules.specs.Books.{unusedHead}
 use Rattle.rules.specs.Lists as L
-use Rattle.steps.specs.Backs.{zeroed, zeroed-keeps}
+use Rattle.steps.specs.Arenas.{zeroed, zeroed-keeps}
 use Rattle.steps.proofs.give_back.release.Statement.{statement}
 use Rattle.steps.proofs.give_back.release.Tie as tie
 
