@@ -374,6 +374,12 @@ static void damage_links(void)
     library.books[at] = checks.books[at] = below(3) == 0 ? most + 1 : below(most + 1);
 }
 
+/* The word at a place of both books becomes another. */
+static void set_word(size_t at, uint32_t word)
+{
+    library.books[at] = checks.books[at] = word;
+}
+
 /* Damages words of the books, a bit or a word of the map or a link, the same in both. */
 static void damage(void)
 {
@@ -389,9 +395,7 @@ static void damage(void)
         damage_map(p);
         break;
     case 2:
-        at = class_word(p);
-        word = below(3) == 0 ? last_class() - 1 + below(4) : below(2) == 0 ? below(64) : word;
-        library.books[at] = checks.books[at] = word;
+        set_word(class_word(p), below(3) == 0 ? last_class() - 1 + below(4) : below(2) == 0 ? below(64) : word);
         break;
     case 3:
     case 4:
@@ -400,13 +404,11 @@ static void damage(void)
         memcpy(checks.memory + at, &word, sizeof word);
         break;
     case 5:
-        at = 72 + 8 * below((uint32_t)arenas) + below(2);
-        library.books[at] = checks.books[at] = below((uint32_t)pools + 2);
+        set_word(72 + 8 * below((uint32_t)arenas) + below(2), below((uint32_t)pools + 2));
         break;
     case 6:
         at = class_word(p) + 1;
-        word = below(2) == 0 ? 4096 : library.books[at] + 8 * below(3) - 8;
-        library.books[at] = checks.books[at] = word;
+        set_word(at, below(2) == 0 ? 4096 : library.books[at] + 8 * below(3) - 8);
         break;
     case 7:
     case 8:
@@ -417,16 +419,14 @@ static void damage(void)
         damage_edition();
         break;
     case 10:
-        at = class_word(p) - 4;
-        library.books[at] = checks.books[at] = between(504, 508) / (1 + below(2));   /* or about half of these */
+        set_word(class_word(p) - 4, between(504, 508) / (1 + below(2)));   /* or about half of these */
         break;
     case 11:
     case 12:
         damage_links();
         break;
     default:
-        at = below(20) == 0 ? below(2) : 2 + below((uint32_t)words - 2);
-        library.books[at] = checks.books[at] = word;
+        set_word(below(20) == 0 ? below(2) : 2 + below((uint32_t)words - 2), word);
     }
 }
 
@@ -501,11 +501,17 @@ static void note_half_done(const struct call *c)
     met->half_done[number == HESKAVERN_DONE ? HESKAVERN_DAMAGED : number]++;
 }
 
-/* Counts a give-back that came to a walk, and was done or not as that says: 1, 2, 5 and 10 come before it. */
+/* Counts a give-back that came to a walk. 1, 2, 5 and 10 come before it; then it is done or 6, as the walk says, or
+ * both programs are wrong. */
 static void note_walk(const struct call *c, uint32_t number)
 {
-    if (c->walk < WALKS && number == (c->walk < BAD_NEXT ? HESKAVERN_DONE : HESKAVERN_DAMAGED))
-        met->walks[c->walk]++;
+    if (c->walk == WALKS || (number != HESKAVERN_DONE && number != HESKAVERN_DAMAGED))
+        return;
+    if (number != (c->walk < BAD_NEXT ? HESKAVERN_DONE : HESKAVERN_DAMAGED)) {
+        printf("bench/verify: a give-back of %zu gives %u, where an arena passes %s\n", c->x, number, walks[c->walk]);
+        exit(1);
+    }
+    met->walks[c->walk]++;
 }
 
 /* Counts a roll call that was done or did not fit. */

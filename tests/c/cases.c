@@ -223,7 +223,7 @@ static void expect_no_walk(uint32_t *word, uint32_t value, size_t offset)
 }
 
 /* The words that an arena moves by: its next is read even where it stays, its previous only where it moves. It passes
-   at most A others, so links may lead round. */
+   at most A others: where links lead round, that is 6. */
 static void damaged_order(void)
 {
     fresh(1, 4);

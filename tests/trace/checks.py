@@ -174,13 +174,16 @@ def theorems():
 
 @functools.cache
 def rows():
-    """The rows of the four tables: of damaged books those in the list that the theorem speaks of, K1 to K10, S1 to
-    S15, and the replays."""
-    damaged = read(f'{RULES}/Damaged.antt')
-    listed = re.search(r'^Holds m b k = T \(every (\w+) ', damaged, re.M).group(1)
-    body = re.search(rf'^{listed} =\n(.*?)∷ \[\]\n\n', damaged, re.M | re.S).group(1)
-    numbered = (re.findall(r'-- ([KS]\d+):', read(f'{RULES}/{file}.antt')) for file in ('Cases', 'Sixteen'))
-    return {*re.findall(r'\w+', body), *(row for rows in numbered for row in rows), 'replays'}
+    """The rows of the five tables: of damaged books and of the order those in the list that the theorem speaks of, K1
+    to K10, S1 to S15, and the replays."""
+    found = {'replays'}
+    for file in ('Damaged', 'Order'):
+        text = read(f'{RULES}/{file}.antt')
+        listed = re.search(r'^Holds m b k = T \(every (\w+) ', text, re.M).group(1)
+        found.update(re.findall(r'\w+', re.search(rf'^{listed} =\n(.*?)∷ \[\]\n\n', text, re.M | re.S).group(1)))
+    for file in ('Cases', 'Sixteen'):
+        found.update(re.findall(r'-- ([KS]\d+):', read(f'{RULES}/{file}.antt')))
+    return found
 
 
 @functools.cache

@@ -11,7 +11,6 @@ use native.Mathlib.Omega.{arith}
 use lib.Dec.{leb, eqb}
 use lib.ListN.{length, length-set, replicate}
 use lib.Seq.{getD-set-same}
-use borrow.Author.Tests.{leb-true}
 use Rattle.rules.specs.declared.Source.{Source}
 use Rattle.rules.specs.declared.Source.the-variants.{Freed, Carved, Opened}
 use Rattle.rules.specs.declared.AskPlan.{AskPlan}
@@ -38,11 +37,11 @@ use Rattle.rules.specs.Books.{
   none?,
 }
 use Rattle.rules.specs.Blocks.{sizeOf, isStart}
-use Rattle.rules.specs.Lists.{nextAt, previousAt, leave, mayLeave, mayJoin, arenaLinks, poolLinks, arenaLeaves}
+use Rattle.rules.specs.Lists.{nextAt, leave, mayLeave, mayJoin, arenaLinks, poolLinks, arenaLeaves}
 use Rattle.rules.specs.Ask.{takeFrom, arenaOf, spend, alone, afterAsk}
 use Rattle.rules.specs.GiveBack.{settling, emptying, planBack, takeBack, empty, afterBack}
 use Rattle.rules.specs.Outcome.{heapOf}
-use Rattle.books.specs.Lists.{Links, links, length-leaveBy, length-joinBy}
+use Rattle.books.specs.Lists.{Links, length-leaveBy, length-joinBy}
 use Rattle.books.specs.Records.{other-word}
 use Rattle.books.specs.Tests.{either, after}
 use Rattle.plans.specs.Fits.{FitsSource, FitsAsk}

@@ -1,5 +1,5 @@
 -- 01, "Give back", with 02's order of the usable arenas (W-203): the path, decided from the books before, each rule of
--- 6 where the path meets it; then the writes, in 01's order.
+-- 6 where the path meets it; then the writes, in the papers' order.
 -- Assumes nothing.
 use mathlib.Core.Bool.{Bool, not, _&&_, _||_}
 use mathlib.Core.List.{List}
@@ -83,7 +83,8 @@ module _ (A : ℕ) (b : List ℕ) (a : ℕ) where
       leb next A ⇛ (if passes next then walk more (arena b arenaNext (linked next)) next else goesIn last)
 
   -- 01: "If free pools is now P, the arena leaves the usable list, .. If free pools is now 1, the arena joins the
-  -- usable list at the front." Otherwise the walk begins, at the arena's own next
+  -- usable list at the front." 02: ".. and the arena is neither released nor newly usable": the walk begins, at own
+  -- next
   abbrev pub settling : ℕ → BackPlan
   settling P =
       if eqb (arena b freePools a + 1) P then mayLeave A arenaLinks a b ⇛ mayJoin A unusedHead b ⇛ Releases

@@ -62,7 +62,8 @@ abbrev pub goInAfter : ℕ → ℕ → ℕ → List ℕ → List ℕ
 goInAfter base q n b = joinBy base (nextAt base q) (at b (nextAt base q)) (linkTo q) n b
 
 -- ---- what they ask of the words they use, links being at most `most`:
--- leaving reads own next and previous, joining the old head
+-- leaving reads own next and previous, joining the old head. (Going in after a member reads its next, which the walk
+-- has tested, or which leaving has made own next)
 abbrev pub mayLeave : ℕ → ℕ → ℕ → List ℕ → Bool
 mayLeave most base n b = leb (at b (nextAt base n)) most && leb (at b (previousAt base n)) most
 

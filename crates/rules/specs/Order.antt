@@ -79,7 +79,7 @@ passesOne =
     gives 4144 0 4144 ∷ gives 28720 0 28720
     ∷ free? 2 2 ∷ word? usableHead 2 ∷ links? 1 3 0 ∷ links? 2 1 2 ∷ links? 0 0 3 ∷ asks 160 0 12336 ∷ []
 
--- from the middle past one, to the end
+-- from the middle past one, to the end; the block is dead then
 abbrev passesLast : List Line
 passesLast =
     gives 16432 0 16432 ∷ word? usableHead 3 ∷ links? 2 1 0 ∷ links? 0 2 3 ∷ links? 1 0 1 ∷ gives 16432 10 0 ∷ []

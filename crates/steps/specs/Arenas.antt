@@ -5,7 +5,7 @@ use mathlib.Core.Path.{_≡_, refl, sym, _∙_}
 use mathlib.Core.Logic.{_≢_, inl}
 use mathlib.Core.Bool.{Bool, true, false, not, true≢false}
 use mathlib.Core.List.{List, [], _∷_}
-use Prim.Native.Nat.{ℕ, zero, suc, _+_, _*_, _-_, _≤_, _<_}
+use Prim.Native.Nat.{ℕ, zero, suc, _+_, _-_, _≤_, _<_}
 use native.Mathlib.Omega.{arith}
 use lib.Dec.{leb, eqb}
 use lib.ListN.{length, replicate}
@@ -53,7 +53,7 @@ module _ (A : ℕ) (b : List ℕ) (a : ℕ) where
   passes-some (suc next) e = λ z. absurd (omega arith)
 
 -- ---- what a planned path knows
--- the links that will be used lead to arenas; Joins and Stays are no paths of an arena
+-- the links that will be used lead to arenas or to none; Joins and Stays are no paths of an arena
 abbrev pub FitsArena : ℕ → List ℕ → ℕ → BackPlan → Type 0
 FitsArena A b a Damaged = Unit
 FitsArena A b a Joins = ⊥
@@ -168,7 +168,7 @@ low-only : (A : ℕ) (t : Bool) (i v j : ℕ) (b : List ℕ) → v ≤ A → at 
 low-only A true i v j b u w = low-put A i v j b u w
 low-only A false i v j b u w = w
 
--- so an arena's next still leads to an arena once another has left
+-- so an arena's next still leads to an arena, or to none, once another has left
 pub left-low : (A a j : ℕ) (b : List ℕ) → Links A arenaLinks a b → at b j ≤ A
     → at (leave arenaLinks usableHead a b) j ≤ A
 unfolding leaveBy

@@ -39,7 +39,6 @@ use books::words::index;
 use loops::put_words;
 use rules::BackPlan;
 ghost use mathlib.Core.Path.{_≡_};
-ghost use mathlib.Core.Bool.{true};
 ghost use Prim.Native.Nat.{_+_, _*_, _-_, _/_, _%_, _^_, _<_, _≤_};
 ghost use lib.ListN.{length};
 ghost use Rattle.rules.specs.Books.{
@@ -53,7 +52,7 @@ ghost use Rattle.rules.specs.Books.{
   poolWord,
 };
 ghost use Rattle.rules.specs.Blocks.{blockNo, sizeAt};
-ghost use Rattle.rules.specs.Lists.{nextAt, arenaLinks};
+ghost use Rattle.rules.specs.Lists.{arenaLinks};
 ghost use Rattle.rules.specs.Outcome.{heapOf, outcome};
 ghost use Rattle.rules.specs.GiveBack.{settling, takeBack, emptying, givenBack, backStep};
 ghost use Rattle.rules.specs.Resize.{giveOld};

@@ -4,7 +4,6 @@
 use mathlib.Core.List.{List, [], _∷_}
 use mathlib.Core.Logic.{_≢_, inl, inr}
 use mathlib.Core.Path.{_≡_, sym, ap, ap₂, _∙_, subst}
-use mathlib.Core.Bool.{true}
 use Prim.Native.Nat.{ℕ, _/_, _%_, _≤_}
 use types.Run.{OneOf}
 use native.Mathlib.Omega.{arith}

@@ -2,7 +2,6 @@
 -- Assumes nothing.
 use mathlib.Core.Path.{ap, _∙_}
 use native.Mathlib.Omega.{arith}
-use lib.ListN.{length}
 use Rattle.rules.specs.Lists.{nextAt, arenaLinks, goInAfter}
 use Rattle.steps.specs.Arenas.{left-low}
 use borrow.Author.Needs.{needs}
