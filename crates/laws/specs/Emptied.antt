@@ -4,7 +4,7 @@
 use mathlib.Core.Path.{_≡_, refl, sym, ap, _∙_, subst}
 use mathlib.Core.Logic.{_≢_, Ne·symm as flip, inr}
 use mathlib.Core.Bool.{Bool, true, false, not, true≢false}
-use mathlib.Core.List.{List, [], _∷_}
+use mathlib.Core.List.{List, [], _∷_, _++_, append-assoc}
 use Prim.Native.Nat.{ℕ, suc, _+_, _*_, _-_, _/_, _%_, _≤_, _<_}
 use native.Mathlib.Nat.{div-add-mod', mod-lt}
 use native.Mathlib.Decide.{ℕ-discrete, decLe}
@@ -39,22 +39,23 @@ use Rattle.books.specs.Starts.{start-is, number-is}
 use Rattle.books.specs.Known.{in-range}
 use Rattle.books.specs.Sizes.{Aligned, capacity-high, capacity-low}
 use Rattle.laws.specs.Update.{to, to-same, to-other, to-cong}
-use Rattle.laws.specs.Sequences.{All, In, Not, Once, erase, after, all-two}
-use Rattle.laws.specs.Rising.{
-  following,
-  Rising,
-  all-in,
-  not-erase,
-  in-erase,
-  all-following,
-  in-following,
-  once-following,
-  following-erased,
-  rising-rises,
-  rising-following,
-  rising-erase,
-  rising-after,
+use Rattle.laws.specs.Sequences.{
+  All,
+  Not,
+  Once,
+  Split,
+  split,
+  erase,
+  erase-is,
+  after,
+  after-is,
+  all-two,
+  all-parts,
+  once-parts,
+  once-drop,
+  once-gone,
 }
+use Rattle.laws.specs.Rising.{following, Rising, following-is, rising-parts, rising-drop, rising-put, rising-after}
 use Rattle.laws.specs.Families.{At, head-link, stack-link, stranger}
 use Rattle.laws.specs.Books.{
   View,
@@ -328,30 +329,38 @@ module _ {al A P p j i : ℕ} {h : Heap} {r : Plain} {is : List ℕ}
       (record { listed = lists₅; freed = freed₅; usable = usable; unused = unused }) order
       (homes-same (aside us) (λ y l d. refl) (λ y l d. home₅ y d ∙ F .pools y l .home-is)) (bytes₂ G) j 0 (j-small G) (omega arith) refl)
 
-  -- ---- the usable arenas rise: the others have as many free pools as before
+  -- the other arenas have as many free pools as before
   others-free : (y : ℕ) → y ≢ a → free P gone y ≡ free P r y
   others-free y d = free-same P y (aside (r .usable)) refl d
-
-  erased-rise : Rising (free P gone) (erase a (r .usable))
-  erased-rise = order-aside P (erase a (r .usable)) (aside (r .usable)) refl (not-erase a (r .usable)) (rising-erase (free P r) a (r .usable) (F .order))
 
   -- ---- the arena had free pools
   module _ (some : free P r a ≢ 0) where
     usable-a : U .base a ≡ usableHead
     usable-a = F .arenas a la .base-is ∙ base-usable P r a marked some
 
-    here : In a (r .usable)
-    here = usable-in L K F a la marked some
+    -- its place in the usable list, which has each once and rises
+    here : Split a (r .usable)
+    here = split a (r .usable) (usable-in L K F a la marked some)
 
-    once : Once (r .usable)
-    once = usable-row L K F .row .once
+    open Split here using (pre as before, post as behind)
 
-    -- what follows it in the list: not itself, and each once
-    abbrev behind : List ℕ
-    behind = following a (r .usable)
+    once : Once (before ++ a ∷ behind)
+    once = rw (here .is) at (usable-row L K F .row .once)
 
-    apart : Not a behind × Once behind
-    apart = once-following a (r .usable) once here
+    rises : Rising (free P r) (before ++ a ∷ behind)
+    rises = rw (here .is) at (F .order)
+
+    apart : Not a behind
+    apart = once-parts before (a ∷ behind) once .2 .0
+
+    -- without it
+    erased : erase a (r .usable) ≡ before ++ behind
+    erased = erase-is a (r .usable) here (usable-row L K F .row .once)
+
+    others-rise : Rising (free P gone) (before ++ behind)
+    others-rise =
+        order-aside P (before ++ behind) (aside (r .usable)) refl (once-gone a before behind once)
+        (rising-drop (free P r) a before behind rises)
 
     -- it leaves
     abbrev U₆ : View
@@ -360,7 +369,13 @@ module _ {al A P p j i : ℕ} {h : Heap} {r : Plain} {is : List ℕ}
     K₆ : Books A (A * P) (leave arenaLinks usableHead a b₅) U₆
     K₆ = arena-leaves K₅ 2 a (omega arith) la usable-a
 
-    -- arenas that have no fewer free pools than it has then
+    -- those before it have no more free pools than it has then; and arenas that have no fewer
+    no-more : All (λ y. free P gone y ≤ free P gone a) before
+    no-more =
+        all-two {S = λ y. free P gone y ≤ free P gone a}
+        (λ y (d : Not y (a ∷ behind)) (l : All (λ z. free P r y ≤ free P r z) (a ∷ behind)). omega (arith, one-more, others-free y (d .0), l .0))
+        before (once-parts before (a ∷ behind) once .1) (rising-parts (free P r) before (a ∷ behind) rises .1)
+
     no-fewer : (xs : List ℕ) → Not a xs → All (λ y. free P r a + 1 ≤ free P r y) xs
         → All (λ y. free P gone a ≤ free P gone y) xs
     no-fewer =
@@ -373,7 +388,9 @@ module _ {al A P p j i : ℕ} {h : Heap} {r : Plain} {is : List ℕ}
       rules-walk = emptying-is q (rw (ne-eqb (free P r a + 1) P not-all, ne-eqb (free P r a + 1) 1 (omega arith)) (walk-is L (G .held) a here ∙ ends))
 
       plain-walk : plainBack P r p j ≡ q
-      plain-walk = rw (chn, last, ne-eqb (free P r a + 1) P not-all, ne-eqb (free P r a) 0 some) ends
+      plain-walk =
+          let follows : following a (r .usable) ≡ behind = ap (following a) (here .is) ∙ following-is a before behind once in
+          rw (chn, last, ne-eqb (free P r a + 1) P not-all, ne-eqb (free P r a) 0 some, follows) ends
 
     -- ---- "passing none writes nothing"
     back-empties : free P r a + 1 ≢ P → All (λ y. free P r a + 1 ≤ free P r y) behind
@@ -389,15 +406,14 @@ module _ {al A P p j i : ℕ} {h : Heap} {r : Plain} {is : List ℕ}
         F′ : Says al A P U₅ (m₂ G) (h′ .map) (emptied (r .usable))
         F′ =
             open-says (r .usable) (U .base) (U .arenas) (λ x d. refl) usable-a (F .lists .usable) (F .lists .unused)
-            (rising-rises (free P r) (free P gone) a (r .usable) others-free (omega (arith, one-more))
-            (no-fewer behind (apart .0) more) once (F .order))
+            (rw (here .is) (rising-put (free P gone) a before behind no-more (no-fewer behind apart more) others-rise))
 
     -- ---- "otherwise it leaves the list and goes in after the last passed"
-    back-moves : free P r a + 1 ≢ P → (q : ℕ) → In q behind → free P r q < free P r a + 1
-        → All (λ y. free P r a + 1 ≤ free P r y) (following q behind)
+    back-moves : free P r a + 1 ≢ P → (q : ℕ) (s : Split q behind) → free P r q < free P r a + 1
+        → All (λ y. free P r a + 1 ≤ free P r y) (s .post)
         → past P r (free P r a + 1) behind Empties ≡ Moves q → Backed al A P h r p j
     unfolding afterBack
-    back-moves not-all q i fewer more ends =
+    back-moves not-all q s fewer more ends =
         backed (Moves q) (emptied us) (rules-walk not-all (Moves q) ends) (plain-walk not-all (Moves q) ends) refl
         (sound {h = h′} L K₇ F′) (quiet-link L F′ p j (pool A b freeblock p) (I G .class-low) (j-low G) (dead-after G))
       where
@@ -407,11 +423,20 @@ module _ {al A P p j i : ℕ} {h : Heap} {r : Plain} {is : List ℕ}
         h′ : Heap
         h′ = afterBack al A P c p f (Moves q) h
 
+        -- what holds of all that follow the arena holds of q, and of those that follow q
+        from-q : (Q : ℕ → Type 0) → All Q behind → All Q (q ∷ s .post)
+        from-q Q t = all-parts Q (s .pre) (q ∷ s .post) (rw (s .is) at t) .1
+
+        others : Not a (q ∷ s .post)
+        others = from-q (λ y. a ≢ y) apart
+
         other : q ≢ a
-        other = flip (all-in (λ y. a ≢ y) q behind (apart .0) i)
+        other = flip (others .0)
 
         passed : At A (U .base) usableHead q
-        passed = all-in (At A (U .base) usableHead) q (r .usable) (usable-members L K F) (in-following a q (r .usable) i)
+        passed =
+            let t : All (At A (U .base) usableHead) (before ++ a ∷ behind) = rw (here .is) at (usable-members L K F) in
+            from-q (At A (U .base) usableHead) (all-parts (At A (U .base) usableHead) before (a ∷ behind) t .1 .1) .0
 
         U₇ : View
         U₇ = U₆ ▷ baseTo a 2 ▷ arenasTo 2 (after q a (erase a (U .arenas 2)))
@@ -419,13 +444,14 @@ module _ {al A P p j i : ℕ} {h : Heap} {r : Plain} {is : List ℕ}
         K₇ : Books A (A * P) (h′ .books) U₇
         K₇ = arena-goes-in K₆ 2 a (omega arith) la q (passed .low) (to-other a 0 (U .base) q other ∙ passed .is) (to-same a 0 (U .base) a refl)
 
+        place-q : before ++ behind ≡ (before ++ s .pre) ++ q ∷ s .post
+        place-q = ap (λ (l : List ℕ). before ++ l) (s .is) ∙ sym (append-assoc before (s .pre) (q ∷ s .post))
+
         rise : Rising (free P gone) us
         rise =
-            rising-after (free P gone) q a (erase a (r .usable)) (in-erase a q (r .usable) other (in-following a q (r .usable) i))
-            (omega (arith, one-more, others-free q other))
-            (rw (following-erased a q (r .usable) once here i)
-            (no-fewer (following q behind) (all-following (λ y. a ≢ y) q behind (apart .0)) more))
-            erased-rise
+            rw (erased, place-q, after-is q a (before ++ s .pre) (s .post) (rw place-q at (once-drop a before behind once)))
+            (rising-after (free P gone) q a (before ++ s .pre) (s .post) (omega (arith, one-more, others-free q other))
+            (no-fewer (s .post) (others .1) more) (rw place-q at others-rise))
 
         F′ : Says al A P U₇ (m₂ G) (h′ .map) (emptied us)
         F′ =
@@ -435,8 +461,8 @@ module _ {al A P p j i : ℕ} {h : Heap} {r : Plain} {is : List ℕ}
     -- ---- it passes none, or q is the last that it passes
     back-walks : free P r a + 1 ≢ P → Backed al A P h r p j
     back-walks not-all =
-        past-ends P r (free P r a + 1) behind Empties (Backed al A P h r p j) (apart .1)
-        (rising-following (free P r) a (r .usable) (F .order)) (back-empties not-all) (back-moves not-all)
+        past-ends P r (free P r a + 1) behind Empties (Backed al A P h r p j)
+        (rising-parts (free P r) before (a ∷ behind) rises .2 .1) (back-empties not-all) (back-moves not-all)
 
   -- ---- "If free pools is now 1, the arena joins the usable list at the front."
   back-returns : free P r a ≡ 0 → Backed al A P h r p j
@@ -503,7 +529,7 @@ module _ {al A P p j i : ℕ} {h : Heap} {r : Plain} {is : List ℕ}
       b₇ = leave arenaLinks usableHead a b₅ ▷ put (arenaWord 0 a) 0 ▷ put (arenaWord 1 a) 0 ▷ put (arenaWord 2 a) 0 ▷ put (arenaWord 3 a) 0
 
       U₇ : View
-      U₇ = U₅ ▷ baseTo a 0 ▷ arenasTo 2 (erase a (U .arenas 2)) ▷ arenaTo 0 a 0 ▷ arenaTo 1 a 0 ▷ arenaTo 2 a 0 ▷ freedNone a
+      U₇ = U₆ some ▷ arenaTo 0 a 0 ▷ arenaTo 1 a 0 ▷ arenaTo 2 a 0 ▷ freedNone a
 
       K₇ : Books A (A * P) b₇ U₇
       K₇ = freed-cleared (put-arena (put-arena (put-arena (K₆ some) 0 a 0 (omega arith) la) 1 a 0 (omega arith) la) 2 a 0 (omega arith) la) a la
@@ -638,7 +664,7 @@ module _ {al A P p j i : ℕ} {h : Heap} {r : Plain} {is : List ℕ}
             usable = ap (erase a) (F .lists .usable);
             unused = ap (λ (xs : List ℕ). a ∷ xs) (F .lists .unused);
           })
-          erased-rise homes′ (bytes₂ G) j 0 (j-small G) (omega arith) refl)
+          (rw (erased some) (others-rise some)) homes′ (bytes₂ G) j 0 (j-small G) (omega arith) refl)
 
 -- ---- every give-back of a live block
 pub back-any : {al A P : ℕ} {h : Heap} {r : Plain} → Aligned al → Sound al A P h r → (p j : ℕ) → p < A * P

@@ -205,7 +205,7 @@ two-pools e = record {
   bytes = [];
 }
 
--- with three pools an arena keeps its place when a pool comes free
+-- an arena of three pools that is alone in the usable list keeps its place when a pool comes free
 abbrev pub three-pools : ℕ → Story
 three-pools e = record {
   edition = e;

@@ -26,9 +26,14 @@ In x (y ∷ ys) = (x ≡ y) ⊎ In x ys
 abbrev pub Not : ℕ → List ℕ → Type 0
 Not x xs = All (λ y. x ≢ y) xs
 
+-- R holds of each member and every one that follows it
+abbrev pub Pairs : (ℕ → ℕ → Type 0) → List ℕ → Type 0
+Pairs R [] = Unit {0}
+Pairs R (x ∷ xs) = All (R x) xs × Pairs R xs
+
+-- each member is there once: none follows itself
 abbrev pub Once : List ℕ → Type 0
-Once [] = Unit {0}
-Once (x ∷ xs) = Not x xs × Once xs
+Once xs = Pairs (λ x y. x ≢ y) xs
 
 -- the sequence without x
 abbrev pub unless : Bool → ℕ → List ℕ → List ℕ
@@ -57,9 +62,9 @@ pub all-every : {Q : ℕ → Type 0} (f : (y : ℕ) → Q y) (xs : List ℕ) →
 all-every f [] = tt
 all-every f (x ∷ xs) = (f x, all-every f xs)
 
--- of two parts; of a member in its place, without it, and with one more
+-- of two parts; of a member in its place, and of any; without one, and with one more
 module _ (Q : ℕ → Type 0) where
-  all-parts : (xs ys : List ℕ) → All Q (xs ++ ys) → All Q xs × All Q ys
+  pub all-parts : (xs ys : List ℕ) → All Q (xs ++ ys) → All Q xs × All Q ys
   all-parts [] ys a = (tt, a)
   all-parts (x ∷ xs) ys a = let t = all-parts xs ys (a .1) in ((a .0, t .0), t .1)
 
@@ -67,8 +72,12 @@ module _ (Q : ℕ → Type 0) where
   all-append [] ys a b = b
   all-append (x ∷ xs) ys a b = (a .0, all-append xs ys (a .1) b)
 
-  all-at : (x : ℕ) (xs ys : List ℕ) → All Q (xs ++ x ∷ ys) → Q x
+  pub all-at : (x : ℕ) (xs ys : List ℕ) → All Q (xs ++ x ∷ ys) → Q x
   all-at x xs ys a = all-parts xs (x ∷ ys) a .1 .0
+
+  pub all-in : (x : ℕ) (xs : List ℕ) → All Q xs → In x xs → Q x
+  all-in x (y ∷ ys) a (inl e) = rw e (a .0)
+  all-in x (y ∷ ys) a (inr i) = all-in x ys (a .1) i
 
   pub all-drop : (x : ℕ) (xs ys : List ℕ) → All Q (xs ++ x ∷ ys) → All Q (xs ++ ys)
   all-drop x xs ys a = let t = all-parts xs (x ∷ ys) a in all-append xs ys (t .0) (t .1 .1)
@@ -82,11 +91,13 @@ pub record Split (x : ℕ) (xs : List ℕ) : Type 0 where
   pub post : List ℕ
   pub is : xs ≡ pre ++ x ∷ post
 
+-- with one more in front
+abbrev pub further : {x : ℕ} {xs : List ℕ} (y : ℕ) → Split x xs → Split x (y ∷ xs)
+further y s = record { pre = y ∷ s .pre; post = s .post; is = ap (λ (l : List ℕ). y ∷ l) (s .is) }
+
 pub split : (x : ℕ) (xs : List ℕ) → In x xs → Split x xs
 split x (y ∷ ys) (inl e) = record { pre = []; post = ys; is = ap (λ (z : ℕ). z ∷ ys) (sym e) }
-split x (y ∷ ys) (inr i) =
-    let s : Split x ys = split x ys i in
-    record { pre = y ∷ s .pre; post = s .post; is = ap (λ (l : List ℕ). y ∷ l) (s .is) }
+split x (y ∷ ys) (inr i) = further y (split x ys i)
 
 -- erased, the sequence is what stands before it and behind it, each once
 erase-not : (x : ℕ) (xs : List ℕ) → Not x xs → erase x xs ≡ xs
@@ -118,28 +129,41 @@ in-put x y (z ∷ pre) post (inl e) = inr (in-put x y pre post (inl e))
 in-put x y (z ∷ pre) post (inr (inl e)) = inl e
 in-put x y (z ∷ pre) post (inr (inr i)) = inr (in-put x y pre post (inr i))
 
--- each once: in either part, and none in both; without x, and with x, which was none
-once-parts : (xs ys : List ℕ) → Once (xs ++ ys) → Once xs × All (λ y. Not y ys) xs × Once ys
-once-parts [] ys o = (tt, tt, o)
-once-parts (x ∷ xs) ys o =
-    let t = once-parts xs ys (o .1) in
-    let u = all-parts (λ y. x ≢ y) xs ys (o .0) in
-    ((u .0, t .0), (u .1, t .1), t .2)
+-- of two members: in either part, and one in each; without x, and with x
+module _ (R : ℕ → ℕ → Type 0) where
+  pub pairs-parts : (xs ys : List ℕ) → Pairs R (xs ++ ys) → Pairs R xs × All (λ x. All (R x) ys) xs × Pairs R ys
+  pairs-parts [] ys o = (tt, tt, o)
+  pairs-parts (x ∷ xs) ys o =
+      let t = pairs-parts xs ys (o .1) in
+      let u = all-parts (R x) xs ys (o .0) in
+      ((u .0, t .0), (u .1, t .1), t .2)
 
-once-append : (xs ys : List ℕ) → Once xs → All (λ y. Not y ys) xs → Once ys → Once (xs ++ ys)
-once-append [] ys o a p = p
-once-append (x ∷ xs) ys o a p = (all-append (λ y. x ≢ y) xs ys (o .0) (a .0), once-append xs ys (o .1) (a .1) p)
+  pub pairs-append : (xs ys : List ℕ) → Pairs R xs → All (λ x. All (R x) ys) xs → Pairs R ys → Pairs R (xs ++ ys)
+  pairs-append [] ys o a p = p
+  pairs-append (x ∷ xs) ys o a p = (all-append (R x) xs ys (o .0) (a .0), pairs-append xs ys (o .1) (a .1) p)
 
-once-drop : (x : ℕ) (pre post : List ℕ) → Once (pre ++ x ∷ post) → Once (pre ++ post)
-once-drop x pre post o =
-    let t = once-parts pre (x ∷ post) o in
-    once-append pre post (t .0) (all-map (λ y (n : Not y (x ∷ post)). n .1) pre (t .1)) (t .2 .1)
+  pub pairs-drop : (x : ℕ) (pre post : List ℕ) → Pairs R (pre ++ x ∷ post) → Pairs R (pre ++ post)
+  pairs-drop x pre post o =
+      let t = pairs-parts pre (x ∷ post) o in
+      pairs-append pre post (t .0) (all-map (λ y (n : All (R y) (x ∷ post)). n .1) pre (t .1)) (t .2 .1)
+
+  pub pairs-put : (x : ℕ) (pre post : List ℕ) → All (λ y. R y x) pre → All (R x) post → Pairs R (pre ++ post)
+      → Pairs R (pre ++ x ∷ post)
+  pairs-put x pre post m n o =
+      let t = pairs-parts pre post o in
+      pairs-append pre (x ∷ post) (t .0) (all-two (λ y (c : R y x) (d : All (R y) post). (c, d)) pre m (t .1)) (n, t .2)
+
+-- each once: in two parts; without x; and with x, which was none
+pub once-parts : (xs ys : List ℕ) → Once (xs ++ ys) → Once xs × All (λ y. Not y ys) xs × Once ys
+once-parts = pairs-parts (λ y z. y ≢ z)
+
+pub once-drop : (x : ℕ) (pre post : List ℕ) → Once (pre ++ x ∷ post) → Once (pre ++ post)
+once-drop = pairs-drop (λ y z. y ≢ z)
 
 once-put : (x : ℕ) (pre post : List ℕ) → Not x (pre ++ post) → Once (pre ++ post) → Once (pre ++ x ∷ post)
-once-put x pre post n o =
-    let t = once-parts pre post o in
+once-put x pre post n =
     let m = all-parts (λ y. x ≢ y) pre post n in
-    once-append pre (x ∷ post) (t .0) (all-two (λ y (c : x ≢ y) (d : Not y post). (flip c, d)) pre (m .0) (t .1)) (m .1, t .2)
+    pairs-put (λ y z. y ≢ z) x pre post (all-map (λ y (c : x ≢ y). flip c) pre (m .0)) (m .1)
 
 pub once-gone : (x : ℕ) (pre post : List ℕ) → Once (pre ++ x ∷ post) → Not x (pre ++ post)
 once-gone x pre post o =
@@ -268,7 +292,7 @@ last-link q p [] = refl
 last-link q p (x ∷ pre) = last-link q (suc x) pre
 
 -- from the gap behind pre exactly post is met
-seg-cut : (next prev : ℕ → ℕ) (h p : ℕ) (pre post : List ℕ) → Seg next prev (place h next p) p (pre ++ post)
+pub seg-cut : (next prev : ℕ → ℕ) (h p : ℕ) (pre post : List ℕ) → Seg next prev (place h next p) p (pre ++ post)
     → Seg next prev (place h next (lastLink p pre)) (lastLink p pre) post
 seg-cut next prev h p [] post s = s
 seg-cut next prev h p (x ∷ pre) post s = seg-cut next prev h (suc x) pre post (s .1 .1)

@@ -44,7 +44,7 @@ use Rattle.rules.specs.Numbers.{
 }
 use Rattle.books.specs.Sizes.{Aligned, of-sixteen, aligned, size-low}
 use Rattle.laws.specs.Update.{is-false}
-use Rattle.laws.specs.Sequences.{In}
+use Rattle.laws.specs.Sequences.{In, Once}
 use Rattle.laws.specs.Rising.{Rising}
 use Rattle.laws.specs.Sound.{Shape}
 use Rattle.laws.specs.Held.{held, head-zero}
@@ -67,7 +67,7 @@ use Rattle.laws.specs.Calls.{shape-zero, dead-some, view-is, view-size-i
 use Rattle.laws.specs.Free.{live-held, ask-free, ask-bytes, resize-free}
 use Rattle.laws.specs.Roll.{listing-same, listing-count, listing-place, sizeHeld, roll-is}
 use Rattle.laws.specs.NoRoom.{four-full, full-four}
-use Rattle.laws.specs.Usable.{list-rises, list-usable, usable-listed}
+use Rattle.laws.specs.Usable.{list-rises, list-once, list-usable, usable-listed}
 use Rattle.laws.specs.StandIn.{stand-in-means}
 use Rattle.laws.specs.History.{
   Event,
@@ -142,6 +142,11 @@ module _ (h : Heap) (A P e : ℕ) (ok : format h A P e .answer .number ≡ 0) (e
   -- no arena of the usable list has more free pools than one that follows it
   pub usable-rises : Rising (λ a. arena (end .heap .books) freePools a) (usableList (end .heap))
   usable-rises = list-rises L (T .sound)
+
+  -- each arena of it is met once: `met` stops after A arenas, so that without this a list that runs in a circle could
+  -- rise too
+  pub usable-once : Once (usableList (end .heap))
+  usable-once = list-once L (T .sound)
 
   -- and the list has an arena exactly if it is open and has free pools
   pub usable-means : (a : ℕ)

@@ -1,5 +1,5 @@
--- The usable list as it is met in the books of a sound heap: it is the plain heap's, so it rises by free pools, and has
--- just the open arenas with free pools.
+-- The usable list as it is met in the books of a sound heap: it is the plain heap's, so it rises by free pools, has
+-- each arena once, and has just the open arenas with free pools.
 -- Assumes nothing.
 use mathlib.Core.Path.{_≡_, refl, sym, ap, _∙_}
 use mathlib.Core.List.{List, [], _∷_}
@@ -10,8 +10,8 @@ use lib.ListN.{length}
 use borrow.Author.Tests.{ne-eqb}
 use Rattle.rules.specs.Books.{Heap, usableHead, freePools, arena}
 use Rattle.books.specs.Sizes.{Aligned}
-use Rattle.laws.specs.Sequences.{In, Seg, once-short, all-map}
-use Rattle.laws.specs.Rising.{Rising, all-in, rising-same}
+use Rattle.laws.specs.Sequences.{In, Once, Seg, once-short, all-map, all-in}
+use Rattle.laws.specs.Rising.{Rising, rising-same}
 use Rattle.laws.specs.Families.{At}
 use Rattle.laws.specs.Plain.{Plain, free}
 use Rattle.laws.specs.Sound.{Sound}
@@ -44,6 +44,9 @@ module _ {al A P : ℕ} {h : Heap} {r : Plain} (L : Aligned al) (S : Sound al A 
       (rising-same (free P r) (λ a. arena (h .books) freePools a) (r .usable)
       (all-map {R = λ y. arena (h .books) freePools y ≡ free P r y}
       (λ y (t : At A (U .base) usableHead y). usable-word L K F y t .2) (r .usable) (usable-members L K F)) (S .rule9))
+
+  pub list-once : Once (usableList h)
+  list-once = rw list-is (usable-row L K F .row .once)
 
   pub list-usable : (a : ℕ) → In a (usableList h) → Usable h a
   list-usable a i =

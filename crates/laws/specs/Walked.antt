@@ -2,9 +2,9 @@
 -- heap's walk over what follows the arena; and where it ends, the arenas rising.
 -- Assumes nothing.
 use mathlib.Core.Path.{_≡_, refl, ap, _∙_}
-use mathlib.Core.Logic.{_≢_, Ne·symm as flip, inl, inr}
+use mathlib.Core.Logic.{_≢_, Ne·symm as flip}
 use mathlib.Core.Bool.{true}
-use mathlib.Core.List.{List, [], _∷_}
+use mathlib.Core.List.{List, [], _∷_, _++_}
 use Prim.Native.Nat.{ℕ, zero, suc, _+_, _-_, _≤_, _<_}
 use native.Mathlib.Decide.{decLe}
 use native.Mathlib.Omega.{arith}
@@ -17,16 +17,21 @@ use Rattle.rules.specs.Say.{if_then_else_}
 use Rattle.rules.specs.Books.{Heap, at, usableHead, arenaNext, arenaPrevious, arenaWord, arena}
 use Rattle.rules.specs.GiveBack.{freeNow, goesIn, walk}
 use Rattle.books.specs.Sizes.{Aligned}
-use Rattle.laws.specs.Sequences.{All, In, Not, Once, Seg, once-short, all-map, all-two}
-use Rattle.laws.specs.Rising.{
-  following,
-  Rising,
-  all-in,
-  later,
-  all-following,
-  once-following,
-  seg-following,
+use Rattle.laws.specs.Sequences.{
+  All,
+  Once,
+  Split,
+  further,
+  Seg,
+  all-map,
+  all-two,
+  all-parts,
+  all-at,
+  once-parts,
+  once-short,
+  seg-cut,
 }
+use Rattle.laws.specs.Rising.{Rising}
 use Rattle.laws.specs.Linked.{Doubly}
 use Rattle.laws.specs.Families.{At, member-links}
 use Rattle.laws.specs.Plain.{Plain, free, past}
@@ -37,15 +42,15 @@ use Rattle.laws.specs.Held.{Held, usable-word, usable-row, usable-member
 abbrev pub Ends : ℕ → Plain → ℕ → List ℕ → BackPlan → Type 0 → Type 0
 Ends P r n xs first Q =
     (All (λ y. n ≤ free P r y) xs → past P r n xs first ≡ first → Q)
-    → ((q : ℕ) → In q xs → free P r q < n → All (λ y. n ≤ free P r y) (following q xs)
+    → ((q : ℕ) (s : Split q xs) → free P r q < n → All (λ y. n ≤ free P r y) (s .post)
     → past P r n xs first ≡ Moves q → Q)
     → Q
 
 pub past-ends : (P : ℕ) (r : Plain) (n : ℕ) (xs : List ℕ) (first : BackPlan) (Q : Type 0)
-    → Once xs → Rising (free P r) xs → Ends P r n xs first Q
-past-ends P r n [] first Q o R none some = none tt refl
-past-ends P r n (x ∷ xs) first Q o R none some =
-    go (decLe n (free P r x)) (past-ends P r n xs (Moves x) Q (o .1) (R .1))
+    → Rising (free P r) xs → Ends P r n xs first Q
+past-ends P r n [] first Q R none some = none tt refl
+past-ends P r n (x ∷ xs) first Q R none some =
+    go (decLe n (free P r x)) (past-ends P r n xs (Moves x) Q (R .1))
   where
     go : Dec (n ≤ free P r x) → Ends P r n xs (Moves x) Q → Q
     go (yes l) k =
@@ -53,36 +58,40 @@ past-ends P r n (x ∷ xs) first Q o R none some =
         (rw (le-ltb (free P r x) n l))
     go (no l) k =
         let passed = lt-ltb (free P r x) n (omega arith) in
-        k (λ t e. some x (inl refl) (omega arith) (rw (eq-eqb x x refl) t) (rw passed e))
-        (λ q i u t e. some q (inr i) u (rw (ne-eqb q x (later q x xs o i)) t) (rw passed e))
+        k (λ t e. some x (record { pre = []; post = xs; is = refl }) (omega arith) t (rw passed e))
+        (λ q s u t e. some q (further x s) u t (rw passed e))
 
--- ---- a usable arena a of a heap that holds the plain heap r
+-- ---- a usable arena a of a heap that holds the plain heap r, in its place
 module _ {al A P : ℕ} {h : Heap} {r : Plain} (L : Aligned al)
-    (H : Held al A P h r) (a : ℕ) (here : In a (r .usable)) where
+    (H : Held al A P h r) (a : ℕ) (s : Split a (r .usable)) where
   open Held H using (view as U, books as K, says as F)
+  open Split s using (pre, post)
 
   abbrev b : List ℕ
   b = h .books
 
-  -- the usable list
-  list : Doubly (arenaWord arenaNext) (arenaWord arenaPrevious) b usableHead (r .usable)
-  list = usable-row L K F
+  -- the usable list and its members
+  list : Doubly (arenaWord arenaNext) (arenaWord arenaPrevious) b usableHead (pre ++ a ∷ post)
+  list = rw (s .is) at (usable-row L K F)
+
+  members : All (At A (U .base) usableHead) (pre ++ a ∷ post)
+  members = rw (s .is) at (usable-members L K F)
 
   own : At A (U .base) usableHead a
-  own = all-in (At A (U .base) usableHead) a (r .usable) (usable-members L K F) here
+  own = all-at (At A (U .base) usableHead) a pre post members
 
   -- "than it now has", and what the others have
   own-now : freeNow A b a a ≡ free P r a + 1
   own-now = rw (eq-eqb a a refl) (ap (λ (n : ℕ). n + 1) (usable-word L K F a own .2))
 
-  behind : Not a (following a (r .usable)) × Once (following a (r .usable))
-  behind = once-following a (r .usable) (list .row .once) here
+  once : Once (a ∷ post)
+  once = once-parts pre (a ∷ post) (list .row .once) .2
 
-  others-now : All (λ y. (y < A) × (freeNow A b a y ≡ free P r y)) (following a (r .usable))
+  others-now : All (λ y. (y < A) × (freeNow A b a y ≡ free P r y)) post
   others-now =
       all-two {S = λ y. (y < A) × (freeNow A b a y ≡ free P r y)}
       (λ y (d : a ≢ y) (t : At A (U .base) usableHead y). (t .low, rw (ne-eqb y a (flip d)) (omega (arith, usable-word L K F y t .2))))
-      (following a (r .usable)) (behind .0) (all-following (At A (U .base) usableHead) a (r .usable) (usable-members L K F))
+      post (once .0) (all-parts (At A (U .base) usableHead) pre (a ∷ post) members .1 .1)
 
   -- it may leave
   may-leave : leb (arena b arenaPrevious a) A ≡ true
@@ -106,9 +115,7 @@ module _ {al A P : ℕ} {h : Heap} {r : Plain} (L : Aligned al)
       ∙ ap (past P r (free P r a + 1) xs) moves))
 
   -- ".. it moves back past following arenas as long as they have fewer free pools than it now has"
-  pub walk-is : walk A b a A (arena b arenaNext a) 0
-      ≡ past P r (free P r a + 1) (following a (r .usable)) Empties
+  pub walk-is : walk A b a A (arena b arenaNext a) 0 ≡ past P r (free P r a + 1) post Empties
   walk-is =
-      along A (following a (r .usable))
-      (once-short A (following a (r .usable)) (all-map {R = λ y. y < A} (λ y t. t .0) (following a (r .usable)) others-now) (behind .1))
-      (arena b arenaNext a) (suc a) 0 (seg-following _ _ a (r .usable) (list .row .once) here (at b usableHead) 0 (list .row .walk)) others-now
+      along A post (once-short A post (all-map {R = λ y. y < A} (λ y t. t .0) post others-now) (once .1))
+      (arena b arenaNext a) (suc a) 0 (seg-cut _ _ (at b usableHead) 0 pre (a ∷ post) (list .row .walk) .1 .1) others-now

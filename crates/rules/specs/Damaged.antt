@@ -558,10 +558,12 @@ releaseLeaves = asks 1 0 48 ∷ gives 48 0 48 ∷ word? (classHead 0) 0 ∷ word
 abbrev filled : List Line → List Line
 filled ls = asks 1 0 48 ∷ asks 9 0 4144 ∷ asks 17 0 8240 ∷ asks 25 0 12336 ∷ asks 33 0 16432 ∷ asks 41 0 20528 ∷ ls
 
--- "Pool n is in arena n div P": blocks of arena 1 are given back, and it is newly usable, keeps its place, is released
+-- "Pool n is in arena n div P": blocks of arena 1 are given back, and it is newly usable, keeps its place, is released;
+-- arena 0's freed-pool head is not read
 abbrev otherArena : List Line
 otherArena =
-    filled (word= (inPool 3 freeblock) 56 ∷ gives 12336 6 0 ∷ word= (inPool 3 freeblock) 80 ∷ gives 12336 0 12336
+    filled (word= (inArena 0 freedHead) 99
+    ∷ word= (inPool 3 freeblock) 56 ∷ gives 12336 6 0 ∷ word= (inPool 3 freeblock) 80 ∷ gives 12336 0 12336
     ∷ has (link 12336) 80 ∷ word? (classHead 3) 0 ∷ word? (inArena 1 freedHead) 4
     ∷ word? (inArena 1 freePools) 1 ∷ word? usableHead 2 ∷ word? (inArena 0 freePools) 0
     ∷ gives 16432 0 16432 ∷ word? (inPool 4 poolNext) 4 ∷ word? (inArena 1 freePools) 2
