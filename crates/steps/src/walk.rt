@@ -28,6 +28,7 @@ fn passes(books: &[u32], arenas: usize, a: usize, free: usize, next: usize) -> b
         return false;
     }
     let x = next - 1;
+    // it has as many as itself, and its word has not risen yet
     if x == a {
         return false;
     }
