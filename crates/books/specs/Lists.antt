@@ -2,9 +2,9 @@
 -- Assumes nothing.
 use mathlib.Core.Path.{_≡_, refl, ap₂, ap, _∙_}
 use mathlib.Core.Logic.{_≢_}
-use mathlib.Core.Bool.{Bool, true, false, _&&_}
-use mathlib.Core.List.{List}
-use Prim.Native.Nat.{ℕ, _+_, _*_, _≤_, _<_}
+use mathlib.Core.Bool.{Bool, true, false, not, _&&_}
+use mathlib.Core.List.{List, [], _∷_}
+use Prim.Native.Nat.{ℕ, zero, suc, _+_, _*_, _≤_, _<_}
 use native.Mathlib.Omega.{arith}
 use lib.Dec.{leb}
 use lib.ListN.{length, getD, length-set}
@@ -96,6 +96,35 @@ pub join-keeps : (base place next previous n : ℕ) (b : List ℕ) (j : ℕ)
     → at (joinBy base place next previous n b) j ≡ at b j
 unfolding joinBy
 join-keeps base place next previous n b j h = simp (getD-set-other, only-keeps, h .0, h .1, h .2, h .3)
+
+-- a place before the first link is none of the links
+pub before-links : (base j n : ℕ) → j < base → (j ≢ nextAt base n) × (j ≢ previousAt base n)
+before-links base j n h = (omega arith, omega arith)
+
+-- ---- a word that is at most `most` stays so where what is written is
+low-put : (most i v j : ℕ) (b : List ℕ) → v ≤ most → at b j ≤ most → at (put i v b) j ≤ most
+low-put most i v j [] u w = w
+low-put most zero v zero (x ∷ xs) u w = u
+low-put most zero v (suc j) (x ∷ xs) u w = w
+low-put most (suc i) v zero (x ∷ xs) u w = w
+low-put most (suc i) v (suc j) (x ∷ xs) u w = low-put most i v j xs u w
+
+low-only : (most : ℕ) (t : Bool) (i v j : ℕ) (b : List ℕ) → v ≤ most → at b j ≤ most → at (only t (put i v) b) j ≤ most
+low-only most true i v j b u w = low-put most i v j b u w
+low-only most false i v j b u w = w
+
+-- so a link still leads to a member, or to none, once another member has left
+pub leave-low : (most base head n j : ℕ) (b : List ℕ) → Links most base n b → at b j ≤ most
+    → at (leave base head n b) j ≤ most
+unfolding leaveBy
+leave-low most base head n j b t w =
+    let next = at b (nextAt base n) in
+    let previous = at b (previousAt base n) in
+    let place = if none? previous then head else nextAt base (linked previous) in
+    let b₁ = put place next b in
+    let b₂ = only (not (none? next)) (put (previousAt base (linked next)) previous) b₁ in
+    low-put most (previousAt base n) 0 j (put (nextAt base n) 0 b₂) (omega arith) (low-put most (nextAt base n) 0 j b₂ (omega arith)
+    (low-only most (not (none? next)) (previousAt base (linked next)) previous j b₁ (t .previous) (low-put most place next j b (t .next) w)))
 
 -- ---- the pools' lists leave every word of an arena record as it is
 pub pool-leave-keeps : (A head next previous n : ℕ) (b : List ℕ) (w a : ℕ) → head < 72 → a < A → w < 8

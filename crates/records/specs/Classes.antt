@@ -41,12 +41,12 @@ use Rattle.rules.specs.Lists.{nextAt, leave, mayLeave, mayJoin, arenaLinks, poo
 use Rattle.rules.specs.Ask.{takeFrom, arenaOf, spend, alone, afterAsk}
 use Rattle.rules.specs.GiveBack.{settling, emptying, planBack, takeBack, empty, afterBack}
 use Rattle.rules.specs.Outcome.{heapOf}
-use Rattle.books.specs.Lists.{Links, length-leaveBy, length-joinBy}
+use Rattle.books.specs.Lists.{Links, leave-low, length-leaveBy, length-joinBy}
 use Rattle.books.specs.Records.{other-word}
 use Rattle.books.specs.Tests.{either, after}
 use Rattle.plans.specs.Fits.{FitsSource, FitsAsk}
 use Rattle.asks.specs.HandOut.{Spends, usable-stays, taken-spends, fewer, spend-stays, spend-leaves, spend-links}
-use Rattle.steps.specs.Arenas.{FitsArena, fits-settling, zeroed-keeps, left-low}
+use Rattle.steps.specs.Arenas.{FitsArena, fits-settling, zeroed-keeps}
 use Rattle.steps.specs.Backs.{last-fits}
 use Rattle.records.specs.Calls.{Same, none-written, put-kept, sets-kept, leave-kept, join-kept, go-in-kept}
 
@@ -179,48 +179,11 @@ module _ (al A P c : ℕ) (some : 2 ≤ P) (few : c ≤ 63) (h : Heap) (long : 7
       put-kept _ _ (λ j l. omega arith) (put-kept _ _ (λ j l. omega arith) (put-kept _ _ (λ j l. omega arith) (put-kept _ _ (λ j l. omega arith)
       (listed-still al A P c y few s p h some long (t .0) (take-still al A P c y few s p h d (t .0))))))
 
--- ---- a give-back of a block of class c, of pool p
--- what its path knows of the arenas' lists
-abbrev pub FitsBack : ℕ → ℕ → List ℕ → ℕ → BackPlan → Type 0
-FitsBack A P b p Broken = Unit
-FitsBack A P b p Joins = Unit
-FitsBack A P b p Stays = Unit
-FitsBack A P b p Empties = Unit
-FitsBack A P b p (Moves q) = FitsArena A b (p / P) (Moves q)
-FitsBack A P b p Returns = FitsArena A b (p / P) Returns
-FitsBack A P b p Releases = FitsArena A b (p / P) Releases
-
-module _ (al A P : ℕ) (b : List ℕ) (c p : ℕ) where
-  abbrev F : BackPlan → Type 0
-  F = FitsBack A P b p
-
-  fits-arena : (q : BackPlan) → FitsArena A b (p / P) q → F q
-  fits-arena Broken t = tt
-  fits-arena Joins t = tt
-  fits-arena Stays t = tt
-  fits-arena Empties t = tt
-  fits-arena (Moves q) t = t
-  fits-arena Returns t = t
-  fits-arena Releases t = t
-
-  fits-emptying : F (emptying al A P b c p)
-  unfolding emptying
-  fits-emptying =
-      after F (mayLeave (A * P) (poolLinks A) p b) _ _ tt
-      (λ _. after F (leb (arena b freedHead (p / P)) (A * P)) _ _ tt
-      (λ _. after F (leb (arena b freePools (p / P)) (P - 1)) _ _ tt
-      (λ _. fits-arena (settling A b (p / P) P) (fits-settling A b (p / P) P))))
-
-  pub fits-back : F (planBack al A P b c p)
-  unfolding planBack
-  fits-back =
-      after F (none? (pool A b freeblock p) || isStart (sizeOf al c) (pool A b freeblock p)) _ _ tt
-      (λ _. after F (leb 1 (pool A b count p) && leb (pool A b count p) 506) _ _ tt
-      (λ _. either F (none? (pool A b freeblock p)) _ _
-      (λ _. after F (mayJoin (A * P) (classHead c) b) _ _ tt (λ _. tt))
-      (λ _. either F (eqb (pool A b count p) 1) _ _ (λ _. fits-emptying) (λ _. tt))))
-
+-- ---- a give-back of a block of class c, of pool p, on whatever path
 module _ (al A P c p f y : ℕ) (few : c ≤ 63) (home : p / P < A) (h : Heap) where
+  abbrev F : BackPlan → Type 0
+  F q = Still A y (h .books) (afterBack al A P c p f q h .books)
+
   taken-still : Still A y (h .books) (takeBack al A P c p f h .books)
   taken-still = put-kept _ _ (λ j l. omega arith) (put-kept _ _ (λ j l. omega arith) none-written)
 
@@ -233,24 +196,38 @@ module _ (al A P c p f y : ℕ) (few : c ≤ 63) (home : p / P < A) (h : Heap) w
       put-kept _ _ (λ j l. omega arith) (put-kept _ _ (λ j l. omega arith) (put-kept _ _ (λ j l. omega arith) (put-kept _ _ (λ j l. omega arith)
       (leave-kept _ _ _ (λ j l. omega arith) taken-still))))
 
-  still-fits : (q : BackPlan) → FitsArena A (h .books) (p / P) q → FitsArena A last (p / P) q
-  still-fits = last-fits A P c p f (h .books) few home
-
   left-still : Links A arenaLinks (p / P) last → Still A y (h .books) (leave arenaLinks usableHead (p / P) last)
   left-still t = leave-kept _ _ _ (λ j l. omega (arith, t .next, t .previous)) emptied-still
 
-  pub back-still : (q : BackPlan) → FitsBack A P (h .books) p q
-      → Still A y (h .books) (afterBack al A P c p f q h .books)
+  -- what becomes of the arena
+  settled-still : (q : BackPlan) → FitsArena A last (p / P) q → F q
   unfolding afterBack
-  back-still Broken t = none-written
-  back-still Joins t = join-kept _ _ _ (λ j l. omega arith) taken-still
-  back-still Stays t = taken-still
-  back-still Empties t = emptied-still
-  back-still (Moves q) t =
-      let u = still-fits (Moves q) t in
-      go-in-kept _ _ _ (λ j l. omega (arith, u .1, left-low A (p / P) (nextAt arenaLinks q) last (u .0) (u .2))) (left-still (u .0))
-  back-still Returns t = let u = still-fits Returns t in join-kept _ _ _ (λ j l. omega (arith, u)) emptied-still
-  back-still Releases t =
-      let u = still-fits Releases t in
-      join-kept _ _ _ (λ j l. omega (arith, zeroed-keeps (p / P) last .1, u .1))
-      (sets-kept (arenaWord 0 (p / P)) (replicate 8 0) (λ j l. inr (omega arith)) (left-still (u .0)))
+  settled-still Broken t = none-written
+  settled-still Joins t = absurd t
+  settled-still Stays t = absurd t
+  settled-still Empties t = emptied-still
+  settled-still (Moves q) t =
+      go-in-kept _ _ _ (λ j l. omega (arith, t .1, leave-low A arenaLinks usableHead (p / P) (nextAt arenaLinks q) last (t .0) (t .2)))
+      (left-still (t .0))
+  settled-still Returns t = join-kept _ _ _ (λ j l. omega (arith, t)) emptied-still
+  settled-still Releases t =
+      join-kept _ _ _ (λ j l. omega (arith, zeroed-keeps (p / P) last .1, t .1))
+      (sets-kept (arenaWord 0 (p / P)) (replicate 8 0) (λ j l. inr (omega arith)) (left-still (t .0)))
+
+  emptying-still : F (emptying al A P (h .books) c p)
+  unfolding emptying afterBack
+  emptying-still =
+      after F (mayLeave (A * P) (poolLinks A) p (h .books)) _ _ none-written
+      (λ _. after F (leb (arena (h .books) freedHead (p / P)) (A * P)) _ _ none-written
+      (λ _. after F (leb (arena (h .books) freePools (p / P)) (P - 1)) _ _ none-written
+      (λ _. settled-still (settling A (h .books) (p / P) P)
+      (last-fits A P c p f (h .books) few home (settling A (h .books) (p / P) P) (fits-settling A (h .books) (p / P) P)))))
+
+  pub back-still : F (planBack al A P (h .books) c p)
+  unfolding planBack afterBack
+  back-still =
+      after F (none? (pool A (h .books) freeblock p) || isStart (sizeOf al c) (pool A (h .books) freeblock p)) _ _ none-written
+      (λ _. after F (leb 1 (pool A (h .books) count p) && leb (pool A (h .books) count p) 506) _ _ none-written
+      (λ _. either F (none? (pool A (h .books) freeblock p)) _ _
+      (λ _. after F (mayJoin (A * P) (classHead c) (h .books)) _ _ none-written (λ _. join-kept _ _ _ (λ j l. omega arith) taken-still))
+      (λ _. either F (eqb (pool A (h .books) count p) 1) _ _ (λ _. emptying-still) (λ _. taken-still))))

@@ -57,7 +57,7 @@ use Rattle.plans.specs.Fits.{FitsAsk, Spare, fits-ask}
 use Rattle.records.specs.Calls.{Kept, ask-fair, back-fair, resize-fair}
 use Rattle.records.specs.Replies.{Whole, liveIn, right-shape}
 use Rattle.records.specs.OneMore.{OneMore, one-set, one-cleared, pool-longer, pool-begun, roll-longer}
-use Rattle.records.specs.Classes.{Still, NotAnew, ask-still, listed-map, anew-class, FitsBack, fits-back, back-still}
+use Rattle.records.specs.Classes.{Still, NotAnew, ask-still, listed-map, anew-class, back-still}
 
 -- of pool p's eight words in the map k, the first is 1 and the others are 0: no block but its first is live
 abbrev pub aloneIn : List ℕ → ℕ → Bool
@@ -232,14 +232,18 @@ module _ {al : ℕ} (L : Aligned al) (A P : ℕ) (range : Range A P) where
       (fits-ask al A P h (classOf al n) (size-low L (classOf al n) few) (omega (arith, range .pools-low)))
 
   module _ (h : Heap) (o : ℕ) (map : length (h .map) ≡ mapLength A P) where
+    -- every pool keeps its class on the path
+    abbrev Classed : BackPlan → Type 0
+    Classed q = (y : ℕ) → Still A y (h .books) (afterBack al A P (classAt A (h .books) o) (o / 4096) (o % 4096) q h .books)
+
     -- of a live block: on a path that is not refused, its bit is cleared and no pool's class changes
-    taken-back : LiveBlock al A P (h .books) (h .map) o → (q : BackPlan) → FitsBack A P (h .books) (o / 4096) q
+    taken-back : LiveBlock al A P (h .books) (h .map) o → (q : BackPlan) → Classed q
         → let c = classAt A (h .books) o in
         backAnswer o q .number ≡ 0
         → afterBack al A P c (o / 4096) (o % 4096) q h .map
         ≡ putMapBit (o / 4096) (blockNo (sizeOf al c) (o % 4096)) 0 (h .map)
         → Given al A P h (givenBack al A P c h o q)
-    taken-back t q fits answered left = record {
+    taken-back t q still answered left = record {
       refused = λ d. absurd (d answered);
       done = λ _.
           let p = o / 4096 in
@@ -256,22 +260,19 @@ module _ {al : ℕ} (L : Aligned al) (A P : ℕ) (range : Range A P) where
         b′ : List ℕ
         b′ = afterBack al A P c (o / 4096) (o % 4096) q h .books
 
-        home : o / 4096 / P < A
-        home = div-lt-iff-lt-mul {k = P} {x = o / 4096} {y = A} (omega (arith, range .pools-low)) .1 (t .pool)
-
         same : (y : ℕ) → pool A b′ class y ≡ pool A (h .books) class y
-        same y = back-still al A P c (o / 4096) (o % 4096) y (omega (arith, class-low L c (t .class))) home h q fits .word _ refl
+        same y = still y .word _ refl
 
-    plan-given : LiveBlock al A P (h .books) (h .map) o → (q : BackPlan) → FitsBack A P (h .books) (o / 4096) q
+    plan-given : LiveBlock al A P (h .books) (h .map) o → (q : BackPlan) → Classed q
         → Given al A P h (givenBack al A P (classAt A (h .books) o) h o q)
     unfolding backAnswer afterBack
-    plan-given t Broken fits = record { refused = λ _. refl; done = λ e. absurd (omega arith) }
-    plan-given t Joins fits = taken-back t Joins fits refl refl
-    plan-given t Stays fits = taken-back t Stays fits refl refl
-    plan-given t Empties fits = taken-back t Empties fits refl refl
-    plan-given t (Moves q) fits = taken-back t (Moves q) fits refl refl
-    plan-given t Returns fits = taken-back t Returns fits refl refl
-    plan-given t Releases fits = taken-back t Releases fits refl refl
+    plan-given t Broken still = record { refused = λ _. refl; done = λ e. absurd (omega arith) }
+    plan-given t Joins still = taken-back t Joins still refl refl
+    plan-given t Stays still = taken-back t Stays still refl refl
+    plan-given t Empties still = taken-back t Empties still refl refl
+    plan-given t (Moves q) still = taken-back t (Moves q) still refl refl
+    plan-given t Returns still = taken-back t Returns still refl refl
+    plan-given t Releases still = taken-back t Releases still refl refl
 
     give-old : Given al A P h (giveOld al A P h o)
     unfolding giveOld backStep
@@ -280,8 +281,10 @@ module _ {al : ℕ} (L : Aligned al) (A P : ℕ) (range : Range A P) where
         go : (n : ℕ) → liveNumber al A P (h .books) (h .map) o ≡ n
             → Given al A P h (passing n (λ k. refused k h) (backStep al A P h o))
         go zero e =
-            plan-given (live-is L A P (h .books) (h .map) o (live-zero al A P (h .books) (h .map) o e)) _
-            (fits-back al A P (h .books) (classAt A (h .books) o) (o / 4096))
+            let t = live-is L A P (h .books) (h .map) o (live-zero al A P (h .books) (h .map) o e) in
+            let home = div-lt-iff-lt-mul {k = P} {x = o / 4096} {y = A} (omega (arith, range .pools-low)) .1 (t .pool) in
+            plan-given t _ (λ y. back-still al A P (classAt A (h .books) o) (o / 4096) (o % 4096) y
+            (omega (arith, class-low L (classAt A (h .books) o) (t .class))) home h)
         go (suc n) e = record { refused = λ _. refl; done = λ e. absurd (omega arith) }
 
   -- ---- a resize

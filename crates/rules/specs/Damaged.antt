@@ -99,7 +99,8 @@ formatWords =
     word= usableHead 9 ∷ word= unusedHead 9 ∷ word= (classHead 63) 9 ∷ word= 68 9 ∷ word= 71 9
     ∷ word= (inArena 1 openWord) 9 ∷ word= (inArena 2 7) 9 ∷ word= (inPool 0 class) 9 ∷ word= (inPool 8 7) 9
     ∷ bit= 8 511 1 ∷ link= 48 12345 ∷ formats 3 3 0 0
-    ∷ word? 0 3 ∷ word? 1 3 ∷ word? usableHead 0 ∷ word? unusedHead 1 ∷ word? (classHead 63) 0 ∷ word? 68 0 ∷ word? 71 0
+    ∷ word? 0 3 ∷ word? 1 3 ∷ word? usableHead 0 ∷ word? unusedHead 1
+    ∷ word? (classHead 63) 0 ∷ word? 68 0 ∷ word? 71 0
     ∷ word? (inArena 1 openWord) 0 ∷ word? (inArena 2 7) 0
     ∷ word? (inArena 0 arenaNext) 2 ∷ word? (inArena 0 arenaPrevious) 0
     ∷ word? (inArena 1 arenaNext) 3 ∷ word? (inArena 1 arenaPrevious) 1
@@ -111,8 +112,10 @@ formatWords =
 abbrev formatRecords : List Line
 formatRecords =
     word? 4 0 ∷ word? 66 0 ∷ word? 69 0 ∷ word? 70 0
-    ∷ word? 80 0 ∷ word? 81 0 ∷ word? 82 0 ∷ word? 83 0 ∷ word? 84 3 ∷ word? 85 1 ∷ word? 86 0 ∷ word? 87 0
-    ∷ word? 160 0 ∷ word? 161 0 ∷ word? 162 0 ∷ word? 163 0 ∷ word? 164 65535 ∷ word? 165 0 ∷ word? 166 0 ∷ word? 167 0
+    ∷ word? 80 0 ∷ word? 81 0 ∷ word? 82 0 ∷ word? 83 0
+    ∷ word? 84 3 ∷ word? 85 1 ∷ word? 86 0 ∷ word? 87 0
+    ∷ word? 160 0 ∷ word? 161 0 ∷ word? 162 0 ∷ word? 163 0
+    ∷ word? 164 65535 ∷ word? 165 0 ∷ word? 166 0 ∷ word? 167 0
     ∷ []
 
 -- W-211: "Format .. told the edition (another value is 1 there too)": word 68 says it, and the words beside it stay 0
@@ -126,7 +129,8 @@ formatEdition =
 -- of three arenas of three pools, and of one arena of nine
 abbrev lengths : List Line
 lengths =
-    has (λ h. length (h .memory)) 36864 ∷ has (λ h. length (h .books)) 168 ∷ has (λ h. length (h .map)) 72 ∷ asks 1 0 48
+    has (λ h. length (h .memory)) 36864 ∷ has (λ h. length (h .books)) 168
+    ∷ has (λ h. length (h .map)) 72 ∷ asks 1 0 48
     ∷ spoil (onBooks (take 152)) ∷ formats 1 9 0 0 ∷ asks 1 0 48 ∷ []
 
 -- ==== the books' words, by their numbers
@@ -138,8 +142,10 @@ bookWords =
     ∷ word? 0 3 ∷ word? 1 3 ∷ word? 2 0 ∷ word? 3 2 ∷ word? 4 1 ∷ word? 5 2 ∷ word? 67 3
     ∷ word? 72 1 ∷ word? 73 3 ∷ word? 74 0 ∷ word? 75 0 ∷ word? 76 0 ∷ word? 77 0
     ∷ word? 84 3 ∷ word? 85 0 ∷ word? 92 0 ∷ word? 93 2
-    ∷ word? 96 1 ∷ word? 97 56 ∷ word? 98 0 ∷ word? 99 0 ∷ word? 100 0 ∷ word? 101 64 ∷ word? 102 4088 ∷ word? 103 0
-    ∷ word? 104 1 ∷ word? 105 64 ∷ word? 106 0 ∷ word? 107 0 ∷ word? 108 1 ∷ word? 109 80 ∷ word? 110 4080 ∷ word? 111 0
+    ∷ word? 96 1 ∷ word? 97 56 ∷ word? 98 0 ∷ word? 99 0
+    ∷ word? 100 0 ∷ word? 101 64 ∷ word? 102 4088 ∷ word? 103 0
+    ∷ word? 104 1 ∷ word? 105 64 ∷ word? 106 0 ∷ word? 107 0
+    ∷ word? 108 1 ∷ word? 109 80 ∷ word? 110 4080 ∷ word? 111 0
     ∷ word? 116 63 ∷ []
 
 -- .. and those that were 0 there: pools 1 and 0 are freed, pool 2 joins a class list whose head is pool 1
@@ -147,7 +153,8 @@ abbrev bookLinks : List Line
 bookLinks =
     asks 1 0 48 ∷ asks 9 0 4144 ∷ asks 17 0 8240 ∷ gives 4144 0 4144 ∷ gives 48 0 48
     ∷ word? 2 1 ∷ word? 3 2 ∷ word? 74 2 ∷ word? 75 1 ∷ word? 98 2
-    ∷ word= 113 0 ∷ word= 6 2 ∷ gives 8240 0 8240 ∷ word? 6 3 ∷ word? 107 3 ∷ word? 114 2 ∷ word? 115 0 ∷ []
+    ∷ word= 113 0 ∷ word= 6 2 ∷ gives 8240 0 8240
+    ∷ word? 6 3 ∷ word? 107 3 ∷ word? 114 2 ∷ word? 115 0 ∷ []
 
 -- ==== the map
 -- "Block k of a pool is bit k mod 64 (low bit first) of its word k div 64":
@@ -165,7 +172,8 @@ askClassHead =
     word= (classHead 0) 10 ∷ asks 1 6 0
     ∷ word= (classHead 0) 9 ∷ word= (inPool 8 class) 0 ∷ word= (inPool 8 maxnextoffset) 4088
     ∷ word= (inPool 8 freeblock) 48 ∷ word= (inPool 8 nextoffset) 56 ∷ link= 32816 0
-    ∷ asks 1 0 32816 ∷ word? (inPool 8 count) 1 ∷ word? (inPool 8 freeblock) 56 ∷ word? (inPool 8 nextoffset) 64 ∷ []
+    ∷ asks 1 0 32816 ∷ word? (inPool 8 count) 1
+    ∷ word? (inPool 8 freeblock) 56 ∷ word? (inPool 8 nextoffset) 64 ∷ []
 
 -- "class of its front pool not that class"
 abbrev askClass : List Line
@@ -174,7 +182,8 @@ askClass = asks 1 0 48 ∷ word= (inPool 0 class) 1 ∷ asks 1 6 0 ∷ word= (in
 -- "or maxnextoffset not 4,096 − size"
 abbrev askMaxnextoffset : List Line
 askMaxnextoffset =
-    asks 1 0 48 ∷ word= (inPool 0 maxnextoffset) 4087 ∷ asks 1 6 0 ∷ word= (inPool 0 maxnextoffset) 4089 ∷ asks 1 6 0
+    asks 1 0 48 ∷ word= (inPool 0 maxnextoffset) 4087 ∷ asks 1 6 0
+    ∷ word= (inPool 0 maxnextoffset) 4089 ∷ asks 1 6 0
     ∷ word= (inPool 0 maxnextoffset) 4088 ∷ asks 1 0 56 ∷ []
 
 -- "where both are always read": also where there is a link to follow
@@ -193,7 +202,8 @@ askCount =
 -- R11: 505 stands for a class of 7 blocks too
 abbrev askCountOfSeven : List Line
 askCountOfSeven =
-    asks 512 0 48 ∷ word= (inPool 0 count) 506 ∷ asks 512 6 0 ∷ word= (inPool 0 count) 505 ∷ asks 512 0 560 ∷ []
+    asks 512 0 48 ∷ word= (inPool 0 count) 506 ∷ asks 512 6 0
+    ∷ word= (inPool 0 count) 505 ∷ asks 512 0 560 ∷ []
 
 -- "freeblock .. neither 0 nor a block start", "a freeblock to be handed out that is 0":
 -- 40 is too low, 57 between two starts, 4,096 past the last
@@ -211,7 +221,8 @@ askFreeblockOfSeven =
 
 -- "a block to be handed out .. whose map bit .. is set"
 abbrev askFreeblockBit : List Line
-askFreeblockBit = asks 1 0 48 ∷ bit= 0 1 1 ∷ asks 1 6 0 ∷ bit= 0 1 0 ∷ asks 1 0 56 ∷ bit? 0 1 1 ∷ bit? 0 2 0 ∷ []
+askFreeblockBit =
+    asks 1 0 48 ∷ bit= 0 1 1 ∷ asks 1 6 0 ∷ bit= 0 1 0 ∷ asks 1 0 56 ∷ bit? 0 1 1 ∷ bit? 0 2 0 ∷ []
 
 -- "link neither 0 nor a block start"
 abbrev askLink : List Line
@@ -225,7 +236,8 @@ askLink =
 abbrev askNextBit : List Line
 askNextBit =
     asks 1 0 48 ∷ link= 56 4088 ∷ bit= 0 505 1 ∷ asks 1 6 0 ∷ bit= 0 505 0 ∷ asks 1 0 56
-    ∷ link= 4088 0 ∷ bit= 0 2 1 ∷ asks 1 6 0 ∷ bit= 0 2 0 ∷ asks 1 0 4088 ∷ word? (inPool 0 freeblock) 64 ∷ []
+    ∷ link= 4088 0 ∷ bit= 0 2 1 ∷ asks 1 6 0 ∷ bit= 0 2 0 ∷ asks 1 0 4088
+    ∷ word? (inPool 0 freeblock) 64 ∷ []
 
 -- "nextoffset not above maxnextoffset and not a block start";
 -- 4,088 is the last start, 4,089 means that there is no room
@@ -234,7 +246,8 @@ askNextoffset =
     asks 1 0 48 ∷ word= (inPool 0 nextoffset) 40 ∷ asks 1 6 0 ∷ word= (inPool 0 nextoffset) 65 ∷ asks 1 6 0
     ∷ word= (inPool 0 nextoffset) 4088 ∷ asks 1 0 56
     ∷ word? (inPool 0 freeblock) 4088 ∷ word? (inPool 0 nextoffset) 4096 ∷ has (link 4088) 0
-    ∷ word= (inPool 0 nextoffset) 4089 ∷ asks 1 0 4088 ∷ word? (inPool 0 freeblock) 0 ∷ word? (classHead 0) 0 ∷ []
+    ∷ word= (inPool 0 nextoffset) 4089 ∷ asks 1 0 4088
+    ∷ word? (inPool 0 freeblock) 0 ∷ word? (classHead 0) 0 ∷ []
 
 -- "nextoffset rises by the size": by 512
 abbrev askReadyOfSeven : List Line
@@ -267,7 +280,8 @@ askLastNext =
     asks 1 0 48 ∷ word= (inPool 0 poolNext) 10 ∷ asks 1 0 56
     ∷ full ∷ asks 1 6 0 ∷ word= (inPool 0 poolNext) 9 ∷ word= (inPool 8 poolPrevious) 1 ∷ asks 1 0 64
     ∷ word? (classHead 0) 9 ∷ word? (inPool 8 poolPrevious) 0 ∷ word? (inPool 0 poolNext) 0
-    ∷ word? (inPool 0 poolPrevious) 0 ∷ word? (inPool 0 freeblock) 0 ∷ word? (inPool 0 count) 3 ∷ bit? 0 2 1 ∷ []
+    ∷ word? (inPool 0 poolPrevious) 0 ∷ word? (inPool 0 freeblock) 0
+    ∷ word? (inPool 0 count) 3 ∷ bit? 0 2 1 ∷ []
 
 -- R4: a front member whose previous is not 0: the previous member's next is written, and the head stays
 abbrev askLastPrevious : List Line
@@ -306,7 +320,8 @@ askUsableHead =
 abbrev askUnusedHead : List Line
 askUnusedHead =
     word= (inPool 0 class) 0 ∷ word= unusedHead 4 ∷ asks 1 6 0
-    ∷ word= unusedHead 3 ∷ asks 1 0 24624 ∷ word? usableHead 3 ∷ word? (inArena 1 arenaNext) 0 ∷ word? unusedHead 3 ∷ []
+    ∷ word= unusedHead 3 ∷ asks 1 0 24624
+    ∷ word? usableHead 3 ∷ word? (inArena 1 arenaNext) 0 ∷ word? unusedHead 3 ∷ []
 
 -- .. the links of an arena that leaves the unused list
 abbrev openLinks : List Line
@@ -325,7 +340,8 @@ opening =
     ∷ word= (inArena 0 6) 7 ∷ word= (inArena 0 7) 8 ∷ asks 1 0 48
     ∷ word? (inArena 0 openWord) 1 ∷ word? (inArena 0 carveMark) 1
     ∷ word? (inArena 0 freePools) 2 ∷ word? (inArena 0 freedHead) 0
-    ∷ word? (inArena 0 arenaNext) 0 ∷ word? (inArena 0 arenaPrevious) 0 ∷ word? (inArena 0 6) 7 ∷ word? (inArena 0 7) 8
+    ∷ word? (inArena 0 arenaNext) 0 ∷ word? (inArena 0 arenaPrevious) 0
+    ∷ word? (inArena 0 6) 7 ∷ word? (inArena 0 7) 8
     ∷ word? usableHead 1 ∷ word? unusedHead 2 ∷ word? (inArena 1 arenaPrevious) 0 ∷ []
 
 -- "a pool link above A × P": the freed-pool head. R12: 9 is pool 8, of another arena and not carved, and is taken
@@ -410,7 +426,8 @@ againFreeblock =
 
 abbrev againLink : List Line
 againLink =
-    freed (link= 48 57 ∷ asks 1 6 0 ∷ link= 48 56 ∷ bit= 0 1 1 ∷ asks 1 6 0 ∷ bit= 0 1 0 ∷ asks 1 0 48 ∷ [])
+    freed (link= 48 57 ∷ asks 1 6 0 ∷ link= 48 56 ∷ bit= 0 1 1 ∷ asks 1 6 0
+    ∷ bit= 0 1 0 ∷ asks 1 0 48 ∷ [])
 
 -- its next becomes the arena's freed-pool head before its links become 0
 abbrev againNext : List Line
@@ -439,20 +456,23 @@ spareWords =
 abbrev backFreeblock : List Line
 backFreeblock =
     asks 1 0 48 ∷ asks 1 0 56 ∷ word= (inPool 0 freeblock) 40 ∷ gives 56 6 0
-    ∷ word= (inPool 0 freeblock) 57 ∷ gives 56 6 0 ∷ word= (inPool 0 freeblock) 4096 ∷ gives 56 6 0 ∷ bit? 0 1 1
+    ∷ word= (inPool 0 freeblock) 57 ∷ gives 56 6 0 ∷ word= (inPool 0 freeblock) 4096 ∷ gives 56 6 0
+    ∷ bit? 0 1 1
     ∷ word= (inPool 0 freeblock) 4088 ∷ bit= 0 505 1 ∷ gives 56 0 56
     ∷ has (link 56) 4088 ∷ word? (inPool 0 freeblock) 56 ∷ word? (inPool 0 count) 1 ∷ bit? 0 1 0 ∷ []
 
 -- "count .. outside 1 to 506 on give-back"
 abbrev backCount : List Line
 backCount =
-    asks 1 0 48 ∷ asks 1 0 56 ∷ word= (inPool 0 count) 0 ∷ gives 56 6 0 ∷ word= (inPool 0 count) 507 ∷ gives 56 6 0
+    asks 1 0 48 ∷ asks 1 0 56 ∷ word= (inPool 0 count) 0 ∷ gives 56 6 0
+    ∷ word= (inPool 0 count) 507 ∷ gives 56 6 0
     ∷ word= (inPool 0 count) 506 ∷ gives 56 0 56 ∷ word? (inPool 0 count) 505 ∷ word? (classHead 0) 1 ∷ []
 
 -- R11: 506 stands for a class of 7 blocks too
 abbrev backCountOfSeven : List Line
 backCountOfSeven =
-    asks 512 0 48 ∷ word= (inPool 0 count) 507 ∷ gives 48 6 0 ∷ word= (inPool 0 count) 506 ∷ gives 48 0 48 ∷ []
+    asks 512 0 48 ∷ word= (inPool 0 count) 507 ∷ gives 48 6 0
+    ∷ word= (inPool 0 count) 506 ∷ gives 48 0 48 ∷ []
 
 -- R3: joining a list reads its old head.
 -- "If the old freeblock was 0, the pool was full: it joins its class list at the front"
@@ -542,7 +562,8 @@ releasePrevious =
 abbrev releaseWords : List Line
 releaseWords =
     asks 1 0 48 ∷ word= unusedHead 4 ∷ gives 48 6 0
-    ∷ word= unusedHead 2 ∷ word= (inArena 0 openWord) 9 ∷ word= (inArena 0 6) 7 ∷ word= (inArena 0 7) 8 ∷ gives 48 0 48
+    ∷ word= unusedHead 2 ∷ word= (inArena 0 openWord) 9
+    ∷ word= (inArena 0 6) 7 ∷ word= (inArena 0 7) 8 ∷ gives 48 0 48
     ∷ word? (inArena 0 openWord) 0 ∷ word? (inArena 0 carveMark) 0 ∷ word? (inArena 0 freePools) 0
     ∷ word? (inArena 0 freedHead) 0 ∷ word? (inArena 0 arenaNext) 2 ∷ word? (inArena 0 arenaPrevious) 0
     ∷ word? (inArena 0 6) 0 ∷ word? (inArena 0 7) 0
@@ -552,11 +573,13 @@ releaseWords =
 
 -- the last pool of an arena leaves its class list like any other
 abbrev releaseLeaves : List Line
-releaseLeaves = asks 1 0 48 ∷ gives 48 0 48 ∷ word? (classHead 0) 0 ∷ word? (inPool 0 count) 0 ∷ bit? 0 0 0 ∷ []
+releaseLeaves =
+    asks 1 0 48 ∷ gives 48 0 48 ∷ word? (classHead 0) 0 ∷ word? (inPool 0 count) 0 ∷ bit? 0 0 0 ∷ []
 
 -- ---- other arenas, pools and classes: six asks fill arenas 0 and 1
 abbrev filled : List Line → List Line
-filled ls = asks 1 0 48 ∷ asks 9 0 4144 ∷ asks 17 0 8240 ∷ asks 25 0 12336 ∷ asks 33 0 16432 ∷ asks 41 0 20528 ∷ ls
+filled ls =
+    asks 1 0 48 ∷ asks 9 0 4144 ∷ asks 17 0 8240 ∷ asks 25 0 12336 ∷ asks 33 0 16432 ∷ asks 41 0 20528 ∷ ls
 
 -- "Pool n is in arena n div P": blocks of arena 1 are given back, and it is newly usable, keeps its place, is released;
 -- arena 0's freed-pool head is not read
@@ -568,7 +591,8 @@ otherArena =
     ∷ word? (inArena 1 freePools) 1 ∷ word? usableHead 2 ∷ word? (inArena 0 freePools) 0
     ∷ gives 16432 0 16432 ∷ word? (inPool 4 poolNext) 4 ∷ word? (inArena 1 freePools) 2
     ∷ gives 20528 0 20528
-    ∷ word? unusedHead 2 ∷ word? usableHead 0 ∷ word? (inArena 1 openWord) 0 ∷ word? (inArena 0 openWord) 1 ∷ [])
+    ∷ word? unusedHead 2 ∷ word? usableHead 0
+    ∷ word? (inArena 1 openWord) 0 ∷ word? (inArena 0 openWord) 1 ∷ [])
 
 -- a freed pool of arena 1 is taken, for its own class and for another
 abbrev otherArenaAgain : List Line
@@ -604,16 +628,21 @@ abbrev resizeNoRoom : List Line
 resizeNoRoom =
     asks 1 0 48 ∷ asks 9 0 4144 ∷ asks 17 0 8240
     ∷ word= unusedHead 0 ∷ writes 48 (79 ∷ 87 ∷ 69 ∷ 68 ∷ 0 ∷ 0 ∷ 0 ∷ 1 ∷ []) 0 48
-    ∷ resizes 48 100 4 0 ∷ views 48 0 8 (79 ∷ 87 ∷ 69 ∷ 68 ∷ 0 ∷ 0 ∷ 0 ∷ 1 ∷ []) ∷ word? (inPool 0 count) 1 ∷ []
+    ∷ resizes 48 100 4 0 ∷ views 48 0 8 (79 ∷ 87 ∷ 69 ∷ 68 ∷ 0 ∷ 0 ∷ 0 ∷ 1 ∷ [])
+    ∷ word? (inPool 0 count) 1 ∷ []
 
 -- "copy the first min(n, s) bytes": to a larger block all 8 and not the ninth, and the old block is dead;
 -- to a smaller one n, and the bytes after them stay
 abbrev resizeCopies : List Line
 resizeCopies =
-    asks 1 0 48 ∷ asks 9 0 4144 ∷ writes 48 (1 ∷ 2 ∷ 3 ∷ 4 ∷ 5 ∷ 6 ∷ 7 ∷ 8 ∷ []) 0 48 ∷ link= 56 99 ∷ link= 4168 77
-    ∷ resizes 48 9 0 4160 ∷ has (link 4160) 67305985 ∷ has (link 4164) 134678021 ∷ has (link 4168) 77 ∷ views 48 10 0 []
-    ∷ writes 4160 (1 ∷ 2 ∷ 3 ∷ 4 ∷ 5 ∷ 6 ∷ 7 ∷ 8 ∷ 9 ∷ 10 ∷ 11 ∷ 12 ∷ 13 ∷ 14 ∷ 15 ∷ 16 ∷ []) 0 4160
-    ∷ views 4160 0 16 (1 ∷ 2 ∷ 3 ∷ 4 ∷ 5 ∷ 6 ∷ 7 ∷ 8 ∷ 9 ∷ 10 ∷ 11 ∷ 12 ∷ 13 ∷ 14 ∷ 15 ∷ 16 ∷ [])
+    asks 1 0 48 ∷ asks 9 0 4144 ∷ writes 48 (1 ∷ 2 ∷ 3 ∷ 4 ∷ 5 ∷ 6 ∷ 7 ∷ 8 ∷ []) 0 48
+    ∷ link= 56 99 ∷ link= 4168 77
+    ∷ resizes 48 9 0 4160 ∷ has (link 4160) 67305985
+    ∷ has (link 4164) 134678021 ∷ has (link 4168) 77 ∷ views 48 10 0 []
+    ∷ writes 4160
+    (1 ∷ 2 ∷ 3 ∷ 4 ∷ 5 ∷ 6 ∷ 7 ∷ 8 ∷ 9 ∷ 10 ∷ 11 ∷ 12 ∷ 13 ∷ 14 ∷ 15 ∷ 16 ∷ []) 0 4160
+    ∷ views 4160 0 16
+    (1 ∷ 2 ∷ 3 ∷ 4 ∷ 5 ∷ 6 ∷ 7 ∷ 8 ∷ 9 ∷ 10 ∷ 11 ∷ 12 ∷ 13 ∷ 14 ∷ 15 ∷ 16 ∷ [])
     ∷ link= 52 0 ∷ resizes 4160 3 0 48 ∷ has (link 48) 197121 ∷ has (link 52) 0 ∷ []
 
 -- R16: a resize that keeps its offset runs no step, so books that would give 6 are not seen
@@ -625,7 +654,8 @@ resizeKeeps =
 -- "The half-done resize": the give-back meets 6, the ask and the copy stand
 abbrev halfDoneSix : List Line
 halfDoneSix =
-    asks 1 0 48 ∷ writes 48 (1 ∷ 2 ∷ 3 ∷ 4 ∷ 5 ∷ 6 ∷ 7 ∷ 8 ∷ []) 0 48 ∷ word= (inPool 0 count) 0 ∷ resizes 48 9 6 4144
+    asks 1 0 48 ∷ writes 48 (1 ∷ 2 ∷ 3 ∷ 4 ∷ 5 ∷ 6 ∷ 7 ∷ 8 ∷ []) 0 48
+    ∷ word= (inPool 0 count) 0 ∷ resizes 48 9 6 4144
     ∷ has (link 4144) 67305985 ∷ bit? 0 0 1 ∷ bit? 1 0 1 ∷ []
 
 -- ---- pool 0 holds blocks 0 to 2 of class 0, the first two are given back, the third, at 64, has a text, and the books
@@ -646,7 +676,8 @@ halfDoneFive =
 abbrev halfDoneTen : List Line
 halfDoneTen =
     heldAsFreed (resizes 64 16 6 48
-    ∷ has (link 48) 0 ∷ has (link 52) 134678021 ∷ bit? 0 2 1 ∷ word? (inPool 0 count) 1 ∷ gives 64 10 0 ∷ [])
+    ∷ has (link 48) 0 ∷ has (link 52) 134678021 ∷ bit? 0 2 1
+    ∷ word? (inPool 0 count) 1 ∷ gives 64 10 0 ∷ [])
 
 -- R10: the give-back goes by the class that the books then show: 80 was block 4 of class 0, and is block 2 of class 1
 abbrev resizeByNewClass : List Line
@@ -690,7 +721,8 @@ orderEdition =
 abbrev orderReach : List Line
 orderReach =
     word= 68 2 ∷ spoil (onBooks (take 69)) ∷ asks 1 1 0 ∷ word= 68 1 ∷ asks 1 2 0
-    ∷ spoil (onBooks (take 68)) ∷ asks 1 2 0 ∷ word= 0 0 ∷ asks 1 1 0 ∷ word= 0 3 ∷ word= 1 65 ∷ asks 1 1 0 ∷ []
+    ∷ spoil (onBooks (take 68)) ∷ asks 1 2 0 ∷ word= 0 0 ∷ asks 1 1 0
+    ∷ word= 0 3 ∷ word= 1 65 ∷ asks 1 1 0 ∷ []
 
 -- .. and before the lengths; the same of format, which reads none of the books
 abbrev editionLengths : List Line
@@ -707,7 +739,8 @@ rangeEnds =
 -- 2 before 3, 5 and 7, for each buffer that is one element short
 abbrev wrongLength : List Line
 wrongLength =
-    asks 0 2 0 ∷ gives 56 2 0 ∷ resizes 48 0 2 0 ∷ writes 48 (1 ∷ 2 ∷ 3 ∷ 4 ∷ 5 ∷ 6 ∷ 7 ∷ 8 ∷ 9 ∷ []) 2 0
+    asks 0 2 0 ∷ gives 56 2 0 ∷ resizes 48 0 2 0
+    ∷ writes 48 (1 ∷ 2 ∷ 3 ∷ 4 ∷ 5 ∷ 6 ∷ 7 ∷ 8 ∷ 9 ∷ []) 2 0
     ∷ views 48 2 0 [] ∷ viewAt? 48 0 ∷ rolls [] 2 0 [] ∷ formats 3 3 0 2 ∷ []
 
 abbrev orderTwo : List Line
@@ -777,7 +810,8 @@ deadOpen =
 abbrev deadMark : List Line
 deadMark =
     filled (word= (inArena 1 carveMark) 0 ∷ gives 16472 5 0 ∷ word= (inArena 1 carveMark) 1 ∷ gives 16472 5 0
-    ∷ word= (inArena 1 carveMark) 2 ∷ gives 16472 10 0 ∷ word= (inArena 1 carveMark) 4294967295 ∷ gives 16472 10 0
+    ∷ word= (inArena 1 carveMark) 2 ∷ gives 16472 10 0
+    ∷ word= (inArena 1 carveMark) 4294967295 ∷ gives 16472 10 0
     ∷ word= (inArena 0 openWord) 0 ∷ word= (inArena 0 carveMark) 0 ∷ gives 16472 10 0
     ∷ word= (inArena 1 openWord) 0 ∷ gives 16472 5 0 ∷ [])
 
@@ -785,14 +819,16 @@ deadMark =
 abbrev deadNextoffset : List Line
 deadNextoffset =
     filled (word= (inPool 4 nextoffset) 87 ∷ gives 16472 5 0 ∷ word= (inPool 4 nextoffset) 88 ∷ gives 16472 5 0
-    ∷ word= (inPool 4 nextoffset) 89 ∷ gives 16472 10 0 ∷ word= (inPool 0 nextoffset) 0 ∷ gives 16472 10 0 ∷ [])
+    ∷ word= (inPool 4 nextoffset) 89 ∷ gives 16472 10 0
+    ∷ word= (inPool 0 nextoffset) 0 ∷ gives 16472 10 0 ∷ [])
 
 -- "of class at most 63", and "a block start" of it: 3,632 is none for 512, though nextoffset is past it
 abbrev deadClass : List Line
 deadClass =
     asks 1 0 48 ∷ bit= 0 0 0 ∷ gives 48 10 0 ∷ word= (inPool 0 class) 64 ∷ gives 48 5 0
     ∷ word= (inPool 0 class) 63 ∷ gives 48 10 0
-    ∷ word= (inPool 0 nextoffset) 4294967295 ∷ gives 3120 10 0 ∷ gives 3632 5 0 ∷ gives 560 10 0 ∷ gives 561 5 0 ∷ []
+    ∷ word= (inPool 0 nextoffset) 4294967295 ∷ gives 3120 10 0
+    ∷ gives 3632 5 0 ∷ gives 560 10 0 ∷ gives 561 5 0 ∷ []
 
 -- "but not live": the same block, its bit being set
 abbrev deadBit : List Line
@@ -802,7 +838,8 @@ deadBit = asks 1 0 48 ∷ gives 56 10 0 ∷ bit= 0 1 1 ∷ writes 56 [] 0 56 ∷
 abbrev lastBlock : List Line
 lastBlock =
     word= (classHead 0) 9 ∷ word= (inPool 8 class) 0 ∷ word= (inPool 8 maxnextoffset) 4088
-    ∷ word= (inPool 8 freeblock) 4088 ∷ word= (inPool 8 nextoffset) 4096 ∷ word= (inPool 8 count) 505 ∷ link= 36856 0
+    ∷ word= (inPool 8 freeblock) 4088 ∷ word= (inPool 8 nextoffset) 4096
+    ∷ word= (inPool 8 count) 505 ∷ link= 36856 0
     ∷ asks 1 0 36856 ∷ word? (classHead 0) 0 ∷ gives 36856 0 36856 ∷ word? (classHead 0) 9 ∷ []
 
 -- "Write copies a lent text to the start of a block; the rest of the block stays."
@@ -810,7 +847,8 @@ lastBlock =
 abbrev writing : List Line
 writing =
     asks 1 0 48 ∷ writes 48 (1 ∷ 2 ∷ 3 ∷ 4 ∷ 5 ∷ 6 ∷ 7 ∷ 8 ∷ []) 0 48 ∷ writes 48 [] 0 48
-    ∷ writes 48 (9 ∷ []) 0 48 ∷ views 48 0 8 (9 ∷ 2 ∷ 3 ∷ 4 ∷ 5 ∷ 6 ∷ 7 ∷ 8 ∷ []) ∷ viewAt? 48 48
+    ∷ writes 48 (9 ∷ []) 0 48 ∷ views 48 0 8 (9 ∷ 2 ∷ 3 ∷ 4 ∷ 5 ∷ 6 ∷ 7 ∷ 8 ∷ [])
+    ∷ viewAt? 48 48
     ∷ word= (inPool 0 count) 0 ∷ writes 48 [] 0 48 ∷ []
 
 -- W-214: "either the live block's own bytes or the lent phrase itself": its own, too, where the phrase has the same
@@ -822,7 +860,8 @@ standing =
     ∷ writes 48 (1 ∷ 2 ∷ 3 ∷ 4 ∷ 5 ∷ 6 ∷ 7 ∷ 8 ∷ []) 0 48
     ∷ standsIn 48 (7 ∷ 7 ∷ []) (1 ∷ 2 ∷ 3 ∷ 4 ∷ 5 ∷ 6 ∷ 7 ∷ 8 ∷ []) 1 1048
     ∷ standsIn 48 [] (1 ∷ 2 ∷ 3 ∷ 4 ∷ 5 ∷ 6 ∷ 7 ∷ 8 ∷ []) 1 1048
-    ∷ standsIn 48 (1 ∷ 2 ∷ 3 ∷ 4 ∷ 5 ∷ 6 ∷ 7 ∷ 8 ∷ []) (1 ∷ 2 ∷ 3 ∷ 4 ∷ 5 ∷ 6 ∷ 7 ∷ 8 ∷ []) 1 1048
+    ∷ standsIn 48 (1 ∷ 2 ∷ 3 ∷ 4 ∷ 5 ∷ 6 ∷ 7 ∷ 8 ∷ [])
+    (1 ∷ 2 ∷ 3 ∷ 4 ∷ 5 ∷ 6 ∷ 7 ∷ 8 ∷ []) 1 1048
     ∷ standsIn 52 (7 ∷ 7 ∷ []) (7 ∷ 7 ∷ []) 2 2000
     ∷ gives 48 0 48 ∷ standsIn 48 (7 ∷ 7 ∷ []) (7 ∷ 7 ∷ []) 2 2000 ∷ standsIn 48 [] [] 2 2000 ∷ []
 
@@ -845,7 +884,9 @@ rolling =
 
 -- the last block of the last pool
 abbrev rollingLast : List Line
-rollingLast = word= (inPool 8 class) 0 ∷ bit= 8 505 1 ∷ bit= 8 506 1 ∷ rolls (0 ∷ 0 ∷ []) 0 1 (36856 ∷ 8 ∷ []) ∷ []
+rollingLast =
+    word= (inPool 8 class) 0 ∷ bit= 8 505 1 ∷ bit= 8 506 1
+    ∷ rolls (0 ∷ 0 ∷ []) 0 1 (36856 ∷ 8 ∷ []) ∷ []
 
 -- W-202: a bit at no block of its class is in no roll, and takes no room
 abbrev rollingStray : List Line
@@ -858,7 +899,8 @@ rollingOnes =
     ∷ rolls (0 ∷ 0 ∷ 0 ∷ 0 ∷ 0 ∷ 0 ∷ 0 ∷ 0 ∷ 0 ∷ 0 ∷ 0 ∷ 0 ∷ 0 ∷ []) 7 0
     (0 ∷ 0 ∷ 0 ∷ 0 ∷ 0 ∷ 0 ∷ 0 ∷ 0 ∷ 0 ∷ 0 ∷ 0 ∷ 0 ∷ 0 ∷ [])
     ∷ rolls (0 ∷ 0 ∷ 0 ∷ 0 ∷ 0 ∷ 0 ∷ 0 ∷ 0 ∷ 0 ∷ 0 ∷ 0 ∷ 0 ∷ 0 ∷ 0 ∷ []) 0 7
-    (48 ∷ 512 ∷ 560 ∷ 512 ∷ 1072 ∷ 512 ∷ 1584 ∷ 512 ∷ 2096 ∷ 512 ∷ 2608 ∷ 512 ∷ 3120 ∷ 512 ∷ [])
+    (48 ∷ 512 ∷ 560 ∷ 512 ∷ 1072 ∷ 512 ∷ 1584 ∷ 512
+    ∷ 2096 ∷ 512 ∷ 2608 ∷ 512 ∷ 3120 ∷ 512 ∷ [])
     ∷ word= (inPool 0 class) 64 ∷ rolls [] 0 0 [] ∷ []
 
 abbrev pub damaged : List (List Line)
@@ -879,7 +921,8 @@ damaged =
     ∷ otherArena ∷ otherArenaAgain ∷ otherArenaLinks ∷ otherClass
     ∷ resizeAskSix ∷ resizeNoRoom ∷ resizeCopies ∷ resizeKeeps
     ∷ halfDoneSix ∷ halfDoneFive ∷ halfDoneTen ∷ resizeByNewClass
-    ∷ orderTwoWords ∷ twoWords ∷ orderOne ∷ orderEdition ∷ orderReach ∷ editionLengths ∷ rangeEnds ∷ orderTwo
+    ∷ orderTwoWords ∷ twoWords ∷ orderOne ∷ orderEdition
+    ∷ orderReach ∷ editionLengths ∷ rangeEnds ∷ orderTwo
     ∷ orderTwoBooks ∷ orderTwoMap ∷ longMemory ∷ longBooks ∷ longMap ∷ orderRest
     ∷ notLive ∷ deadBlock ∷ deadOpen ∷ deadMark ∷ deadNextoffset ∷ deadClass ∷ deadBit ∷ lastBlock
     ∷ writing ∷ standing ∷ standingShape ∷ rolling ∷ rollingLast ∷ rollingStray ∷ rollingOnes ∷ []

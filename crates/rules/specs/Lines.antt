@@ -61,7 +61,7 @@ pub data Line : Type 0 where
   resizes : ℕ → ℕ → ℕ → ℕ → Line  -- o n k r: resize o to n gives number k and offset r
   writes : ℕ → List ℕ → ℕ → ℕ → Line  -- o t k r: write of the text t at o gives number k and offset r
   views : ℕ → ℕ → ℕ → List ℕ → Line  -- o k s bytes: view's companion gives k and size s, view the bytes
-  standsIn : ℕ → List ℕ → List ℕ → ℕ → ℕ → Line  -- o t bytes b i: t's stand-in is the bytes, at (b, i)
+  standsIn : ℕ → List ℕ → List ℕ → ℕ → ℕ → Line  -- o t bytes b i: t's stand-in is the bytes at (b, i)
   rolls : List ℕ → ℕ → ℕ → List ℕ → Line  -- w k n v: roll call over w gives k and count n, and leaves v
   has : (Heap → ℕ) → ℕ → Line  -- a number of the heap is as said
   spoil : (Heap → Heap) → Line  -- somebody changes the heap

@@ -55,8 +55,8 @@ given o h = giveBack h o .heap
 abbrev pub ones : ℕ → List ℕ → List ℕ → List ℕ → Heap
 ones e m b k =
     fresh 3 3 e m b k
-    ▷ asked 16 ▷ asked 32 ▷ asked 48 ▷ asked 64 ▷ asked 80 ▷ asked 96 ▷ asked 112 ▷ asked 128 ▷ asked 144
-    ▷ given 48 ▷ given 12336 ▷ given 24624
+    ▷ asked 16 ▷ asked 32 ▷ asked 48 ▷ asked 64 ▷ asked 80 ▷ asked 96
+    ▷ asked 112 ▷ asked 128 ▷ asked 144 ▷ given 48 ▷ given 12336 ▷ given 24624
 
 -- ==== "it moves back past following arenas as long as they have fewer free pools than it now has"
 -- the last arena has none to pass: nothing of the list is written, and own previous is not read
@@ -82,7 +82,8 @@ passesOne =
 -- from the middle past one, to the end; the block is dead then
 abbrev passesLast : List Line
 passesLast =
-    gives 16432 0 16432 ∷ word? usableHead 3 ∷ links? 2 1 0 ∷ links? 0 2 3 ∷ links? 1 0 1 ∷ gives 16432 10 0 ∷ []
+    gives 16432 0 16432 ∷ word? usableHead 3 ∷ links? 2 1 0
+    ∷ links? 0 2 3 ∷ links? 1 0 1 ∷ gives 16432 10 0 ∷ []
 
 -- from the front past two, to the end
 abbrev passesTwo : List Line
@@ -125,7 +126,8 @@ walkItself = next= 1 3 ∷ gives 28720 0 28720 ∷ word? usableHead 2 ∷ links?
 -- one
 abbrev walkLeft : List Line
 walkLeft =
-    gives 4144 0 4144 ∷ previous= 2 2 ∷ gives 28720 0 28720 ∷ links? 1 3 3 ∷ links? 2 2 2 ∷ links? 0 0 2 ∷ []
+    gives 4144 0 4144 ∷ previous= 2 2 ∷ gives 28720 0 28720
+    ∷ links? 1 3 3 ∷ links? 2 2 2 ∷ links? 0 0 2 ∷ []
 
 -- ---- the list of rows
 abbrev pub order : List (List Line)

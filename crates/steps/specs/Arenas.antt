@@ -3,8 +3,8 @@
 -- Assumes nothing.
 use mathlib.Core.Path.{_≡_, refl, sym, _∙_}
 use mathlib.Core.Logic.{_≢_, inl}
-use mathlib.Core.Bool.{Bool, true, false, not, true≢false}
-use mathlib.Core.List.{List, [], _∷_}
+use mathlib.Core.Bool.{true, false, true≢false}
+use mathlib.Core.List.{List, []}
 use Prim.Native.Nat.{ℕ, zero, suc, _+_, _-_, _≤_, _<_}
 use native.Mathlib.Omega.{arith}
 use lib.Dec.{leb, eqb}
@@ -13,13 +13,12 @@ use lib.Seq.{sets, length-sets}
 use borrow.Author.Tests.{leb-true, eqb-false}
 use Rattle.rules.specs.declared.BackPlan.{BackPlan}
 use Rattle.rules.specs.declared.BackPlan.the-variants.{Damaged, Joins, Stays, Empties, Moves, Returns, Releases}
-use Rattle.rules.specs.Say.{if_then_else_, only}
-use Rattle.rules.specs.Books.{at, put, usableHead, unusedHead, freePools, arenaNext, arenaPrevious, arenaWord, arena, none?, linked}
-use Rattle.rules.specs.Lists.{nextAt, previousAt, leave, leaveBy, join, mayLeave, mayJoin, arenaLinks}
+use Rattle.rules.specs.Books.{at, usableHead, unusedHead, freePools, arenaNext, arenaPrevious, arenaWord, arena, none?, linked}
+use Rattle.rules.specs.Lists.{nextAt, previousAt, leave, join, mayLeave, mayJoin, arenaLinks}
 use Rattle.rules.specs.Outcome.{heapOf}
 use Rattle.rules.specs.GiveBack.{passes, goesIn, walk, settling, moveAfter, release}
 use Rattle.books.specs.Tests.{either, after}
-use Rattle.books.specs.Lists.{Links, links, leave-keeps, length-leaveBy}
+use Rattle.books.specs.Lists.{Links, links, before-links, leave-keeps, length-leaveBy}
 use Rattle.loops.specs.Sets.{sets-other}
 
 -- ---- the walk by the tests that its function makes
@@ -129,11 +128,7 @@ settled a (Moves q) b = movedAfter q a b
 settled a Returns b = join arenaLinks usableHead a b
 settled a Releases b = released a b
 
--- ---- what a write of a release and of a move leaves for the next
--- a place before the first link is none of the links
-pub before-links : (base j n : ℕ) → j < base → (j ≢ nextAt base n) × (j ≢ previousAt base n)
-before-links base j n h = (omega arith, omega arith)
-
+-- ---- what a write of a release leaves for the next
 -- the books in the middle of a release: the arena has left the usable list, and its record is 0
 abbrev pub zeroed : ℕ → List ℕ → List ℕ
 zeroed a b = sets (leave arenaLinks usableHead a b) (arenaWord 0 a) (replicate 8 0)
@@ -155,28 +150,3 @@ zeroed-keeps a b =
             before-links arenaLinks 3 a before .1,
           ),
     )
-
--- a word that is at most A stays so where what is written is
-low-put : (A i v j : ℕ) (b : List ℕ) → v ≤ A → at b j ≤ A → at (put i v b) j ≤ A
-low-put A i v j [] u w = w
-low-put A zero v zero (x ∷ xs) u w = u
-low-put A zero v (suc j) (x ∷ xs) u w = w
-low-put A (suc i) v zero (x ∷ xs) u w = w
-low-put A (suc i) v (suc j) (x ∷ xs) u w = low-put A i v j xs u w
-
-low-only : (A : ℕ) (t : Bool) (i v j : ℕ) (b : List ℕ) → v ≤ A → at b j ≤ A → at (only t (put i v) b) j ≤ A
-low-only A true i v j b u w = low-put A i v j b u w
-low-only A false i v j b u w = w
-
--- so an arena's next still leads to an arena, or to none, once another has left
-pub left-low : (A a j : ℕ) (b : List ℕ) → Links A arenaLinks a b → at b j ≤ A
-    → at (leave arenaLinks usableHead a b) j ≤ A
-unfolding leaveBy
-left-low A a j b t w =
-    let next = at b (nextAt arenaLinks a) in
-    let previous = at b (previousAt arenaLinks a) in
-    let place = if none? previous then usableHead else nextAt arenaLinks (linked previous) in
-    let b₁ = put place next b in
-    let b₂ = only (not (none? next)) (put (previousAt arenaLinks (linked next)) previous) b₁ in
-    low-put A (previousAt arenaLinks a) 0 j (put (nextAt arenaLinks a) 0 b₂) (omega arith) (low-put A (nextAt arenaLinks a) 0 j b₂ (omega arith)
-    (low-only A (not (none? next)) (previousAt arenaLinks (linked next)) previous j b₁ (t .previous) (low-put A place next j b (t .next) w)))

@@ -42,8 +42,8 @@ use Rattle.books.specs.Known.{LiveBlock}
 use Rattle.books.specs.Records.{poolAt, mayGive, linksLead, leads}
 use Rattle.books.specs.Starts.{Start}
 use Rattle.books.specs.Tests.{both}
-use Rattle.books.specs.Lists.{Links, leave-keeps, length-leaveBy, pool-leave-keeps}
-use Rattle.steps.specs.Arenas.{FitsArena, before-links}
+use Rattle.books.specs.Lists.{Links, before-links, leave-keeps, length-leaveBy, pool-leave-keeps}
+use Rattle.steps.specs.Arenas.{FitsArena}
 
 -- ---- what a give-back answers, as one number, which comes back in a register
 -- of offset o: its number

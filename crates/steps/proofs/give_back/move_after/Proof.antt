@@ -2,8 +2,9 @@
 -- Assumes nothing.
 use mathlib.Core.Path.{ap, _∙_}
 use native.Mathlib.Omega.{arith}
+use Rattle.rules.specs.Books.{usableHead}
 use Rattle.rules.specs.Lists.{nextAt, arenaLinks, goInAfter}
-use Rattle.steps.specs.Arenas.{left-low}
+use Rattle.books.specs.Lists.{leave-low}
 use borrow.Author.Needs.{needs}
 use Rattle.steps.proofs.give_back.move_after.Statement.{statement}
 use Rattle.steps.proofs.give_back.move_after.Tie as tie
@@ -28,7 +29,8 @@ go-in-after-requires c κs =
       omega arith,
       omega arith,
       omega (arith, at-leave .leave .kept .0),
-      rw (at-leave .leave .ensures) (left-low (a .arenas) (a .a) (nextAt arenaLinks (a .q)) (a .books .now) (fits .0) (fits .2)),
+      rw (at-leave .leave .ensures)
+          (leave-low (a .arenas) arenaLinks usableHead (a .a) (nextAt arenaLinks (a .q)) (a .books .now) (fits .0) (fits .2)),
     )
 
 same-length : tie.Need-same-length
