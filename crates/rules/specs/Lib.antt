@@ -10,6 +10,7 @@ pub mod GiveBack
 pub mod Resize
 pub mod View
 pub mod Numbers
+pub mod Audit
 pub mod Promises
 pub mod Replay
 pub mod Whole
@@ -17,5 +18,6 @@ pub mod Lines
 pub mod Cases
 pub mod Damaged
 pub mod Order
+pub mod Audits
 pub mod Sixteen
 pub mod Replays

@@ -7,6 +7,7 @@ use lib.Dec.{eqb}
 use Rattle.rules.specs.declared.Answer.{Answer}
 use Rattle.rules.specs.declared.Sized.{Sized}
 use Rattle.rules.specs.declared.Rolled.{Rolled}
+use Rattle.rules.specs.Say.{allBelow, howMany}
 use Rattle.rules.specs.Books.{Heap, at, inRange, exact, alignmentOf, bit, putBit, mapWord, putWord, carved}
 use Rattle.rules.specs.Blocks.{isStart, linkAt, putLink, live, isBlock, liveNumber}
 use Rattle.rules.specs.Lists.{leaveBy, joinBy}
@@ -52,6 +53,32 @@ use Rattle.rules.specs.Numbers.{
   write,
   rollCall,
 }
+use Rattle.rules.specs.Audit.{
+  inUse,
+  blocksOf,
+  hasSpare,
+  bitsBelow,
+  rule1,
+  arenaKeeps2,
+  rule2,
+  arenaKeeps3,
+  arenaKeeps4,
+  poolKeeps5,
+  leads,
+  meets,
+  poolKeeps6,
+  arenaKeeps6,
+  rule6,
+  allElseZero,
+  isDead,
+  chained,
+  isDivided,
+  poolKeeps8,
+  arenaKeeps9,
+  auditBy,
+  audit,
+  numberOf,
+}
 
 -- a line of a case: a call with its answer, a look, or damage that is done
 pub data Line : Type 0 where
@@ -63,6 +90,7 @@ pub data Line : Type 0 where
   views : ℕ → ℕ → ℕ → List ℕ → Line  -- o k s bytes: view's companion gives k and size s, view the bytes
   standsIn : ℕ → List ℕ → List ℕ → ℕ → ℕ → Line  -- o t bytes b i: t's stand-in is the bytes at (b, i)
   rolls : List ℕ → ℕ → ℕ → List ℕ → Line  -- w k n v: roll call over w gives k and count n, and leaves v
+  audits : ℕ → Line  -- k: the audit gives k
   has : (Heap → ℕ) → ℕ → Line  -- a number of the heap is as said
   spoil : (Heap → Heap) → Line  -- somebody changes the heap
 
@@ -112,7 +140,10 @@ unfolding inRange exact alignmentOf bit putBit carved isStart linkAt putLink liv
     planAsk takeFrom afterAsk askAnswer askStep walk emptying planBack afterBack backAnswer backStep
     giveOld moved resizeStep rollBlocks rollPool rollPools rangeNumber editionNumber lengthNumber reachNumber
     fitNumber shapeNumber sizeNumber roomNumber
-    format ask giveBack resize view viewSize standIn write rollCall link bitIn
+    format ask giveBack resize view viewSize standIn write rollCall
+    allBelow howMany inUse blocksOf hasSpare bitsBelow rule1 arenaKeeps2 rule2 arenaKeeps3 arenaKeeps4 poolKeeps5
+    leads meets poolKeeps6 arenaKeeps6 rule6 allElseZero isDead chained isDivided poolKeeps8 arenaKeeps9 auditBy
+    numberOf link bitIn
 runs [] h = true
 runs (formats A P e k ∷ ls) h = answers k 0 (format h A P e .answer) && runs ls (format h A P e .heap)
 runs (asks n k o ∷ ls) h = answers k o (ask h n .answer) && runs ls (ask h n .heap)
@@ -122,6 +153,7 @@ runs (writes o t k r ∷ ls) h = answers k r (write h o t .answer) && runs ls (w
 runs (views o k s t ∷ ls) h = sizedAs k s (viewSize h o) && same (view h o) t && runs ls h
 runs (standsIn o t u b i ∷ ls) h = same (standIn h o t) u && placedAs b i (standInAt h o) && runs ls h
 runs (rolls w k n v ∷ ls) h = rolledAs k n (rollCall h w .answer) && same (rollCall h w .words) v && runs ls h
+runs (audits k ∷ ls) h = eqb (audit h) k && runs ls h
 runs (has f v ∷ ls) h = eqb (f h) v && runs ls h
 runs (spoil f ∷ ls) h = runs ls (f h)
 

@@ -8,6 +8,7 @@ use Prim.Native.Nat.{ℕ, _+_}
 use Rattle.rules.specs.declared.Answer.{Answer}
 use Rattle.rules.specs.declared.Sized.{Sized}
 use Rattle.rules.specs.declared.Rolled.{Rolled}
+use Rattle.rules.specs.declared.Verdict.{Verdict}
 use Rattle.rules.specs.Books.{Heap}
 use Rattle.rules.specs.Outcome.{outcome}
 use Rattle.rules.specs.Numbers.{
@@ -24,6 +25,7 @@ use Rattle.rules.specs.Numbers.{
   rollOutcome,
   rollCall,
 }
+use Rattle.rules.specs.Audit.{audit, numberOf}
 
 -- what a call answers that is lent buffers to read alone, and the buffers
 infixr 12 _beside_
@@ -62,6 +64,13 @@ module _ (found left : Heap) where
   abbrev pub RollCallPromise : List ℕ → List ℕ → Rolled → Type 0
   RollCallPromise words rolled answer =
       rollOutcome (answer .number) (answer .count) rolled beside left ≡ rollCall found words beside found
+
+  -- the audit: yes, or the first broken rule; by its number, where the answer is one
+  abbrev pub AuditNumberPromise : ℕ → Type 0
+  AuditNumberPromise number = number beside left ≡ audit found beside found
+
+  abbrev pub AuditPromise : Verdict → Type 0
+  AuditPromise answer = AuditNumberPromise (numberOf answer)
 
 -- and by its place: the part lies where memory does, from the byte that `viewAt` says. A place is a buffer and a
 -- position in it

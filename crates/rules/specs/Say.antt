@@ -1,6 +1,8 @@
--- How the rules are said: a choice by a test, a chain of writes, a write that is made only where a test holds.
+-- How the rules are said: a choice by a test, a chain of writes, a write that is made only where a test holds; and of
+-- tests of numbers, whether each number passes, and how many do.
 -- Assumes nothing.
-use mathlib.Core.Bool.{Bool, true, false}
+use mathlib.Core.Bool.{Bool, true, false, _&&_}
+use Prim.Native.Nat.{ℕ, zero, suc, _+_}
 
 module _ {ℓ} {A : Type ℓ} where
   infix 10 if_then_else_
@@ -17,3 +19,18 @@ module _ {ℓ} {A : Type ℓ} where
   abbrev pub only : Bool → (A → A) → A → A
   only true f x = f x
   only false f x = x
+
+-- ---- tests
+-- u, where t holds
+infixr 11 _implies_
+abbrev pub _implies_ : Bool → Bool → Bool
+t implies u = if t then u else true
+
+-- whether each number below n passes the test; how many do
+unfoldable pub allBelow : (ℕ → Bool) → ℕ → Bool
+allBelow test zero = true
+allBelow test (suc n) = test n && allBelow test n
+
+unfoldable pub howMany : (ℕ → Bool) → ℕ → ℕ
+howMany test zero = 0
+howMany test (suc n) = (if test n then 1 else 0) + howMany test n

@@ -10,6 +10,7 @@ use Rattle.rules.specs.Books.{
   memoryLength,
   booksLength,
   mapLength,
+  onMemory,
   onMap,
   putMapBit,
   putWord,
@@ -20,7 +21,22 @@ use Rattle.rules.specs.Books.{
   nextoffset,
   maxnextoffset,
 }
-use Rattle.rules.specs.Lines.{Line, asks, gives, resizes, writes, views, rolls, has, spoil, word, every, fresh}
+use Rattle.rules.specs.Blocks.{putLink}
+use Rattle.rules.specs.Lines.{
+  Line,
+  asks,
+  gives,
+  resizes,
+  writes,
+  views,
+  rolls,
+  audits,
+  has,
+  spoil,
+  word,
+  every,
+  fresh,
+}
 use Rattle.rules.specs.Whole.{tab, each-three}
 
 -- a word of pool 0's record, in books of one arena
@@ -75,6 +91,17 @@ cases =
     ∷ (asks 16 0 48 ∷ asks 16 0 64 ∷ asks 16 0 80 ∷ spoil (putWord (pool0 count) 400) ∷ asks 16 0 96
     ∷ spoil (putWord (pool0 count) 505) ∷ asks 16 0 112 ∷ asks 16 6 0 ∷ gives 48 0 48
     ∷ spoil (putWord (pool0 count) 507) ∷ gives 64 6 0 ∷ [])
+    -- S16: the audit, by 253 blocks of 16, 32 classes, and heads 36 to 67 of lists that have no members
+    ∷ (asks 16 0 48 ∷ audits 0
+    ∷ spoil (onMap (putMapBit 0 253 1)) ∷ audits 5 ∷ spoil (onMap (putMapBit 0 253 0))
+    ∷ spoil (onMap (putMapBit 0 252 1)) ∷ audits 7 ∷ spoil (onMap (putMapBit 0 252 0))
+    ∷ spoil (putWord 36 1) ∷ audits 6 ∷ spoil (putWord 36 0) ∷ spoil (putWord 67 1) ∷ audits 6 ∷ [])
+    -- S17: class 32 has no blocks, in a pool in use, and in a freed one whose blocks of 528 bytes are in order
+    ∷ (asks 512 0 48 ∷ audits 0 ∷ spoil (putWord (pool0 class) 32) ∷ audits 5
+    ∷ spoil (putWord (pool0 class) 31) ∷ asks 16 0 4144 ∷ gives 48 0 48 ∷ audits 0
+    ∷ spoil (putWord (pool0 class) 32) ∷ spoil (putWord (pool0 maxnextoffset) 3568)
+    ∷ spoil (putWord (pool0 nextoffset) 1104) ∷ spoil (onMemory (putLink 48 576))
+    ∷ spoil (onMemory (putLink 576 0)) ∷ audits 8 ∷ [])
     ∷ []
 
 -- the table holds of a fresh heap over these three buffers

@@ -20,6 +20,20 @@ pub struct Rolled {
     pub count: u32,
 }
 
+// The audit: yes, or the first broken rule, by what it is about, in the order of their numbers from 1 (`numberOf`).
+pub enum Verdict {
+    Yes,
+    Shape,
+    Zeros,
+    Closed,
+    Open,
+    Bits,
+    Lists,
+    Counts,
+    Blocks,
+    Order,
+}
+
 // Where an ask gets a pool when its class list is empty. The number is the arena's.
 pub enum Source {
     Freed(usize),
