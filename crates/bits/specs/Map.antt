@@ -1,18 +1,20 @@
--- The laws of the live map: what every block's bit is after one is put. The map is a list of words, eight for each
--- pool.
+-- The laws of the live map: what every block's bit is after one is put, and of a pool that has no bit set. The map is
+-- a list of words, eight for each pool.
 -- Assumes nothing.
-use mathlib.Core.Path.{_≡_, sym, ap, _∙_}
+use mathlib.Core.Path.{_≡_, refl, sym, ap, _∙_}
+use mathlib.Core.Bool.{Bool, true, false, _&&_, false≢true}
 use mathlib.Core.List.{List}
-use Prim.Native.Nat.{ℕ, _%_, _<_}
+use Prim.Native.Nat.{ℕ, zero, suc, _+_, _*_, _/_, _%_, _<_}
+use native.Mathlib.Nat.{not-suc-le-zero, add-zero}
 use native.Mathlib.Decide.{decLt, ℕ-discrete}
 use native.Mathlib.Omega.{arith}
 use lib.Dec.{eqb}
 use lib.ListN.{length, set, length-set}
 use lib.Seq.{getD-set-same, getD-set-other, set-out}
-use borrow.Author.Tests.{eq-eqb, ne-eqb}
+use borrow.Author.Tests.{eq-eqb, ne-eqb, eqb-true}
 use Rattle.rules.specs.Say.{if_then_else_}
 use Rattle.rules.specs.Books.{at, bit, putBit, mapWord, isSet, putMapBit}
-use Rattle.bits.specs.Bit.{put-same, put-other}
+use Rattle.bits.specs.Bit.{no-bit, put-same, put-other}
 
 -- putting a bit keeps the length
 pub length-put : (m : List ℕ) (n k d : ℕ) → length (putMapBit n k d m) ≡ length m
@@ -51,3 +53,41 @@ put-block m n k d y j hd hk hj l = go (ℕ-discrete y n) (ℕ-discrete j k)
     go (yes p) (yes q) = rw (eq-eqb y n p, eq-eqb j k q, p, q) (put-same-block m n k d hd l)
     go (yes p) (no q) = rw (eq-eqb y n p, ne-eqb j k q) (put-other-block m n k d y j hd hk hj (λ _ e. q e))
     go (no p) t = rw (ne-eqb y n p) (put-other-block m n k d y j hd hk hj (λ e _. p e))
+
+-- ---- the first n of some words are 0
+unfoldable pub zeros : (ℕ → ℕ) → ℕ → Bool
+zeros w zero = true
+zeros w (suc n) = zeros w n && eqb (w n) 0
+
+pub each-zero : (w : ℕ → ℕ) (n : ℕ) → zeros w n ≡ true → (i : ℕ) → i < n → w i ≡ 0
+unfolding zeros
+each-zero w zero e i h = absurd (not-suc-le-zero h)
+each-zero w (suc n) e i h = go (zeros w n) (eqb (w n) 0) refl refl e (λ z. each-zero w n z i) (ℕ-discrete i n)
+  where
+    go : (t u : Bool) → zeros w n ≡ t → eqb (w n) 0 ≡ u → t && u ≡ true → (zeros w n ≡ true → i < n → w i ≡ 0)
+        → Dec (i ≡ n) → w i ≡ 0
+    go true true p q r rest (yes s) = ap w s ∙ eqb-true (w n) 0 q
+    go true true p q r rest (no s) = rest p (omega arith)
+    go true false p q r rest d = absurd (false≢true r)
+    go false u p q r rest d = absurd (false≢true r)
+
+-- ---- no bit of pool p is set
+abbrev pub noneSet : List ℕ → ℕ → Bool
+noneSet m p =
+    eqb (at m (8 * p)) 0
+    && eqb (at m (8 * p + 1)) 0
+    && eqb (at m (8 * p + 2)) 0
+    && eqb (at m (8 * p + 3)) 0
+    && eqb (at m (8 * p + 4)) 0
+    && eqb (at m (8 * p + 5)) 0
+    && eqb (at m (8 * p + 6)) 0
+    && eqb (at m (8 * p + 7)) 0
+
+-- so none of its blocks is live
+module _ (m : List ℕ) (p : ℕ) (e : noneSet m p ≡ true) where
+  eight : zeros (λ i. at m (8 * p + i)) 8 ≡ true
+  unfolding zeros
+  eight = rw add-zero e
+
+  pub not-set : (k : ℕ) → k < 512 → isSet m p k ≡ false
+  not-set k h = rw (each-zero (λ i. at m (8 * p + i)) 8 eight (k / 64) (omega arith), no-bit (k % 64))

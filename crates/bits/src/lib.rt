@@ -5,6 +5,7 @@ ghost use Prim.Native.Nat.{_+_, _*_, _<_, _≤_};
 ghost use lib.ListN.{length};
 ghost use lib.Count.{onesIn};
 ghost use Rattle.rules.specs.Books.{isSet, putMapBit};
+ghost use Rattle.bits.specs.Map.{noneSet};
 
 // Block k of the pool is live.
 pub fn is_set(map: &[u64], pool: usize, k: usize) -> bool
@@ -31,6 +32,22 @@ pub fn clear_bit(map: &mut [u64], pool: usize, k: usize)
 {
     let word = 8 * pool + k / 64;
     map[word] &= !(1 << (k % 64));
+}
+
+// No bit of the pool is set, at a block or at none: so it has no live block, whatever its class.
+pub fn none_set(map: &[u64], pool: usize) -> bool
+    requires { ⌜ 8 * pool + 8 ≤ length (now map) ⌝ }
+    ensures { λ r. ⌜ r ≡ noneSet (now (map .entry)) pool ⌝ }
+{
+    let word = 8 * pool;
+    (map[word] == 0)
+        & (map[word + 1] == 0)
+        & (map[word + 2] == 0)
+        & (map[word + 3] == 0)
+        & (map[word + 4] == 0)
+        & (map[word + 5] == 0)
+        & (map[word + 6] == 0)
+        & (map[word + 7] == 0)
 }
 
 // How many of the first n blocks of a map word are live. The bits past them are shifted out. A word with no live block

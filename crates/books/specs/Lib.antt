@@ -1,4 +1,5 @@
--- The pool record as a struct, and the laws of tests, records, lists, starts and sizes that steps and calls cite.
+-- The pool record as a struct, and the laws of tests, records, lists, starts, sizes and verdicts that steps and calls
+-- cite.
 pub mod Tests
 pub mod Passing
 pub mod Records
@@ -6,3 +7,4 @@ pub mod Lists
 pub mod Starts
 pub mod Sizes
 pub mod Known
+pub mod Verdicts

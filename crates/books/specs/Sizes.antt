@@ -1,8 +1,10 @@
--- What is known of an edition's alignment, 8 or 16, and of block sizes and capacities at it.
+-- What is known of an edition's alignment, 8 or 16, of block sizes and capacities at it, and of how many blocks a pool
+-- is to have on its chain.
 -- Assumes nothing.
 use mathlib.Core.Path.{_≡_, refl}
 use mathlib.Core.Logic.{_⊎_, inl, inr}
-use mathlib.Core.Bool.{true, false}
+use mathlib.Core.Bool.{Bool, true, false, not, _&&_}
+use mathlib.Core.List.{List}
 use Prim.Native.Nat.{ℕ, _+_, _*_, _-_, _/_, _^_, _≤_, _<_}
 use native.Mathlib.Nat.{
   div-add-mod,
@@ -15,11 +17,13 @@ use native.Mathlib.Nat.{
 }
 use native.Mathlib.Decide.{ℕ-discrete}
 use native.Mathlib.Omega.{arith}
-use lib.Dec.{leb}
+use lib.Dec.{leb, ltb}
 use lib.Bits.{bitOr, or-step, or-zero-r}
 use borrow.Author.Tests.{ne-eqb, le-leb, lt-leb}
-use Rattle.rules.specs.Books.{alignmentOf}
+use Rattle.rules.specs.Say.{if_then_else_}
+use Rattle.rules.specs.Books.{alignmentOf, class, pool, carved}
 use Rattle.rules.specs.Blocks.{classOf, sizeOf, lastClass, capacity}
+use Rattle.rules.specs.Audit.{setBits, inUse, blocksOf, hasSpare, leastOnChain}
 use Rattle.books.specs.Starts.{capacity-le}
 
 -- an alignment at which the laws hold
@@ -95,6 +99,28 @@ module _ {al : ℕ} (L : Aligned al) (c : ℕ) (l : c ≤ lastClass al) where
     where
       last-low : lastClass al < 64
       last-low = div-lt-iff-lt-mul {k = al} {x = 511} {y = 64} (omega (arith, L .low)) .1 (omega (arith, L .low))
+
+-- 02, W-201, "a class above 63 has no blocks": a class has as many as its capacity
+pub blocks-are : (al c : ℕ) → c ≤ lastClass al → blocksOf al c ≡ capacity (sizeOf al c)
+unfolding blocksOf
+blocks-are al c l = rw (le-leb c (lastClass al) l)
+
+-- "with two at least on the chain if the pool is freed, one unless it is full": by how many of its blocks are live
+abbrev pub leastBy : ℕ → ℕ → ℕ
+leastBy live blocks = if ltb 0 live then (if ltb live blocks then 1 else 0) else 2
+
+-- which is what a carved pool of a class is asked for
+pub least-is : (al A P : ℕ) (b map : List ℕ) (n : ℕ) → carved P b n ≡ true → pool A b class n ≤ lastClass al
+    → leastOnChain al A P b map n ≡ leastBy (setBits map n) (capacity (sizeOf al (pool A b class n)))
+unfolding inUse hasSpare
+least-is al A P b map n e l =
+    rw (e, blocks-are al (pool A b class n) l) (go (ltb 0 (setBits map n)) (ltb (setBits map n) (capacity (sizeOf al (pool A b class n)))))
+  where
+    go : (t u : Bool)
+        → _≡_ {A = ℕ} (if not t then 2 else if t && not u then 0 else 1) (if t then (if u then 1 else 0) else 2)
+    go true true = refl
+    go true false = refl
+    go false u = refl
 
 -- the test of a class, by its size
 pub no-class : {al : ℕ} → Aligned al → (c : ℕ) → 512 < sizeOf al c → leb c (lastClass al) ≡ false

@@ -1,12 +1,13 @@
 -- The laws of block starts, once for every block size.
 -- Assumes nothing.
-use mathlib.Core.Path.{_≡_}
-use mathlib.Core.Bool.{true, _&&_}
+use mathlib.Core.Path.{_≡_, refl, sym, ap, _∙_}
+use mathlib.Core.Bool.{Bool, true, false, _&&_, _||_, or-true}
 use Prim.Native.Nat.{ℕ, _+_, _*_, _-_, _%_, _≤_, _<_}
 use native.Mathlib.Nat.{div-add-mod', div-mul-le-self, le-div-iff-mul-le, mul-le-mul-left, mul-le-mul-right, mul-div-cancel, mul-mod-left}
+use native.Mathlib.Decide.{decLt}
 use native.Mathlib.Omega.{arith}
 use lib.Dec.{leb, eqb}
-use borrow.Author.Tests.{leb-true, eqb-true, le-leb}
+use borrow.Author.Tests.{leb-true, eqb-true, eq-eqb, le-leb}
 use Rattle.books.specs.Tests.{both}
 use Rattle.rules.specs.Blocks.{startOf, lastStart, isStart, blockNo, capacity}
 
@@ -56,3 +57,25 @@ pub second-block : (s : ℕ) → 1 ≤ s → s ≤ 2024 → (isStart s (48 + s) 
 second-block s l h =
     let e : startOf s 1 ≡ 48 + s = omega arith in
     (rw e at (start-is s 1 (le-div-iff-mul-le {k = s} l .1 (omega arith))), rw e at (number-is s 1 l))
+
+-- 02, W-201, "a block start or the last block's end": both are where a block would start, of a number up to the
+-- capacity
+module _ (s o : ℕ) (low : 8 ≤ s) where
+  pub next-is : isStart s o || eqb o (startOf s (capacity s)) ≡ true
+      → (o ≡ startOf s (blockNo s o)) × (blockNo s o ≤ capacity s)
+  next-is e = go (isStart s o) refl e
+    where
+      go : (t : Bool) → isStart s o ≡ t → t || eqb o (startOf s (capacity s)) ≡ true
+          → (o ≡ startOf s (blockNo s o)) × (blockNo s o ≤ capacity s)
+      go true p q = let S = start s o low p in (sym (S .place), omega (arith, S .number))
+      go false p q =
+          let f : o ≡ startOf s (capacity s) = eqb-true o (startOf s (capacity s)) q in
+          let g : blockNo s o ≡ capacity s = ap (blockNo s) f ∙ number-is s (capacity s) (omega arith) in
+          (f ∙ ap (startOf s) (sym g), omega arith)
+
+  pub is-next : (v : ℕ) → o ≡ startOf s v → v ≤ capacity s → isStart s o || eqb o (startOf s (capacity s)) ≡ true
+  is-next v e l = go (decLt v (capacity s))
+    where
+      go : Dec (v < capacity s) → isStart s o || eqb o (startOf s (capacity s)) ≡ true
+      go (yes d) = rw (e, start-is s v d)
+      go (no d) = let q : v ≡ capacity s = omega arith in rw (eq-eqb o (startOf s (capacity s)) (e ∙ ap (startOf s) q), or-true)

@@ -3,7 +3,7 @@
 ghost use mathlib.Core.Path.{_≡_};
 ghost use Prim.Native.Nat.{_*_, _/_, _^_, _<_, _≤_};
 ghost use lib.ListN.{length};
-ghost use Rattle.rules.specs.Books.{at, arenaWord, arena, carved};
+ghost use Rattle.rules.specs.Books.{at, arenaWord, arena, poolWord, pool, carved};
 ghost use Rattle.books.specs.Known.{shapeOf};
 
 // The heads of the lists, and the first record.
@@ -38,6 +38,9 @@ pub const FREED_HEAD: usize = 3;
 pub const ARENA_NEXT: usize = 4;
 
 pub const ARENA_PREVIOUS: usize = 5;
+
+// The last two words of an arena record, which are 0: this one and the next.
+pub const ARENA_SPARE: usize = 6;
 
 // A pool record.
 pub const COUNT: usize = 0;
@@ -74,6 +77,16 @@ pub fn word(books: &[u32], i: usize) -> usize
     index(books[i])
 }
 
+// Word i of the books, and 0 past their end.
+pub fn word_or_none(books: &[u32], i: usize) -> usize
+    ensures { λ r. ⌜ (r ≡ at (now (books .entry)) i) × (r < 2 ^ 32) ⌝ }
+{
+    if books.len() <= i {
+        return 0;
+    }
+    word(books, i)
+}
+
 // What the books say of their heap: how many arenas, of how many pools, and the edition.
 pub struct Shape {
     pub arenas: usize,
@@ -98,6 +111,14 @@ pub fn arena_word(books: &[u32], w: usize, a: usize) -> usize
     ensures { λ r. ⌜ (r ≡ arena (now (books .entry)) w a) × (r < 2 ^ 32) ⌝ }
 {
     word(books, RECORDS + 8 * a + w)
+}
+
+// Word w of pool n's record, in books of so many arenas.
+pub fn pool_word(books: &[u32], arenas: usize, w: usize, n: usize) -> usize
+    requires { ⌜ poolWord arenas w n < length (now books) ⌝ }
+    ensures { λ r. ⌜ (r ≡ pool arenas (now (books .entry)) w n) × (r < 2 ^ 32) ⌝ }
+{
+    word(books, RECORDS + 8 * arenas + 8 * n + w)
 }
 
 // The arena of a pool.

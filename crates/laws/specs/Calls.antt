@@ -9,14 +9,13 @@ use Prim.Native.Nat.{ℕ, _+_, _/_, _≤_}
 use native.Mathlib.Decide.{ℕ-discrete}
 use native.Mathlib.Omega.{arith}
 use lib.Dec.{leb, ltb, eqb}
-use lib.ListN.{length}
-use borrow.Author.Tests.{eq-eqb, ne-eqb, le-leb, lt-ltb, leb-true}
+use borrow.Author.Tests.{eq-eqb, ne-eqb, le-leb, leb-true}
 use Rattle.rules.specs.declared.AskPlan.{AskPlan}
 use Rattle.rules.specs.declared.AskPlan.the-variants.{NoRoom}
 use Rattle.rules.specs.declared.BackPlan.{BackPlan}
 use Rattle.rules.specs.declared.BackPlan.the-variants.{Joins, Stays, Empties, Moves, Returns, Releases}
 use Rattle.rules.specs.Say.{if_then_else_}
-use Rattle.rules.specs.Books.{Heap, editionWord}
+use Rattle.rules.specs.Books.{Heap}
 use Rattle.rules.specs.Blocks.{
   classOf,
   sizeOf,
@@ -32,28 +31,12 @@ use Rattle.rules.specs.Outcome.{Outcome, outcome, refused, answerOf, passing}
 use Rattle.rules.specs.Ask.{askStep, askAnswer, afterAsk}
 use Rattle.rules.specs.GiveBack.{backStep, backAnswer, afterBack}
 use Rattle.rules.specs.View.{part}
-use Rattle.rules.specs.Numbers.{
-  rangeNumber,
-  editionNumber,
-  lengthNumber,
-  reachNumber,
-  shapeNumber,
-  sizeNumber,
-  inOrder,
-  offsetTests,
-  blockSize,
-  sizedOf,
-  ask,
-  giveBack,
-  view,
-  viewSize,
-}
-use Rattle.books.specs.Known.{shaped}
+use Rattle.rules.specs.Numbers.{sizeNumber, inOrder, offsetTests, blockSize, sizedOf, ask, giveBack, view, viewSize}
 use Rattle.books.specs.Tests.{either}
 use Rattle.books.specs.Sizes.{Aligned, has-class}
-use Rattle.laws.specs.Update.{to}
-use Rattle.laws.specs.Rising.{following}
-use Rattle.laws.specs.Plain.{
+use Rattle.sequences.specs.Update.{to}
+use Rattle.sequences.specs.Rising.{following}
+use Rattle.sound.specs.Plain.{
   Plain,
   count,
   free,
@@ -68,10 +51,11 @@ use Rattle.laws.specs.Plain.{
   askPlain,
   backPlain,
 }
-use Rattle.laws.specs.Sound.{Sound}
-use Rattle.laws.specs.Paths.{Asked, Backed}
-use Rattle.laws.specs.Emptied.{back-any}
-use Rattle.laws.specs.Sources.{ask-any}
+use Rattle.sound.specs.Sound.{Sound}
+use Rattle.sound.specs.Grounds.{shape-zero}
+use Rattle.sound.specs.Paths.{Asked, Backed}
+use Rattle.sound.specs.Emptied.{back-any}
+use Rattle.sound.specs.Sources.{ask-any}
 use Rattle.laws.specs.Holding.{
   LiveAt,
   liveSize,
@@ -86,21 +70,6 @@ use Rattle.laws.specs.Holding.{
   holding-kept,
   Leaves,
 }
-
--- rule 1: no 1 or 2
-pub shape-zero : {al A P : ℕ} {h : Heap} {r : Plain} → Sound al A P h r → shapeNumber h ≡ 0
-unfolding shapeNumber rangeNumber editionNumber lengthNumber reachNumber
-shape-zero {al} {A} {P} {h} S =
-    let K = shaped h A P (S .rule1 .range) (S .rule1 .lengths) in
-    rw (
-      lt-ltb 1 (length (h .books)) (omega (arith, K .books)),
-      lt-ltb editionWord (length (h .books)) (omega (arith, K .books)),
-      S .rule1 .arenas-are,
-      S .rule1 .pools-are,
-      S .rule1 .range,
-      S .rule1 .an-edition,
-      S .rule1 .lengths,
-    )
 
 -- ---- the live test: 0 lets the call go on, and an offset that is not live gets 5 or 10
 module _ (al A P : ℕ) (b : List ℕ) (o : ℕ) where
@@ -126,7 +95,7 @@ module _ {al A P : ℕ} {h : Heap} {r : Plain} (S : Sound al A P h r) (o : ℕ) 
       → passing (offsetTests h o) refusal rest
       ≡ (if live al A P (h .books) (h .map) o then rest else refusal (deadNumber al A P (h .books) o))
   by-live refusal rest =
-      rw (shape-zero S, S .rule1 .alignment-is, S .rule1 .arenas-are, S .rule1 .pools-are) (live-test al A P (h .books) o (h .map) refusal rest)
+      rw (shape-zero (S .rule1), S .rule1 .alignment-is, S .rule1 .arenas-are, S .rule1 .pools-are) (live-test al A P (h .books) o (h .map) refusal rest)
 
   pub view-is : view h o ≡ holding al A P h o
   unfolding view holding
@@ -182,7 +151,7 @@ done-or-not al P r c = by-class (r .listed c) refl
 module _ {al A P : ℕ} {h : Heap} {r : Plain} (L : Aligned al) (S : Sound al A P h r) (n : ℕ) where
   pub ask-size : sizeNumber n ≡ 3 → ask h n ≡ refused 3 h
   unfolding ask
-  ask-size e = rw (shape-zero S, e)
+  ask-size e = rw (shape-zero (S .rule1), e)
 
   module _ (low : 1 ≤ n) (high : n ≤ 512) where
     pub ask-done : Asked al A P h r (classOf al n)
@@ -195,7 +164,7 @@ module _ {al A P : ℕ} {h : Heap} {r : Plain} (L : Aligned al) (S : Sound al A 
     unfolding ask askStep sizeNumber
     ask-is =
         rw (
-          shape-zero S,
+          shape-zero (S .rule1),
           le-leb 1 n low,
           le-leb n 512 high,
           S .rule1 .alignment-is,
@@ -308,7 +277,7 @@ module _ {al A P : ℕ} {h : Heap} {r : Plain} (L : Aligned al) (S : Sound al A 
     unfolding giveBack backStep liveNumber
     back-is =
         rw (
-          shape-zero S,
+          shape-zero (S .rule1),
           S .rule1 .alignment-is,
           S .rule1 .arenas-are,
           S .rule1 .pools-are,

@@ -1,20 +1,35 @@
--- A run of the public functions of crate heap, each call keeping its promise, is a history: its buffers and numbers
--- are those of the rules' run. So the theorems speak of the running code.
+-- A run of the public functions of crates heap and audit, each call keeping its promise, is a history: its buffers and
+-- numbers are those of the rules' run. So the theorems speak of the running code.
 -- Assumes nothing.
 use mathlib.Core.Path.{_≡_, refl, sym, ap, ap₂, _∙_, subst}
 use mathlib.Core.Logic.{_≢_}
+use mathlib.Core.Bool.{Bool, true, false}
 use mathlib.Core.List.{List, [], _∷_, _++_}
-use Prim.Native.Nat.{ℕ, _+_, _≤_}
+use Prim.Native.Nat.{ℕ, zero, suc, _+_, _≤_}
 use lib.ListN.{length, drop}
 use Rattle.rules.specs.declared.Answer.{Answer}
 use Rattle.rules.specs.declared.Sized.{Sized}
 use Rattle.rules.specs.declared.Rolled.{Rolled}
-use Rattle.rules.specs.Books.{Heap}
+use Rattle.rules.specs.declared.Verdict.{Verdict}
+use Rattle.rules.specs.declared.Verdict.the-variants.{
+  Yes,
+  Shape,
+  Zeros,
+  Closed,
+  Open,
+  Bits,
+  Lists,
+  Counts,
+  Blocks,
+  Order,
+}
+use Rattle.rules.specs.Books.{Heap, arenas, pools, alignment}
 use Rattle.rules.specs.Say.{if_then_else_}
 use Rattle.rules.specs.Outcome.{Outcome, outcome, answerOf, refused}
 use Rattle.rules.specs.Numbers.{
   RollOutcome,
   rolledOf,
+  _before_,
   format,
   ask,
   giveBack,
@@ -27,6 +42,7 @@ use Rattle.rules.specs.Numbers.{
   rollCall,
 }
 use Rattle.rules.specs.Promises.{
+  _beside_,
   FormatPromise,
   AskPromise,
   GiveBackPromise,
@@ -37,7 +53,25 @@ use Rattle.rules.specs.Promises.{
   StandInPlace,
   WritePromise,
   RollCallPromise,
+  AuditPromise,
 }
+use Rattle.rules.specs.Audit.{
+  rule1,
+  rule2,
+  rule3,
+  rule4,
+  rule5,
+  rule6,
+  rule7,
+  rule8,
+  rule9,
+  broken,
+  auditBy,
+  audit,
+  numberOf as ruleOf,
+}
+use Rattle.books.specs.Tests.{either}
+use Rattle.books.specs.Verdicts.{verdictOf, of-number}
 use Rattle.laws.specs.History.{
   Event,
   formats,
@@ -49,8 +83,12 @@ use Rattle.laws.specs.History.{
   standsIn,
   writes,
   rolls,
+  audits,
   pokes,
   State,
+  Beginning,
+  Begins,
+  begun,
   released,
   numberOf,
   after,
@@ -58,9 +96,9 @@ use Rattle.laws.specs.History.{
   NoSix,
 }
 use Rattle.laws.specs.Theorems.{
-  begun,
   end,
   no-six,
+  audit-yes,
   back-twice,
   view-shows,
   stand-in-shows,
@@ -70,8 +108,8 @@ use Rattle.laws.specs.Theorems.{
 }
 
 -- the call of event e, over the buffers of the state x, answered number k and left the buffers of g: that it kept its
--- promise, which has here the name that its contract in crate heap uses. View and the stand-in answer no number, and a
--- holder writes its byte itself
+-- promise, which has here the name that its contract uses. An audit answers a verdict, whose number `ruleOf` says, view
+-- and the stand-in answer no number, and a holder writes its byte itself
 abbrev pub Kept : State → Event → ℕ → Heap → Type 0
 Kept x (formats A P e) k g = (r : Answer) × (r .number ≡ k) × FormatPromise (x .heap) g A P e r
 Kept x (asks n) k g = (r : Answer) × (r .number ≡ k) × AskPromise (x .heap) g n r
@@ -82,6 +120,7 @@ Kept x (sizes o) k g = (r : Sized) × (r .number ≡ k) × ViewSizePromise (x .h
 Kept x (standsIn o phrase) k g = (part same : List ℕ) × (0 ≡ k) × StandInPromise (x .heap) g o phrase same part
 Kept x (writes o text) k g = (r : Answer) × (r .number ≡ k) × WritePromise (x .heap) g o text r
 Kept x (rolls words) k g = (r : Rolled) × (v : List ℕ) × (r .number ≡ k) × RollCallPromise (x .heap) g words v r
+Kept x audits k g = (r : Verdict) × (ruleOf r ≡ k) × AuditPromise (x .heap) g r
 Kept x (pokes o d v) k g = (0 ≡ k) × (g ≡ after x (pokes o d v) .heap)
 
 -- the state x, over the buffers of g
@@ -117,6 +156,7 @@ kept-is x (standsIn o phrase) k g t = (sym (t .2), sym (ap (λ (y : List ℕ × 
 kept-is x (writes o text) k g t = answered (write (x .heap) o text) (t .0) g k (t .1) (t .2)
 kept-is x (rolls words) k g t =
     (sym (t .2) ∙ ap (λ (y : RollOutcome × Heap). y .0 .answer .number) (t .3), sym (ap (λ (y : RollOutcome × Heap). y .1) (t .3)))
+kept-is x audits k g t = (sym (t .1) ∙ ap (λ (y : ℕ × Heap). y .0) (t .2), sym (ap (λ (y : ℕ × Heap). y .1) (t .2)))
 kept-is x (pokes o d v) k g t = (sym (t .0), sym (t .1))
 
 -- ---- the whole run
@@ -133,6 +173,28 @@ ran-is {x} (next {g = g} {e = e} {es = es} {k = k} t rest) =
     )
 
 -- ---- and there is such a run of every history
+-- what the audit says is a verdict's number: that of the first broken rule, or of yes
+abbrev Named : ℕ → Type 0
+Named k = (r : Verdict) × (ruleOf r ≡ k)
+
+pub verdict : (al A P : ℕ) (h : Heap) → Named (auditBy al A P h)
+unfolding auditBy ruleOf
+verdict al A P h =
+    named 1 (Shape, refl) (rule1 h) _
+    (named 2 (Zeros, refl) (rule2 A P (h .books)) _
+    (named 3 (Closed, refl) (rule3 A (h .books)) _
+    (named 4 (Open, refl) (rule4 A P (h .books) (h .map)) _
+    (named 5 (Bits, refl) (rule5 al A P (h .books) (h .map)) _
+    (named 6 (Lists, refl) (rule6 al A P (h .books) (h .map)) _
+    (named 7 (Counts, refl) (rule7 A P (h .books) (h .map)) _
+    (named 8 (Blocks, refl) (rule8 al A P (h .memory) (h .books) (h .map)) _
+    (either Named (rule9 A (h .books)) 0 9 (λ _. (Yes, refl)) (λ _. (Order, refl))))))))))
+  where
+    named : (k : ℕ) → Named k → (rule : Bool) (rest : ℕ) → Named rest → Named (broken k rule before rest)
+    named k this true rest more = more
+    named zero this false rest more = more
+    named (suc k) this false rest more = this
+
 -- what the call of an event answers and leaves, and that it keeps its promise
 abbrev pub kept : (x : State) (e : Event) → (k : ℕ) × (g : Heap) × Kept x e k g
 kept x (formats A P e) = let y = format (x .heap) A P e in (y .answer .number, y .heap, (y .answer, refl, refl))
@@ -146,6 +208,10 @@ kept x (writes o text) = let y = write (x .heap) o text in (y .answer .number, y
 kept x (rolls words) =
     let y = rollCall (x .heap) words in
     (y .answer .number, x .heap, (y .answer, y .words, refl, refl))
+kept x audits =
+    let h = x .heap in
+    let v = verdict (alignment h) (arenas h) (pools h) h in
+    (audit h, h, (v .0, v .1, ap (λ (k : ℕ). k beside h) (v .1)))
 kept x (pokes o d v) = (0, after x (pokes o d v) .heap, (refl, refl))
 
 abbrev pub Run : State → List Event → Type 0
@@ -169,12 +235,17 @@ unfolding numbers
 sixless x [] t = tt
 sixless x (e ∷ es) t = (t .0, sixless (after x e) es (t .1))
 
--- a run over any buffers: a format that is done, and then any calls
-module _ (h : Heap) (A P e : ℕ) (ok : format h A P e .answer .number ≡ 0) (es : List Event)
-    {ks : List ℕ} {g : Heap} (ran : Ran (begun h A P e) es ks g) where
+-- a run over any buffers: a format that is done, or a heap that the audit passes, and then any calls
+module _ (start : Beginning) (ok : Begins start) (es : List Event)
+    {ks : List ℕ} {g : Heap} (ran : Ran (begun start) es ks g) where
   -- no call answers 6
   pub ran-no-six : Sixless ks
-  ran-no-six = subst Sixless (sym (ran-is ran .1)) (sixless (begun h A P e) es (no-six h A P e ok es))
+  ran-no-six = subst Sixless (sym (ran-is ran .1)) (sixless (begun start) es (no-six start ok es))
+
+  -- and an audit says yes
+  pub ran-audit : {left : Heap} (r : Verdict) → AuditPromise g left r → r ≡ Yes
+  ran-audit r kept =
+      sym (of-number r) ∙ ap verdictOf (ap (λ (y : ℕ × Heap). y .0) kept ∙ ap audit (ran-is ran .0) ∙ audit-yes start ok es)
 
   -- the customer's second give-back, right after one that is done: it is refused, with 5 if the first one released the
   -- arena and otherwise with 10, and changes nothing
@@ -183,8 +254,8 @@ module _ (h : Heap) (A P e : ℕ) (ok : format h A P e .answer .number ≡ 0) (e
       → (second ≡ answerOf (if released g once o then 5 else 10) 0) × (left ≡ once)
   ran-twice {once} o first second kept done again =
       let q = ap (λ (x : Heap). giveBack x o) (sym (ran-is ran .0)) ∙ sym kept in
-      let t = back-twice h A P e ok es o (ap (λ (y : Outcome). y .answer .number) q ∙ done) in
-      let u = subst (λ (x : Heap). Refuses x once) (sym (ran-is ran .0)) (subst (Refuses (end h A P e ok es .heap)) (ap (λ (y : Outcome). y .heap) q) t) in
+      let t = back-twice start ok es o (ap (λ (y : Outcome). y .answer .number) q ∙ done) in
+      let u = subst (λ (x : Heap). Refuses x once) (sym (ran-is ran .0)) (subst (Refuses (end start ok es .heap)) (ap (λ (y : Outcome). y .heap) q) t) in
       (ap (λ (y : Outcome). y .answer) (again ∙ u), ap (λ (y : Outcome). y .heap) (again ∙ u))
     where
       Refuses : Heap → Heap → Type 0
@@ -193,28 +264,28 @@ module _ (h : Heap) (A P e : ℕ) (ok : format h A P e .answer .number ≡ 0) (e
   -- a roll call with room for it lists the ledger of the calls: offset and size of each block that is held, and how
   -- many there are
   pub ran-roll : {left : Heap} (words v : List ℕ) (r : Rolled)
-      → RollCallPromise g left words v r → length (entries h A P e ok es) ≤ length words
-      → (r ≡ rolledOf 0 (entryCount h A P e ok es))
-      × (v ≡ entries h A P e ok es ++ drop (length (entries h A P e ok es)) words)
+      → RollCallPromise g left words v r → length (entries start ok es) ≤ length words
+      → (r ≡ rolledOf 0 (entryCount start ok es))
+      × (v ≡ entries start ok es ++ drop (length (entries start ok es)) words)
   ran-roll words v r kept room =
       let q = ap (λ (x : RollOutcome × Heap). x .0) kept
       ∙ ap (λ (x : Heap). rollCall x words) (ran-is ran .0)
-      ∙ roll-with-room h A P e ok es words room in
+      ∙ roll-with-room start ok es words room in
       (ap (λ (x : RollOutcome). x .answer) q, ap (λ (x : RollOutcome). x .words) q)
 
   -- and a view shows the ledger of the calls: the bytes of the block that is held there, or none
   pub ran-view : {left : Heap} (o : ℕ) (part : List ℕ)
-      → ViewPromise g left o part → part ≡ end h A P e ok es .ledger o
-  ran-view o part kept = ap (λ (x : List ℕ × Heap). x .0) kept ∙ ap (λ (x : Heap). view x o) (ran-is ran .0) ∙ view-shows h A P e ok es o
+      → ViewPromise g left o part → part ≡ end start ok es .ledger o
+  ran-view o part kept = ap (λ (x : List ℕ × Heap). x .0) kept ∙ ap (λ (x : Heap). view x o) (ran-is ran .0) ∙ view-shows start ok es o
 
   -- and a stand-in hands back the same, from memory itself, or its phrase where no block is held
   pub ran-stand-in : {left : Heap} (o : ℕ) (phrase same part : List ℕ) (memory lent at : ℕ × ℕ)
       → StandInPromise g left o phrase same part × StandInPlace g o memory lent at
-      → (end h A P e ok es .ledger o ≢ []
-      → (part ≡ end h A P e ok es .ledger o) × (at ≡ (memory .0, o + memory .1)))
-      × (end h A P e ok es .ledger o ≡ [] → (part ≡ phrase) × (at ≡ lent))
+      → (end start ok es .ledger o ≢ []
+      → (part ≡ end start ok es .ledger o) × (at ≡ (memory .0, o + memory .1)))
+      × (end start ok es .ledger o ≡ [] → (part ≡ phrase) × (at ≡ lent))
   ran-stand-in o phrase same part memory lent at kept =
       let p = ap (λ (x : List ℕ × (List ℕ × Heap)). x .0) (kept .0) ∙ ap (λ (x : Heap). standIn x o phrase) (ran-is ran .0) in
       let q = kept .1 ∙ ap (λ (x : Heap). standInAt x o memory lent) (ran-is ran .0) in
-      let t = stand-in-shows h A P e ok es o phrase memory lent in
+      let t = stand-in-shows start ok es o phrase memory lent in
       (λ some. let u = t .0 some in (p ∙ u .0, q ∙ u .1), λ none. let u = t .1 none in (p ∙ u .0, q ∙ u .1))

@@ -60,13 +60,13 @@ use Rattle.rules.specs.Numbers.{
 use Rattle.books.specs.Known.{shaped, at-start-is, live-zero, live-is}
 use Rattle.books.specs.Tests.{both, neither, either}
 use Rattle.books.specs.Sizes.{Aligned, aligned, size-low, class-low}
-use Rattle.laws.specs.Update.{is-false, to, to-same, to-other}
-use Rattle.laws.specs.Plain.{Plain, carved, planAsk as plainAsk, askPlain, backPlain}
-use Rattle.laws.specs.Chains.{live-below}
-use Rattle.laws.specs.Sound.{Sound}
-use Rattle.laws.specs.Held.{held, arena-low, opened, open-word, carved-word, classed}
+use Rattle.sequences.specs.Update.{is-false, to, to-same, to-other}
+use Rattle.sound.specs.Plain.{Plain, carved, planAsk as plainAsk, askPlain, backPlain}
+use Rattle.sound.specs.Chains.{live-below}
+use Rattle.sound.specs.Sound.{Sound}
+use Rattle.sound.specs.Held.{held, arena-low, opened, open-word, carved-word, classed}
 use Rattle.laws.specs.Holding.{holding}
-use Rattle.laws.specs.Fresh.{freshHeap, fresh-sound, format-cases}
+use Rattle.sound.specs.Fresh.{freshHeap, fresh-sound, format-cases}
 use Rattle.laws.specs.Calls.{
   ask-done,
   ask-leaves,
@@ -91,6 +91,7 @@ use Rattle.laws.specs.History.{
   standsIn,
   writes,
   rolls,
+  audits,
   pokes,
   State,
   poolClass,
@@ -375,6 +376,7 @@ module _ (m₀ : List ℕ) {x : State} (T : Tied m₀ x)
   event-stays (standsIn y phrase) = here
   event-stays (writes y text) = write-stays y text
   event-stays (rolls words) = here
+  event-stays audits = here
   event-stays (pokes y d v) =
       either (λ (s : State). Stays o (x .heap) (s .heap)) (ltb d (length (x .ledger y))) _ _
       (λ _. memory-stays (set (x .heap .memory) (y + d) v)) (λ _. here)

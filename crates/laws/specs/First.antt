@@ -46,9 +46,9 @@ use Rattle.books.specs.Known.{in-range, size-zero, live-zero, live-is}
 use Rattle.books.specs.Passing.{before-zero, order-zero}
 use Rattle.books.specs.Sizes.{Aligned, aligned, size-low, size-high, has-class, class-fits}
 use Rattle.plans.specs.Fits.{FitsAsk, fits-ask}
-use Rattle.laws.specs.Bytes.{sets-off}
-use Rattle.laws.specs.Chains.{first-outside, put-link-other}
-use Rattle.laws.specs.Taken.{spend-is}
+use Rattle.sound.specs.Bytes.{sets-off}
+use Rattle.sound.specs.Chains.{first-outside, put-link-other}
+use Rattle.sound.specs.Taken.{spend-is}
 use Rattle.laws.specs.Refused.{tested}
 
 -- memory m′ has the first bytes of m's pools

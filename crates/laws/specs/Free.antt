@@ -15,8 +15,8 @@ use Rattle.rules.specs.View.{part}
 use Rattle.rules.specs.Ask.{askAnswer}
 use Rattle.rules.specs.Numbers.{ask, resize}
 use Rattle.books.specs.Sizes.{Aligned, has-class}
-use Rattle.laws.specs.Plain.{Plain, planAsk as plainAsk}
-use Rattle.laws.specs.Sound.{Sound}
+use Rattle.sound.specs.Plain.{Plain, planAsk as plainAsk}
+use Rattle.sound.specs.Sound.{Sound}
 use Rattle.laws.specs.Holding.{holding, live-rows, holding-more, holding-none, bytes-new}
 use Rattle.laws.specs.Calls.{dead-some, ask-done, ask-is, ask-cases}
 use Rattle.laws.specs.Resized.{resize-moves, resize-cases}

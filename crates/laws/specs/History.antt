@@ -1,4 +1,4 @@
--- What the theorems speak of: histories of calls, run by the rules;
+-- What the theorems speak of: histories of calls, run by the rules; how they begin;
 -- their ledgers and editions, made from the calls and their answers; the usable list; and a heap with no room.
 -- Assumes nothing.
 use mathlib.Core.Logic.{_≢_}
@@ -8,12 +8,13 @@ use mathlib.Core.List.{List, [], _∷_, _++_}
 use Prim.Native.Nat.{ℕ, zero, suc, _+_, _*_, _/_, _<_, min}
 use lib.Dec.{ltb, eqb}
 use lib.ListN.{length, set, take, drop}
-use Rattle.rules.specs.Say.{if_then_else_}
+use Rattle.rules.specs.Say.{if_then_else_, howMany}
 use Rattle.rules.specs.Books.{
   Heap,
   at,
   arenas,
   pools,
+  edition,
   alignmentOf,
   usableHead,
   openWord,
@@ -29,9 +30,9 @@ use Rattle.rules.specs.Books.{
 use Rattle.rules.specs.Blocks.{classOf, sizeOf, startOf, capacity, classAt, live}
 use Rattle.rules.specs.Outcome.{heapOf}
 use Rattle.rules.specs.View.{part}
-use Rattle.rules.specs.Numbers.{format, ask, giveBack, resize, viewSize, write, rollCall}
-use Rattle.laws.specs.Update.{to}
-use Rattle.laws.specs.Plain.{howMany}
+use Rattle.rules.specs.Numbers.{format, ask, giveBack, resize, view, viewSize, write, rollCall}
+use Rattle.rules.specs.Audit.{audit}
+use Rattle.sequences.specs.Update.{to}
 
 -- ---- a history's events: the calls, with any arguments, and a holder's write of one byte of a block
 pub data Event : Type 0 where
@@ -44,6 +45,7 @@ pub data Event : Type 0 where
   standsIn : ℕ → List ℕ → Event  -- offset, phrase
   writes : ℕ → List ℕ → Event  -- offset, text
   rolls : List ℕ → Event  -- the lent words
+  audits : Event
   pokes : ℕ → ℕ → ℕ → Event  -- the offset of a block, a place in it, the byte
 
 -- the ledger: at each offset the bytes of the block that is held there, none where none is
@@ -53,7 +55,28 @@ Ledger = ℕ → List ℕ
 pub record State : Type 0 where
   pub heap : Heap
   pub ledger : Ledger
-  pub told : ℕ  -- the edition that the last format which was done was told
+  pub told : ℕ  -- the edition that the last format which was done was told, or that the history began with
+
+-- ---- how a history begins: with a format of any buffers, or with a heap as it stands
+pub data Beginning : Type 0 where
+  formatted : Heap → ℕ → ℕ → ℕ → Beginning  -- the buffers, and A, P, edition
+  passed : Heap → Beginning
+
+-- the format is done; the audit passes the heap
+abbrev pub Begins : Beginning → Type 0
+Begins (formatted h A P e) = format h A P e .answer .number ≡ 0
+Begins (passed h) = audit h ≡ 0
+
+-- the buffers as they were found
+abbrev pub found : Beginning → Heap
+found (formatted h A P e) = h
+found (passed h) = h
+
+-- what it begins with: the heap that the format leaves, an empty ledger and the edition that was told; or the heap
+-- itself, its live blocks, each with its bytes, and its edition
+abbrev pub begun : Beginning → State
+begun (formatted h A P e) = record { heap = format h A P e .heap; ledger = λ o. []; told = e }
+begun (passed h) = record { heap = h; ledger = view h; told = edition h }
 
 -- the heap h after a call in the state x, and the ledger: the new one if the call's number is 0. (So a half-done
 -- resize, which answers 6 and changes the heap, would leave the old one; but no history meets one: `no-six`)
@@ -71,8 +94,8 @@ inOpenArena h o = eqb (arena (h .books) openWord (o / 4096 / pools h)) 1
 abbrev pub released : Heap → Heap → ℕ → Bool
 released h h′ o = inOpenArena h o && not (inOpenArena h′ o)
 
--- the number that an event's call answers; view and the stand-in answer a part and no number, and a holder's byte is
--- no call: 0
+-- the number that an event's call answers, of an audit 0 for yes or that of the first broken rule; view and the
+-- stand-in answer a part and no number, and a holder's byte is no call: 0
 unfoldable pub numberOf : State → Event → ℕ
 numberOf x (formats A P e) = format (x .heap) A P e .answer .number
 numberOf x (asks n) = ask (x .heap) n .answer .number
@@ -83,6 +106,7 @@ numberOf x (sizes o) = viewSize (x .heap) o .number
 numberOf x (standsIn o phrase) = 0
 numberOf x (writes o text) = write (x .heap) o text .answer .number
 numberOf x (rolls words) = rollCall (x .heap) words .answer .number
+numberOf x audits = audit (x .heap)
 numberOf x (pokes o d v) = 0
 
 -- the size of the block that is handed out for n bytes in the edition e
@@ -126,6 +150,7 @@ after x (writes o text) =
     let y = write (x .heap) o text in
     noted (y .answer .number) (y .heap) x (to o (text ++ drop (length text) (x .ledger o)) (x .ledger))
 after x (rolls words) = x
+after x audits = x
 after x (pokes o d v) =
     if ltb d (length (x .ledger o))
     then record {

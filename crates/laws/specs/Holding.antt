@@ -18,13 +18,13 @@ use Rattle.rules.specs.View.{part}
 use Rattle.books.specs.Starts.{start-is, number-is}
 use Rattle.books.specs.Known.{live-is}
 use Rattle.books.specs.Sizes.{Aligned, size-low, capacity-high}
-use Rattle.laws.specs.Update.{is-false, to}
-use Rattle.laws.specs.Plain.{Plain}
-use Rattle.laws.specs.Chains.{block-ends, live-below}
-use Rattle.laws.specs.Sound.{Sound}
-use Rattle.laws.specs.Held.{held, in-class}
-use Rattle.laws.specs.Paths.{Quiet, Hand}
-use Rattle.laws.specs.Bytes.{part-long, part-same}
+use Rattle.sequences.specs.Update.{is-false, to}
+use Rattle.sound.specs.Plain.{Plain}
+use Rattle.sound.specs.Chains.{block-ends, live-below}
+use Rattle.sound.specs.Sound.{Sound}
+use Rattle.sound.specs.Held.{held, in-class}
+use Rattle.sound.specs.Paths.{Quiet, Hand}
+use Rattle.sound.specs.Bytes.{part-long, part-same}
 
 -- the bytes that the heap h of A arenas with P pools holds at offset o
 unfoldable pub holding : ℕ → ℕ → ℕ → Heap → ℕ → List ℕ

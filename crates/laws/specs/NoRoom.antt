@@ -20,12 +20,13 @@ use Rattle.rules.specs.Outcome.{Outcome}
 use Rattle.rules.specs.Numbers.{ask}
 use Rattle.books.specs.Known.{in-range}
 use Rattle.books.specs.Sizes.{Aligned, has-class, capacity-high, class-low}
-use Rattle.laws.specs.Plain.{Plain, count, inUse, free, planAsk as plainAsk, afterAsk as plainAfterAsk}
-use Rattle.laws.specs.Counting.{Passes, many-has, none-many}
-use Rattle.laws.specs.Chains.{room, among}
-use Rattle.laws.specs.Sound.{Sound}
-use Rattle.laws.specs.Held.{held, Says, InClassOf, in-class, home-listed, base-unused, base-usable, arena-low}
-use Rattle.laws.specs.Paths.{Hand}
+use Rattle.sound.specs.Plain.{Plain, count, inUse, free, planAsk as plainAsk, afterAsk as plainAfterAsk}
+use Rattle.sequences.specs.Counting.{Passes, many-has, none-many}
+use Rattle.sequences.specs.Sequences.{among}
+use Rattle.sound.specs.Chains.{room}
+use Rattle.sound.specs.Sound.{Sound}
+use Rattle.sound.specs.Held.{held, Says, InClassOf, in-class, home-listed, base-unused, base-usable, arena-low}
+use Rattle.sound.specs.Paths.{Hand}
 use Rattle.laws.specs.Holding.{holding, live-rows, rows-live, pool-is, block-live, block-pool, holding-more, holding-none}
 use Rattle.laws.specs.History.{Full}
 use Rattle.laws.specs.Calls.{NoneLeft, DoneOrNot, done-or-not, ask-done, ask-is}

@@ -78,12 +78,14 @@ use Rattle.laws.specs.History.{
   standsIn,
   writes,
   rolls,
+  audits,
   pokes,
   State,
+  formatted,
+  begun,
   after,
   run,
 }
-use Rattle.laws.specs.Theorems.{begun}
 
 -- the paths by number: of an ask 0 no room, 1 by link, 2 by a block set ready, 3 as the last spare block, 4 freed of
 -- the same class, 5 freed of another, 6 carved, 7 opened; of a give-back 1 joins, 2 stays, 3 empties, 4 the arena
@@ -123,6 +125,7 @@ pathOf A P h (sizes o) = 0
 pathOf A P h (standsIn o phrase) = 0
 pathOf A P h (writes o text) = 0
 pathOf A P h (rolls words) = 0
+pathOf A P h audits = 0
 pathOf A P h (pokes o d v) = 0
 
 -- an event and the path that it takes
@@ -163,7 +166,7 @@ pub record Story : Type 0 where
 
 abbrev pub Holds : Story → List ℕ → List ℕ → List ℕ → Type 0
 Holds s m b k =
-    let x = begun (heapOf m b k) (s .A) (s .P) (s .edition) in
+    let x = begun (formatted (heapOf m b k) (s .A) (s .P) (s .edition)) in
     T (reaches (s .A) (s .P) (s .turns) x && ends (events (s .turns)) x (s .listed) (s .offset) (s .bytes))
 
 abbrev pub Reached : Story → Type 0

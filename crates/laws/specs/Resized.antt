@@ -22,11 +22,12 @@ use Rattle.rules.specs.Resize.{keeps, giveOld, moved, resizeStep}
 use Rattle.rules.specs.View.{part}
 use Rattle.rules.specs.Numbers.{giveBack, resize, sizeNumber}
 use Rattle.books.specs.Sizes.{Aligned, has-class, class-fits}
-use Rattle.laws.specs.Update.{to, to-cong}
-use Rattle.laws.specs.Plain.{Plain, planAsk as plainAsk, askPlain, backPlain, resizePlain, resizeAnswer}
-use Rattle.laws.specs.Sound.{Sound}
-use Rattle.laws.specs.Paths.{Hand, Asked}
-use Rattle.laws.specs.Bytes.{outside-less, sets-off, text-part}
+use Rattle.sequences.specs.Update.{to, to-cong}
+use Rattle.sound.specs.Plain.{Plain, planAsk as plainAsk, askPlain, backPlain, resizePlain, resizeAnswer}
+use Rattle.sound.specs.Sound.{Sound}
+use Rattle.sound.specs.Grounds.{shape-zero}
+use Rattle.sound.specs.Paths.{Hand, Asked}
+use Rattle.sound.specs.Bytes.{outside-less, sets-off, text-part}
 use Rattle.laws.specs.Holding.{
   LiveAt,
   liveSize,
@@ -47,21 +48,21 @@ use Rattle.laws.specs.Holding.{
   holding-others,
   Leaves,
 }
-use Rattle.laws.specs.Calls.{shape-zero, live-test, DoneOrNot, done-or-not, ask-done, size-number, block-of, back-is, back-leaves}
+use Rattle.laws.specs.Calls.{live-test, DoneOrNot, done-or-not, ask-done, size-number, block-of, back-is, back-leaves}
 use Rattle.laws.specs.Written.{written-leaves}
 use Rattle.laws.specs.History.{carried}
 
 module _ {al A P : ℕ} {h : Heap} {r : Plain} (L : Aligned al) (S : Sound al A P h r) (o n : ℕ) where
   pub resize-size : sizeNumber n ≡ 3 → resize h o n ≡ refused 3 h
   unfolding resize
-  resize-size e = rw (shape-zero S, e)
+  resize-size e = rw (shape-zero (S .rule1), e)
 
   module _ (lo : 1 ≤ n) (hi : n ≤ 512) where
     pub resize-dead : live al A P (h .books) (h .map) o ≡ false
         → resize h o n ≡ refused (deadNumber al A P (h .books) o) h
     unfolding resize sizeNumber
     resize-dead e =
-        rw (shape-zero S, le-leb 1 n lo, le-leb n 512 hi, S .rule1 .alignment-is, S .rule1 .arenas-are, S .rule1 .pools-are)
+        rw (shape-zero (S .rule1), le-leb 1 n lo, le-leb n 512 hi, S .rule1 .alignment-is, S .rule1 .arenas-are, S .rule1 .pools-are)
         (live-test al A P (h .books) o (h .map) (λ k. refused k h) _ ∙ rw e)
 
     module _ (e : live al A P (h .books) (h .map) o ≡ true) where
@@ -78,7 +79,7 @@ module _ {al A P : ℕ} {h : Heap} {r : Plain} (L : Aligned al) (S : Sound al A 
       unfolding resize resizeStep sizeNumber liveNumber
       resize-keeps q =
           rw (
-            shape-zero S,
+            shape-zero (S .rule1),
             le-leb 1 n lo,
             le-leb n 512 hi,
             S .rule1 .alignment-is,
@@ -94,7 +95,7 @@ module _ {al A P : ℕ} {h : Heap} {r : Plain} (L : Aligned al) (S : Sound al A 
       unfolding resize resizeStep moved askStep askAnswer afterAsk sizeNumber liveNumber
       resize-none q z =
           rw (
-            shape-zero S,
+            shape-zero (S .rule1),
             le-leb 1 n lo,
             le-leb n 512 hi,
             S .rule1 .alignment-is,
@@ -174,13 +175,13 @@ module _ {al A P : ℕ} {h : Heap} {r : Plain} (L : Aligned al) (S : Sound al A 
         unfolding giveOld giveBack liveNumber
         give-old-is =
             let shape = D .sound .rule1 in
-            rw (shape-zero copied-sound, shape .alignment-is, shape .arenas-are, shape .pools-are, still-live)
+            rw (shape-zero (copied-sound .rule1), shape .alignment-is, shape .arenas-are, shape .pools-are, still-live)
 
         pub resize-moves : keeps (liveSize t) n ≡ false → resize h o n ≡ done new (giveBack copied o .heap)
         unfolding resize resizeStep moved askStep sizeNumber liveNumber
         resize-moves q =
             rw (
-              shape-zero S,
+              shape-zero (S .rule1),
               le-leb 1 n lo,
               le-leb n 512 hi,
               S .rule1 .alignment-is,

@@ -12,14 +12,13 @@ use lib.Dec.{leb, eqb}
 use lib.ListN.{length, length-append}
 use lib.Seq.{getD-append-seam, getD-append-add}
 use borrow.Author.Tests.{lt-leb, leb-true, ne-eqb, lt-ltb}
-use Rattle.rules.specs.Say.{if_then_else_}
+use Rattle.rules.specs.Say.{if_then_else_, howMany}
 use Rattle.rules.specs.Books.{at, memoryLength, isSet, class, pool, offsetOf}
 use Rattle.rules.specs.Blocks.{sizeOf, lastClass, startOf, lastStart, isStart, blockNo, capacity, sizeAt, live}
 use Rattle.rules.specs.View.{rollBlocks, rollPool, rollPools, roll}
 use Rattle.books.specs.Starts.{start-is, number-is}
 use Rattle.books.specs.Sizes.{Aligned, size-low}
-use Rattle.laws.specs.AskListed.{past-last}
-use Rattle.laws.specs.Plain.{howMany}
+use Rattle.sound.specs.AskListed.{past-last}
 use Rattle.laws.specs.History.{listing, heldBelow}
 
 pub listing-same : (f g : ℕ → ℕ) → ((o : ℕ) → f o ≡ g o) → (o n : ℕ) → listing f o n ≡ listing g o n

@@ -1,5 +1,6 @@
--- What holds after every history of calls from a format that is done: the demands, as theorems. Each is read off what
--- holds of the heap at the end (Tied): it is sound, of the edition that was told, and the ledger has what it holds.
+-- What holds after every history of calls from a format that is done, or from a heap that the audit passes: the
+-- demands, as theorems. Each is read off what holds of the heap at the end (Tied): it is sound, of the edition that was
+-- told, and the ledger has what it holds.
 -- Assumes nothing.
 use mathlib.Core.Path.{_≡_, refl, sym, ap, _∙_}
 use mathlib.Core.Logic.{_≢_, _⊎_}
@@ -12,7 +13,6 @@ use borrow.Author.Tests.{le-ltb, lt-ltb}
 use Rattle.rules.specs.declared.Sized.{Sized}
 use Rattle.rules.specs.Say.{if_then_else_}
 use Rattle.rules.specs.Books.{
-  Heap,
   at,
   arenas,
   pools,
@@ -28,7 +28,6 @@ use Rattle.rules.specs.Blocks.{classOf, sizeOf, lastClass, sizeAt, live, deadNu
 use Rattle.rules.specs.View.{part}
 use Rattle.rules.specs.Outcome.{Outcome, answerOf, refused}
 use Rattle.rules.specs.Numbers.{
-  format,
   ask,
   giveBack,
   resize,
@@ -42,12 +41,15 @@ use Rattle.rules.specs.Numbers.{
   rollOutcome,
   roomNumber,
 }
+use Rattle.rules.specs.Audit.{audit}
 use Rattle.books.specs.Sizes.{Aligned, of-sixteen, aligned, size-low}
-use Rattle.laws.specs.Update.{is-false}
-use Rattle.laws.specs.Sequences.{In, Once}
-use Rattle.laws.specs.Rising.{Rising}
-use Rattle.laws.specs.Sound.{Shape}
-use Rattle.laws.specs.Held.{held, head-zero}
+use Rattle.sequences.specs.Update.{is-false}
+use Rattle.sequences.specs.Sequences.{In, Once}
+use Rattle.sequences.specs.Rising.{Rising}
+use Rattle.sound.specs.Sound.{Shape}
+use Rattle.sound.specs.Grounds.{shape-zero}
+use Rattle.sound.specs.Audited.{sound-yes}
+use Rattle.sound.specs.Held.{held, head-zero}
 use Rattle.laws.specs.Holding.{
   LiveAt,
   liveSize,
@@ -63,7 +65,7 @@ use Rattle.laws.specs.Holding.{
   dead-holding,
 }
 use Rattle.laws.specs.Written.{apart}
-use Rattle.laws.specs.Calls.{shape-zero, dead-some, view-is, view-size-is, back-dead, back-is}
+use Rattle.laws.specs.Calls.{dead-some, view-is, view-size-is, back-dead, back-is}
 use Rattle.laws.specs.Free.{live-held, ask-free, ask-bytes, resize-free}
 use Rattle.laws.specs.Roll.{listing-same, listing-count, listing-place, sizeHeld, roll-is}
 use Rattle.laws.specs.NoRoom.{four-full, full-four}
@@ -72,6 +74,10 @@ use Rattle.laws.specs.StandIn.{stand-in-means}
 use Rattle.laws.specs.History.{
   Event,
   State,
+  Beginning,
+  Begins,
+  found,
+  begun,
   released,
   sizeFor,
   after,
@@ -84,21 +90,17 @@ use Rattle.laws.specs.History.{
   Usable,
   Full,
 }
-use Rattle.laws.specs.Tied.{Tied, first-format, one-of-two, step, tied}
+use Rattle.laws.specs.Tied.{Tied, begun-tied, one-of-two, step, tied}
 use Rattle.laws.specs.Dead.{block-open, event-stays, done-live, ten-block, block-ten, twice, not-ended}
 
--- ---- a history begins with a format that is done, over any buffers: the heap that it leaves, the empty ledger, and
--- the edition that it was told
-abbrev pub begun : Heap → ℕ → ℕ → ℕ → State
-begun h A P e = record { heap = format h A P e .heap; ledger = λ o. []; told = e }
-
-module _ (h : Heap) (A P e : ℕ) (ok : format h A P e .answer .number ≡ 0) (es : List Event) where
+-- any beginning, where its format is done or the audit passes its heap, and any events
+module _ (start : Beginning) (ok : Begins start) (es : List Event) where
   -- the heap, the ledger and the edition told, after it
   abbrev pub end : State
-  end = run (begun h A P e) es
+  end = run (begun start) es
 
-  T : Tied (h .memory) end
-  T = tied (h .memory) (first-format h A P e ok) es .1
+  T : Tied (found start .memory) end
+  T = tied (found start .memory) (begun-tied start ok) es .1
 
   abbrev al : ℕ
   al = alignmentOf (end .told)
@@ -110,11 +112,15 @@ module _ (h : Heap) (A P e : ℕ) (ok : format h A P e .answer .number ≡ 0) (e
   shape = T .sound .rule1
 
   -- no call of the history gives 6
-  pub no-six : NoSix (begun h A P e) es
-  no-six = tied (h .memory) (first-format h A P e ok) es .0
+  pub no-six : NoSix (begun start) es
+  no-six = tied (found start .memory) (begun-tied start ok) es .0
+
+  -- 02, W-201: "It gives yes on every heap that demand 2 describes"
+  pub audit-yes : audit (end .heap) ≡ 0
+  audit-yes = sound-yes L (T .sound)
 
   -- ---- the edition
-  -- the books' edition is the one that the last format which was done was told
+  -- the books' edition is the one that the last format which was done was told, or that the history began with
   pub edition-stays : edition (end .heap) ≡ end .told
   edition-stays = T .edition-is
 
@@ -224,14 +230,14 @@ module _ (h : Heap) (A P e : ℕ) (ok : format h A P e .answer .number ≡ 0) (e
       → ended end event o ≡ false
       → giveBack (after end event .heap) o .answer .number ≡ 10
   dead-stays o event ten none =
-      let T′ = step (h .memory) T event .1 in
+      let T′ = step (found start .memory) T event .1 in
       let L′ = aligned (after end event .told) in
       let shape′ = T′ .sound .rule1 in
       let N = not-ended end event o none in
       let b = ten-block L (T .sound) o ten in
       let off = is-false (live (alignmentOf (after end event .told)) (T′ .A) (T′ .P) (after end event .heap .books) (after end event .heap .map) o)
       (λ u. absurd (omega (arith, N .held, ap length (T′ .tie o), holding-more L′ (T′ .sound) o (live-rows L′ (T′ .sound) o u)))) in
-      let now = event-stays (h .memory) T o b event (N .class) (N .arena (block-open L (T .sound) o b)) in
+      let now = event-stays (found start .memory) T o b event (N .class) (N .arena (block-open L (T .sound) o b)) in
       block-ten L′ (T′ .sound) o off (rw (shape′ .alignment-is, shape′ .arenas-are, shape′ .pools-are) at now)
 
   -- ---- what is read out: view hands back the bytes that the ledger has, and the empty part exactly where nothing is
@@ -294,8 +300,8 @@ module _ (h : Heap) (A P e : ℕ) (ok : format h A P e .answer .number ≡ 0) (e
       let t = entry-live o some in
       T .tie o ∙ holding-live L (T .sound) o t ∙ ap (λ (s : ℕ). part o s (end .heap .memory)) (sym (entry-size o t))
 
-  -- the first 48 bytes of each pool are as they were before the first format
-  pub first-bytes : (i : ℕ) → i % 4096 < 48 → at (end .heap .memory) i ≡ at (h .memory) i
+  -- the first 48 bytes of each pool are as they were found, before the history began
+  pub first-bytes : (i : ℕ) → i % 4096 < 48 → at (end .heap .memory) i ≡ at (found start .memory) i
   first-bytes = T .first
 
   -- ---- the roll is the ledger
@@ -342,11 +348,11 @@ module _ (h : Heap) (A P e : ℕ) (ok : format h A P e .answer .number ≡ 0) (e
       → rollCall (end .heap) words ≡ rollOutcome 0 entryCount (entries ++ drop (length entries) words)
   unfolding rollCall roomNumber
   roll-with-room words l =
-      rw (shape-zero (T .sound), roll-entries, le-ltb (length words) (length entries) l)
+      rw (shape-zero (T .sound .rule1), roll-entries, le-ltb (length words) (length entries) l)
       (ap (λ (k : ℕ). rollOutcome 0 k (entries ++ drop (length entries) words)) (omega (arith, entries-long)))
 
   -- with less room it gives 7 and writes nothing
   pub roll-without : (words : List ℕ) → length words < length entries
       → rollCall (end .heap) words ≡ rollOutcome 7 0 words
   unfolding rollCall roomNumber
-  roll-without words l = rw (shape-zero (T .sound), roll-entries, lt-ltb (length words) (length entries) l)
+  roll-without words l = rw (shape-zero (T .sound .rule1), roll-entries, lt-ltb (length words) (length entries) l)

@@ -20,6 +20,8 @@ use Rattle.rules.specs.Books.{
   exact,
   memoryLength,
   mapLength,
+  arenas,
+  pools,
   edition,
   isEdition,
   alignmentOf,
@@ -32,17 +34,20 @@ use Rattle.rules.specs.View.{part}
 use Rattle.rules.specs.Ask.{askAnswer, afterAsk}
 use Rattle.rules.specs.Resize.{keeps}
 use Rattle.rules.specs.Numbers.{format, ask, giveBack, resize, write, roomNumber}
+use Rattle.rules.specs.Audit.{audit}
 use Rattle.books.specs.Known.{shaped}
 use Rattle.books.specs.Tests.{either}
 use Rattle.books.specs.Sizes.{Aligned, of-eight, of-sixteen, aligned}
-use Rattle.laws.specs.Update.{is-false, to, to-cong}
-use Rattle.laws.specs.Plain.{Plain, fresh, planAsk as plainAsk}
-use Rattle.laws.specs.Sound.{Sound}
-use Rattle.laws.specs.Fresh.{edition-word, freshHeap, fresh-sound, format-cases}
-use Rattle.laws.specs.Bytes.{Outside, outside-less, text-part, byte-part, sets-off}
+use Rattle.sequences.specs.Update.{is-false, to, to-cong}
+use Rattle.sound.specs.Plain.{Plain, fresh, planAsk as plainAsk}
+use Rattle.sound.specs.Sound.{Sound}
+use Rattle.sound.specs.Grounds.{shape-zero}
+use Rattle.sound.specs.Audited.{plainOf, yes-sound, sound-yes}
+use Rattle.sound.specs.Fresh.{edition-word, freshHeap, fresh-sound, format-cases}
+use Rattle.sound.specs.Bytes.{Outside, outside-less, text-part, byte-part, sets-off}
 use Rattle.laws.specs.Holding.{LiveAt, liveSize, holding, live-rows, class-is, in-memory, holding-live, holding-long, holding-some, dead-holding, Leaves}
 use Rattle.laws.specs.Written.{written-leaves}
-use Rattle.laws.specs.Calls.{shape-zero, dead-some, ask-is, ask-leaves, ask-cases, back-dead, block-of, back-is, back-leaves}
+use Rattle.laws.specs.Calls.{dead-some, view-is, ask-is, ask-leaves, ask-cases, back-dead, block-of, back-is, back-leaves}
 use Rattle.laws.specs.Resized.{resize-moves, differ, moved-leaves, resize-cases}
 use Rattle.laws.specs.Refused.{view-six, roll-six}
 use Rattle.laws.specs.History.{
@@ -56,9 +61,16 @@ use Rattle.laws.specs.History.{
   standsIn,
   writes,
   rolls,
+  audits,
   pokes,
   Ledger,
   State,
+  Beginning,
+  formatted,
+  passed,
+  Begins,
+  found,
+  begun,
   noted,
   numberOf,
   sizeFor,
@@ -104,12 +116,23 @@ fresh-tied m m₁ A P e range known bytes f =
         (λ z. false≢true (live-rows (aligned e) S o z .on))
 
 -- a first format that is done, over any buffers
-pub first-format : (h : Heap) (A P e : ℕ) → format h A P e .answer .number ≡ 0
+first-format : (h : Heap) (A P e : ℕ) → format h A P e .answer .number ≡ 0
     → Tied (h .memory) (record { heap = format h A P e .heap; ledger = λ o. []; told = e })
 first-format h A P e =
     format-cases h A P e (λ (y : Outcome). y .answer .number ≡ 0 → Tied (h .memory) (record { heap = y .heap; ledger = λ o. []; told = e }))
     (λ z. absurd (omega arith)) (λ z. absurd (omega arith))
     (λ range known f _. fresh-tied (h .memory) (h .memory) A P e range known (shaped h A P range f .memory) (λ i u. refl))
+
+-- ---- the beginnings
+-- a heap that the audit passes holds what is read off it, and its live blocks are what view shows
+pub passed-tied : (h : Heap) → audit h ≡ 0 → Tied (h .memory) (begun (passed h))
+passed-tied h e =
+    let S = yes-sound h e in
+    record { edition-is = refl; A = arenas h; P = pools h; rows = plainOf h; sound = S; tie = view-is S; first = λ i u. refl }
+
+pub begun-tied : (start : Beginning) → Begins start → Tied (found start .memory) (begun start)
+begun-tied (formatted h A P e) = first-format h A P e
+begun-tied (passed h) = passed-tied h
 
 -- ---- one event
 -- its number is not 6, and the state after it is tied
@@ -235,7 +258,7 @@ module _ (m₀ : List ℕ) {x : State} (T : Tied m₀ x) where
   unfolding write liveNumber roomNumber
   write-is o text =
       let shape = T .sound .rule1 in
-      rw (shape-zero (T .sound), shape .alignment-is, shape .arenas-are, shape .pools-are)
+      rw (shape-zero (T .sound .rule1), shape .alignment-is, shape .arenas-are, shape .pools-are)
 
   step-write : (o : ℕ) (text : List ℕ)
       → Good m₀ (numberOf x (writes o text)) (after x (writes o text))
@@ -383,6 +406,7 @@ step m₀ {x} T (sizes o) = (view-six (x .heap) o, T)
 step m₀ T (standsIn o phrase) = ((omega arith), T)
 step m₀ T (writes o text) = step-write m₀ T o text
 step m₀ {x} T (rolls words) = (roll-six (x .heap) words, T)
+step m₀ T audits = (λ six. absurd (omega (arith, six, sound-yes (aligned _) (T .sound))), T)
 step m₀ T (pokes o d v) = step-poke m₀ T o d v
 
 -- every history

@@ -10,12 +10,12 @@ use lib.ListN.{length}
 use borrow.Author.Tests.{ne-eqb}
 use Rattle.rules.specs.Books.{Heap, usableHead, freePools, arena}
 use Rattle.books.specs.Sizes.{Aligned}
-use Rattle.laws.specs.Sequences.{In, Once, Seg, once-short, all-map, all-in}
-use Rattle.laws.specs.Rising.{Rising, rising-same}
-use Rattle.laws.specs.Families.{At}
-use Rattle.laws.specs.Plain.{Plain, free}
-use Rattle.laws.specs.Sound.{Sound}
-use Rattle.laws.specs.Held.{Held, held, open-mark, open-word, usable-word, usable-row, usable-members, usable-in}
+use Rattle.sequences.specs.Sequences.{In, Once, Seg, once-short, all-map, all-in}
+use Rattle.sequences.specs.Rising.{Rising, rising-same}
+use Rattle.sequences.specs.Families.{At}
+use Rattle.sound.specs.Plain.{Plain, free}
+use Rattle.sound.specs.Sound.{Sound}
+use Rattle.sound.specs.Held.{Held, held, open-mark, open-word, usable-word, usable-row, usable-members, usable-in}
 use Rattle.laws.specs.History.{met, usableList, Usable}
 
 -- what is linked from k on is met, if so many are

@@ -15,13 +15,13 @@ use Rattle.rules.specs.Blocks.{sizeOf, startOf, linkAt, live}
 use Rattle.rules.specs.Outcome.{heapOf}
 use Rattle.rules.specs.View.{part}
 use Rattle.books.specs.Sizes.{Aligned, size-low}
-use Rattle.laws.specs.Update.{to}
-use Rattle.laws.specs.Sequences.{All, all-map, all-two, all-every}
-use Rattle.laws.specs.Plain.{Plain}
-use Rattle.laws.specs.Bytes.{Outside, Clear, part-same}
-use Rattle.laws.specs.Chains.{Blocks, block-ends, pools-apart, block-outside, first-outside, link-bytes, framed, live-off}
-use Rattle.laws.specs.Sound.{Sound}
-use Rattle.laws.specs.Held.{Says, Held, held, sound, rule-memory}
+use Rattle.sequences.specs.Update.{to}
+use Rattle.sequences.specs.Sequences.{All, all-map, all-two, all-every}
+use Rattle.sound.specs.Plain.{Plain}
+use Rattle.sound.specs.Bytes.{Outside, Clear, part-same}
+use Rattle.sound.specs.Chains.{Blocks, block-ends, pools-apart, block-outside, first-outside, link-bytes, framed, live-off}
+use Rattle.sound.specs.Sound.{Sound}
+use Rattle.sound.specs.Held.{Says, Held, held, sound, rule-memory}
 use Rattle.laws.specs.Holding.{LiveAt, liveSize, live-ends, holding, live-rows, in-memory, holding-live, dead-holding, Leaves}
 
 -- two live blocks at different offsets are two, and do not meet

@@ -13,7 +13,8 @@ use Rattle.rules.specs.Books.{isSet, class, poolWord, pool, offsetOf}
 use Rattle.rules.specs.Blocks.{sizeOf, lastClass, startOf, capacity, classAt}
 use Rattle.rules.specs.View.{rollBlocks, rollPool, rollPools}
 use Rattle.loops.specs.Left.{Parts, counted}
-use Rattle.loops.specs.Word.{noneSet, not-set, none-rolled}
+use Rattle.bits.specs.Map.{noneSet, not-set}
+use Rattle.loops.specs.Word.{none-rolled}
 use Rattle.books.specs.Starts.{capacity-le}
 use Rattle.books.specs.Sizes.{Aligned, no-class, a-class}
 

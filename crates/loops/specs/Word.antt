@@ -1,8 +1,7 @@
--- The roll of a map word, its blocks from the lowest bit up, and a pool's roll as that of its words; a pool with no bit
--- set has none.
+-- The roll of a map word, its blocks from the lowest bit up, and a pool's roll as that of its words.
 -- Assumes nothing.
 use mathlib.Core.Path.{_≡_, refl, sym, ap, ap₂, _∙_}
-use mathlib.Core.Bool.{Bool, true, false, _&&_}
+use mathlib.Core.Bool.{false}
 use mathlib.Core.List.{List, [], _∷_, _++_, append-assoc}
 use mathlib.Core.Logic.{_⊎_, inl, inr}
 use Prim.Native.Nat.{ℕ, zero, suc, _+_, _*_, _-_, _/_, _%_, _^_, _≤_, _<_, min}
@@ -18,21 +17,17 @@ use native.Mathlib.Nat.{
   div-lt-iff-lt-mul,
   add-mul-div-right,
 }
-use native.Mathlib.Decide.{ℕ-discrete}
 use native.Mathlib.Numerals.{add-one}
 use native.Mathlib.Omega.{arith}
 use lib.Count.{onesIn, trailingZeros}
 use lib.Dec.{eqb}
 use lib.ListN.{length}
 use lib.Pow.{shr-shr}
-use borrow.Author.Tests.{eqb-true}
 use Rattle.rules.specs.Say.{if_then_else_}
 use Rattle.rules.specs.Books.{at, bit, isSet, offsetOf}
 use Rattle.rules.specs.Blocks.{startOf, lastStart, capacity}
 use Rattle.rules.specs.View.{rollBlocks}
-use Rattle.bits.specs.Bit.{no-bit}
 use Rattle.bits.specs.Halves.{parity, first-odd, first-even, withoutFirst, without-odd, without-even}
-use Rattle.books.specs.Tests.{both}
 use Rattle.loops.specs.Left.{Parts}
 
 -- offset and size of each live block among the first n of a word, whose first block is at offset o; the blocks have
@@ -138,43 +133,6 @@ module _ (p s i : ℕ) (low : 1 ≤ s) (high : s ≤ 4048) where
       ap (λ (k : ℕ). k / s) span ∙ add-mul-div-right (4048 - n * s) n low in
       let rest : offsetOf p (lastStart s) - offsetOf p (startOf s (64 * i)) ≡ 4048 - n * s = omega (arith, suc-mul (64 * i) s) in
       rw rest (omega arith)
-
--- ---- the first n of some words are 0
-unfoldable pub zeros : (ℕ → ℕ) → ℕ → Bool
-zeros w zero = true
-zeros w (suc n) = zeros w n && eqb (w n) 0
-
-pub each-zero : (w : ℕ → ℕ) (n : ℕ) → zeros w n ≡ true → (i : ℕ) → i < n → w i ≡ 0
-unfolding zeros
-each-zero w zero e i h = absurd (not-suc-le-zero h)
-each-zero w (suc n) e i h =
-    let t = both (zeros w n) (eqb (w n) 0) e in
-    go (eqb-true (w n) 0 (t .1)) (each-zero w n (t .0) i) (ℕ-discrete i n)
-  where
-    go : w n ≡ 0 → (i < n → w i ≡ 0) → Dec (i ≡ n) → w i ≡ 0
-    go last rest (yes q) = ap w q ∙ last
-    go last rest (no q) = rest (omega arith)
-
--- ---- no bit of pool p is set
-abbrev pub noneSet : List ℕ → ℕ → Bool
-noneSet m p =
-    eqb (at m (8 * p)) 0
-    && eqb (at m (8 * p + 1)) 0
-    && eqb (at m (8 * p + 2)) 0
-    && eqb (at m (8 * p + 3)) 0
-    && eqb (at m (8 * p + 4)) 0
-    && eqb (at m (8 * p + 5)) 0
-    && eqb (at m (8 * p + 6)) 0
-    && eqb (at m (8 * p + 7)) 0
-
--- so none of its blocks is live
-module _ (m : List ℕ) (p : ℕ) (e : noneSet m p ≡ true) where
-  eight : zeros (λ i. at m (8 * p + i)) 8 ≡ true
-  unfolding zeros
-  eight = rw add-zero e
-
-  pub not-set : (k : ℕ) → k < 512 → isSet m p k ≡ false
-  not-set k h = rw (each-zero (λ i. at m (8 * p + i)) 8 eight (k / 64) (omega arith), no-bit (k % 64))
 
 module _ (m : List ℕ) (p s : ℕ) where
   -- where none of n blocks has its bit set, none is in the roll

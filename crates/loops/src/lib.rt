@@ -16,7 +16,7 @@ ghost use Rattle.rules.specs.Blocks.{capacity};
 ghost use Rattle.rules.specs.View.{rollBlocks, rollPool, rollPools};
 ghost use Rattle.loops.specs.Left.{Stored};
 ghost use Rattle.loops.specs.Fresh.{nextOf};
-ghost use Rattle.loops.specs.Word.{noneSet, inWord, upTo, rollWord};
+ghost use Rattle.loops.specs.Word.{inWord, upTo, rollWord};
 ghost use Rattle.loops.specs.Roll.{Stands};
 ghost use Rattle.loops.specs.Copy.{Apart};
 
@@ -117,22 +117,6 @@ pub fn copy_within(memory: &mut [u8], from: usize, to: usize, n: usize)
 // too the words that the header's macro says are so many.
 const MOST_WORDS: usize = 1012;
 
-// No bit of the pool is set, at a block or at none: so it has no live block, whatever its class.
-fn none_set(map: &[u64], pool: usize) -> bool
-    requires { ⌜ 8 * pool + 8 ≤ length (now map) ⌝ }
-    ensures { λ r. ⌜ r ≡ noneSet (now (map .entry)) pool ⌝ }
-{
-    let word = 8 * pool;
-    (map[word] == 0)
-        & (map[word + 1] == 0)
-        & (map[word + 2] == 0)
-        & (map[word + 3] == 0)
-        & (map[word + 4] == 0)
-        & (map[word + 5] == 0)
-        & (map[word + 6] == 0)
-        & (map[word + 7] == 0)
-}
-
 // How many of a pool's blocks have their bits in word i of its map.
 fn in_word(blocks: usize, i: usize) -> usize
     requires { ⌜ 64 * i < blocks ⌝ }
@@ -163,7 +147,7 @@ fn count_pool(books: &[u32], map: &[u64], arenas: usize, edition: usize, pool: u
     requires { ⌜ Stands arenas pool (now books) (now map) ⌝ }
     ensures { λ r. ⌜ r ≡ length (rollPool (alignmentOf edition) arenas (now (books .entry)) (now (map .entry)) pool) ⌝ }
 {
-    if none_set(map, pool) {
+    if bits::none_set(map, pool) {
         return 0;
     }
     let size = size_at(books, arenas, edition, 4096 * pool);
@@ -272,7 +256,7 @@ fn roll_pool(
         (rollPool (alignmentOf edition) arenas (now (books .entry)) (now (map .entry)) pool)
         (now (roll .exit)) r ⌝ }
 {
-    if none_set(map, pool) {
+    if bits::none_set(map, pool) {
         return at;
     }
     let size = size_at(books, arenas, edition, 4096 * pool);

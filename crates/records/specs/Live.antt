@@ -51,7 +51,7 @@ use Rattle.books.specs.Sizes.{Aligned, aligned, size-low, size-high, class-low,
 use Rattle.books.specs.Known.{LiveBlock, size-zero, live-zero, live-is}
 use Rattle.books.specs.Starts.{first-block}
 use Rattle.books.specs.Tests.{both}
-use Rattle.loops.specs.Word.{zeros, each-zero}
+use Rattle.bits.specs.Map.{zeros, each-zero}
 use Rattle.plans.specs.Class.{Range, ranged}
 use Rattle.plans.specs.Fits.{FitsAsk, Spare, fits-ask}
 use Rattle.records.specs.Calls.{Kept, ask-fair, back-fair, resize-fair}

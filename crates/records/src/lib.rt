@@ -9,12 +9,12 @@ use books::words::EDITION;
 use books::words::RECORDS;
 use books::words::index;
 use books::words::shape_of;
-use books::words::word;
+use books::words::word_or_none;
 use loops::count_words;
 use rules::Answer;
 ghost use mathlib.Core.Path.{_≡_};
 ghost use mathlib.Core.Bool.{true};
-ghost use Prim.Native.Nat.{_+_, _*_, _-_, _%_, _^_, _<_, _≤_, min};
+ghost use Prim.Native.Nat.{_+_, _*_, _-_, _%_, _<_, _≤_, min};
 ghost use lib.ListN.{length};
 ghost use lib.Seq.{sets};
 ghost use Rattle.rules.specs.Books.{at, alignmentOf};
@@ -89,16 +89,6 @@ fn live_blocks(books: &[u32], map: &[u64]) -> u32
     let shape = shape_of(books);
     let all = shape.arenas * shape.pools;
     (count_words(books, map, shape.arenas, shape.edition, all) / 2) as u32
-}
-
-// A word of the books, and 0 past their end.
-fn word_or_none(books: &[u32], i: usize) -> usize
-    ensures { λ r. ⌜ (r ≡ at (now (books .entry)) i) × (r < 2 ^ 32) ⌝ }
-{
-    if books.len() <= i {
-        return 0;
-    }
-    word(books, i)
 }
 
 // The size of the block at an offset, as far as the four bytes of a reply hold it. Nothing is asked of the books or of

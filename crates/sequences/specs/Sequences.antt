@@ -3,7 +3,7 @@
 -- Assumes nothing.
 use mathlib.Core.Path.{_≡_, refl, sym, ap, _∙_}
 use mathlib.Core.Logic.{_≢_, Ne·symm as flip, _⊎_, inl, inr}
-use mathlib.Core.Bool.{Bool, true, false}
+use mathlib.Core.Bool.{Bool, true, false, _||_, or-true, true≢false, false≢true}
 use mathlib.Core.List.{List, [], _∷_, _++_}
 use Prim.Native.Nat.{ℕ, zero, suc, _<_, _≤_}
 use native.Mathlib.Decide.{ℕ-discrete}
@@ -25,6 +25,11 @@ In x (y ∷ ys) = (x ≡ y) ⊎ In x ys
 
 abbrev pub Not : ℕ → List ℕ → Type 0
 Not x xs = All (λ y. x ≢ y) xs
+
+-- whether x is one
+abbrev pub among : ℕ → List ℕ → Bool
+among x [] = false
+among x (y ∷ ys) = eqb x y || among x ys
 
 -- R holds of each member and every one that follows it
 abbrev pub Pairs : (ℕ → ℕ → Type 0) → List ℕ → Type 0
@@ -187,6 +192,30 @@ in-or-not x (y ∷ ys) = go (ℕ-discrete x y) (in-or-not x ys)
     go (yes e) m = inl (inl e)
     go (no n) (inl i) = inl (inr i)
     go (no n) (inr m) = inr (n, m)
+
+-- what the test of it says, and what passes and fails it
+pub among-in : (x : ℕ) (xs : List ℕ) → among x xs ≡ true → In x xs
+among-in x [] e = absurd (false≢true e)
+among-in x (y ∷ ys) e = go (ℕ-discrete x y) (among-in x ys)
+  where
+    go : Dec (x ≡ y) → (among x ys ≡ true → In x ys) → In x (y ∷ ys)
+    go (yes q) h = inl q
+    go (no q) h = inr (h (sym (ap (λ (t : Bool). t || among x ys) (ne-eqb x y q)) ∙ e))
+
+pub in-among : (x : ℕ) (xs : List ℕ) → In x xs → among x xs ≡ true
+in-among x (y ∷ ys) (inl q) = rw (eq-eqb x y q)
+in-among x (y ∷ ys) (inr i) = rw (in-among x ys i, or-true)
+
+pub among-not : (x : ℕ) (xs : List ℕ) → Not x xs → among x xs ≡ false
+among-not x [] n = refl
+among-not x (y ∷ ys) n = rw (ne-eqb x y (n .0)) (among-not x ys (n .1))
+
+pub not-among : (x : ℕ) (xs : List ℕ) → among x xs ≡ false → Not x xs
+not-among x xs e = go (in-or-not x xs)
+  where
+    go : In x xs ⊎ Not x xs → Not x xs
+    go (inl i) = absurd (true≢false (sym (in-among x xs i) ∙ e))
+    go (inr n) = n
 
 -- there are no more members, each once, than numbers below N
 pub once-short : (N : ℕ) (xs : List ℕ) → All (λ y. y < N) xs → Once xs → length xs ≤ N

@@ -12,15 +12,15 @@ use Rattle.rules.specs.declared.AskPlan.{AskPlan}
 use Rattle.rules.specs.declared.AskPlan.the-variants.{NoRoom, Damaged, Follow, Ready, Last, Again, Anew}
 use Rattle.rules.specs.declared.BackPlan.{BackPlan}
 use Rattle.rules.specs.declared.BackPlan.the-variants.{Damaged as Broken, Joins, Stays, Empties, Moves, Returns, Releases}
-use Rattle.rules.specs.Say.{if_then_else_, _▷_}
+use Rattle.rules.specs.Say.{if_then_else_, _▷_, howMany}
 use Rattle.rules.specs.Books.{noClass}
 use Rattle.rules.specs.Blocks.{classOf, sizeOf, startOf, capacity}
 use Rattle.rules.specs.Outcome.{answerOf}
 use Rattle.rules.specs.Ask.{askAnswer}
 use Rattle.rules.specs.Resize.{keeps}
-use Rattle.laws.specs.Update.{to}
-use Rattle.laws.specs.Sequences.{erase, after}
-use Rattle.laws.specs.Rising.{following}
+use Rattle.sequences.specs.Update.{to}
+use Rattle.sequences.specs.Sequences.{erase, after}
+use Rattle.sequences.specs.Rising.{following}
 
 pub record Plain : Type 0 where
   pub usable : List ℕ  -- the open arenas with free pools, front first
@@ -34,11 +34,6 @@ pub record Plain : Type 0 where
   pub live : ℕ → ℕ → Bool  -- of a pool and a block
 
 -- ---- what can be counted
--- how many of the numbers below n pass the test
-unfoldable pub howMany : (ℕ → Bool) → ℕ → ℕ
-howMany test zero = 0
-howMany test (suc n) = (if test n then 1 else 0) + howMany test n
-
 -- a pool's live blocks; whether it has any; whether it is carved
 abbrev pub count : Plain → ℕ → ℕ
 count r p = howMany (r .live p) 512

@@ -45,11 +45,11 @@ use Rattle.rules.specs.Books.{
   carved as is-carved,
 }
 use Rattle.rules.specs.Blocks.{sizeOf, lastClass, lastStart, capacity}
-use Rattle.laws.specs.Rising.{Rising}
-use Rattle.laws.specs.Plain.{Plain, count as live-blocks, inUse, carved, free}
-use Rattle.laws.specs.Linked.{Doubly, Singly}
-use Rattle.laws.specs.Families.{Family}
-use Rattle.laws.specs.Chains.{Blocks}
+use Rattle.sequences.specs.Rising.{Rising}
+use Rattle.sound.specs.Plain.{Plain, count as live-blocks, inUse, carved, free}
+use Rattle.sequences.specs.Linked.{Doubly, Singly}
+use Rattle.sequences.specs.Families.{Family}
+use Rattle.sound.specs.Chains.{Blocks}
 
 -- ---- where a pool and an arena belong, by the plain heap
 -- "each class list its pools with live and spare blocks", "freed-pool lists the own arena's carved pools not in use":

@@ -38,17 +38,17 @@ use Rattle.rules.specs.Ask.{spend, alone, noLinkAt, handOut}
 use Rattle.books.specs.Starts.{number-is, first-block}
 use Rattle.books.specs.Known.{in-range}
 use Rattle.books.specs.Sizes.{Aligned, size-low, size-high, capacity-high, capacity-low, class-low}
-use Rattle.laws.specs.Update.{is-false, to, to-same, to-other, to-cong}
-use Rattle.laws.specs.Sequences.{Once, erase, erase-front, all-map}
-use Rattle.laws.specs.Rising.{Rising, rising-falls}
-use Rattle.laws.specs.Books.{View, Books, put-pool, put-arena, pool-alone, arena-leaves, poolTo, arenaTo, homeTo, listedTo}
-use Rattle.laws.specs.Plain.{Plain, count, inUse, carved, free, setUsable, setChain, setLive, setListed, setClass, setVirgin}
-use Rattle.laws.specs.Counting.{many-more, none-many}
-use Rattle.laws.specs.Chains.{Blocks, taken, anew, live-below}
-use Rattle.laws.specs.Sound.{base, Sound}
-use Rattle.laws.specs.Held.{Says, ArenaSays, ListsSay, InClassOf, sound, in-class, arena-low, home-listed, base-usable, base-spent}
-use Rattle.laws.specs.Step.{Aside, Still, BytesAfter, free-same, order-aside, homes-same, stepped, link-after, no-bytes}
-use Rattle.laws.specs.Paths.{Quiet, quiet-link, count-on}
+use Rattle.sequences.specs.Update.{is-false, to, to-same, to-other, to-cong}
+use Rattle.sequences.specs.Sequences.{Once, erase, erase-front, all-map}
+use Rattle.sequences.specs.Rising.{Rising, rising-falls}
+use Rattle.sound.specs.Books.{View, Books, put-pool, put-arena, pool-alone, arena-leaves, poolTo, arenaTo, homeTo, listedTo}
+use Rattle.sound.specs.Plain.{Plain, count, inUse, carved, free, setUsable, setChain, setLive, setListed, setClass, setVirgin}
+use Rattle.sequences.specs.Counting.{many-more, none-many}
+use Rattle.sound.specs.Chains.{Blocks, taken, anew, live-below}
+use Rattle.sound.specs.Sound.{base, Sound}
+use Rattle.sound.specs.Held.{Says, ArenaSays, ListsSay, InClassOf, sound, in-class, arena-low, home-listed, base-usable, base-spent}
+use Rattle.sound.specs.Step.{Aside, Still, BytesAfter, free-same, order-aside, homes-same, stepped, link-after, no-bytes}
+use Rattle.sound.specs.Paths.{Quiet, quiet-link, count-on}
 
 -- ---- no block of a pool with no live blocks is live, however high its number
 pub no-live : {al A P : ℕ} {U : View} {m k : List ℕ} {r : Plain} → Aligned al → Says al A P U m k r → (p : ℕ)

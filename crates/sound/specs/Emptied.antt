@@ -38,8 +38,8 @@ use Rattle.rules.specs.GiveBack.{_⇛_, walk, planBack, emptying, afterBack}
 use Rattle.books.specs.Starts.{start-is, number-is}
 use Rattle.books.specs.Known.{in-range}
 use Rattle.books.specs.Sizes.{Aligned, capacity-high, capacity-low}
-use Rattle.laws.specs.Update.{to, to-same, to-other, to-cong}
-use Rattle.laws.specs.Sequences.{
+use Rattle.sequences.specs.Update.{to, to-same, to-other, to-cong}
+use Rattle.sequences.specs.Sequences.{
   All,
   Not,
   Once,
@@ -55,9 +55,9 @@ use Rattle.laws.specs.Sequences.{
   once-drop,
   once-gone,
 }
-use Rattle.laws.specs.Rising.{following, Rising, following-is, rising-parts, rising-drop, rising-put, rising-after}
-use Rattle.laws.specs.Families.{At, head-link, stack-link, stranger}
-use Rattle.laws.specs.Books.{
+use Rattle.sequences.specs.Rising.{following, Rising, following-is, rising-parts, rising-drop, rising-put, rising-after}
+use Rattle.sequences.specs.Families.{At, head-link, stack-link, stranger}
+use Rattle.sound.specs.Books.{
   View,
   Books,
   put-arena,
@@ -77,7 +77,7 @@ use Rattle.laws.specs.Books.{
   arenasTo,
   freedNone,
 }
-use Rattle.laws.specs.Plain.{
+use Rattle.sound.specs.Plain.{
   Plain,
   count,
   inUse,
@@ -93,10 +93,10 @@ use Rattle.laws.specs.Plain.{
   past,
   planBack as plainBack,
 }
-use Rattle.laws.specs.Counting.{many-more, many-le, all-many, none-many}
-use Rattle.laws.specs.Chains.{Blocks, live-below}
-use Rattle.laws.specs.Sound.{home, Sound}
-use Rattle.laws.specs.Held.{
+use Rattle.sequences.specs.Counting.{many-more, many-le, all-many, none-many}
+use Rattle.sound.specs.Chains.{Blocks, live-below}
+use Rattle.sound.specs.Sound.{home, Sound}
+use Rattle.sound.specs.Held.{
   Says,
   Held,
   held,
@@ -116,10 +116,10 @@ use Rattle.laws.specs.Held.{
   base-spent,
   base-unused,
 }
-use Rattle.laws.specs.Step.{Aside, HomesAfter, count-same, free-same, order-aside, home-same, homes-same, stepped}
-use Rattle.laws.specs.Walked.{past-ends, walk-is}
-use Rattle.laws.specs.Paths.{quiet-link, Backed, backed}
-use Rattle.laws.specs.GiveBack.{
+use Rattle.sound.specs.Step.{Aside, HomesAfter, count-same, free-same, order-aside, home-same, homes-same, stepped}
+use Rattle.sound.specs.Walked.{past-ends, walk-is}
+use Rattle.sound.specs.Paths.{quiet-link, Backed, backed}
+use Rattle.sound.specs.GiveBack.{
   Given,
   I,
   s-low,

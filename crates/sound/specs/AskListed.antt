@@ -19,17 +19,17 @@ use Rattle.rules.specs.Blocks.{sizeOf, lastClass, startOf, lastStart, blockNo, 
 use Rattle.rules.specs.Ask.{frontOf, planAsk, spare, fromListed, fromFreeblock, noLink, afterAsk, askAnswer}
 use Rattle.books.specs.Starts.{start-is, number-is}
 use Rattle.books.specs.Sizes.{Aligned, size-low, size-high, capacity-high}
-use Rattle.laws.specs.Update.{to, to-other, to-cong}
-use Rattle.laws.specs.Sequences.{erase}
-use Rattle.laws.specs.Families.{At}
-use Rattle.laws.specs.Books.{View, Books, put-pool, pool-may-leave, pool-leaves, poolTo, homeTo, listedTo}
-use Rattle.laws.specs.Plain.{Plain, count, carved, setChain, setLive, setVirgin, setListed}
-use Rattle.laws.specs.Counting.{many-has}
-use Rattle.laws.specs.Chains.{Blocks, room, taken, extended, block-ends}
-use Rattle.laws.specs.Sound.{home, Sound}
-use Rattle.laws.specs.Held.{Says, Held, held, sound, listed-is, home-listed, home-full, InClassOf, classed}
-use Rattle.laws.specs.Step.{BytesAfter, link-after, no-bytes}
-use Rattle.laws.specs.Paths.{quiet-same, quiet-link, hand-out, grows-same, Asked, asked, count-on, insideRows, insideView, inner}
+use Rattle.sequences.specs.Update.{to, to-other, to-cong}
+use Rattle.sequences.specs.Sequences.{erase}
+use Rattle.sequences.specs.Families.{At}
+use Rattle.sound.specs.Books.{View, Books, put-pool, pool-may-leave, pool-leaves, poolTo, homeTo, listedTo}
+use Rattle.sound.specs.Plain.{Plain, count, carved, setChain, setLive, setVirgin, setListed}
+use Rattle.sequences.specs.Counting.{many-has}
+use Rattle.sound.specs.Chains.{Blocks, room, taken, extended, block-ends}
+use Rattle.sound.specs.Sound.{home, Sound}
+use Rattle.sound.specs.Held.{Says, Held, held, sound, listed-is, home-listed, home-full, InClassOf, classed}
+use Rattle.sound.specs.Step.{BytesAfter, link-after, no-bytes}
+use Rattle.sound.specs.Paths.{quiet-same, quiet-link, hand-out, grows-same, Asked, asked, count-on, insideRows, insideView, inner}
 
 -- a list whose head is a link to x goes on from x
 pub front-of : {l x most : ℕ} → l ≡ suc x → x < most → (front : ℕ → AskPlan) (otherwise : AskPlan)

@@ -44,16 +44,16 @@ use Rattle.rules.specs.Books.{
 use Rattle.rules.specs.Blocks.{sizeOf, lastClass, capacity}
 use Rattle.books.specs.Known.{Shaped, shaped, in-range}
 use Rattle.books.specs.Sizes.{Aligned, capacity-high, class-low}
-use Rattle.laws.specs.Update.{is-false}
-use Rattle.laws.specs.Sequences.{All, In, all-map}
-use Rattle.laws.specs.Rising.{Rising}
-use Rattle.laws.specs.Linked.{Doubly}
-use Rattle.laws.specs.Families.{At, Family}
-use Rattle.laws.specs.Books.{View, Books, ArenaHead}
-use Rattle.laws.specs.Plain.{Plain, count, inUse, carved, free}
-use Rattle.laws.specs.Counting.{many-has}
-use Rattle.laws.specs.Chains.{Blocks, live-below}
-use Rattle.laws.specs.Sound.{home, base, arenaRows, Shape, BitSet, Lists, InClass, PoolRule, Sound}
+use Rattle.sequences.specs.Update.{is-false}
+use Rattle.sequences.specs.Sequences.{All, In, all-map}
+use Rattle.sequences.specs.Rising.{Rising}
+use Rattle.sequences.specs.Linked.{Doubly}
+use Rattle.sequences.specs.Families.{At, Family}
+use Rattle.sound.specs.Books.{View, Books, ArenaHead}
+use Rattle.sound.specs.Plain.{Plain, count, inUse, carved, free}
+use Rattle.sequences.specs.Counting.{many-has}
+use Rattle.sound.specs.Chains.{Blocks, live-below}
+use Rattle.sound.specs.Sound.{home, base, arenaRows, Shape, BitSet, Lists, InClass, PoolRule, Sound}
 
 -- ---- where a pool and an arena belong
 module _ (al P : ℕ) (r : Plain) (n : ℕ) where

@@ -9,8 +9,8 @@ use native.Mathlib.Decide.{ℕ-discrete}
 use native.Mathlib.Omega.{arith}
 use lib.ListN.{length}
 use Rattle.rules.specs.Books.{at}
-use Rattle.laws.specs.Update.{to, to-same, to-other}
-use Rattle.laws.specs.Sequences.{
+use Rattle.sequences.specs.Update.{to, to-same, to-other}
+use Rattle.sequences.specs.Sequences.{
   All,
   Not,
   Once,
@@ -31,7 +31,7 @@ use Rattle.laws.specs.Sequences.{
   next-in,
   prev-in,
 }
-use Rattle.laws.specs.Linked.{
+use Rattle.sequences.specs.Linked.{
   Doubly,
   Singly,
   Stack,

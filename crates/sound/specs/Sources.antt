@@ -58,11 +58,11 @@ use Rattle.rules.specs.Ask.{
 use Rattle.books.specs.Starts.{start-is, number-is, first-block, second-block}
 use Rattle.books.specs.Known.{in-range}
 use Rattle.books.specs.Sizes.{Aligned, size-low, size-high, capacity-high, capacity-low, class-low}
-use Rattle.laws.specs.Update.{is-false, to, to-same, to-other, to-cong}
-use Rattle.laws.specs.Sequences.{All, erase, erase-front}
-use Rattle.laws.specs.Linked.{Stack}
-use Rattle.laws.specs.Families.{At, inside}
-use Rattle.laws.specs.Books.{
+use Rattle.sequences.specs.Update.{is-false, to, to-same, to-other, to-cong}
+use Rattle.sequences.specs.Sequences.{All, erase, erase-front}
+use Rattle.sequences.specs.Linked.{Stack}
+use Rattle.sequences.specs.Families.{At, inside}
+use Rattle.sound.specs.Books.{
   View,
   Books,
   put-pool,
@@ -78,7 +78,7 @@ use Rattle.laws.specs.Books.{
   freedTo,
   arenasTo,
 }
-use Rattle.laws.specs.Plain.{
+use Rattle.sound.specs.Plain.{
   Plain,
   count,
   inUse,
@@ -92,14 +92,14 @@ use Rattle.laws.specs.Plain.{
   planAsk as plainAsk,
   afterAsk as plainAfterAsk,
 }
-use Rattle.laws.specs.Counting.{many-none, many-all, many-le}
-use Rattle.laws.specs.Chains.{Blocks}
-use Rattle.laws.specs.Sound.{Sound}
-use Rattle.laws.specs.Held.{Held, held, InClassOf, classed, use-class, usable-word, no-freed, freed-is, unused-is, home-freed, home-away, base-usable}
-use Rattle.laws.specs.Paths.{quiet-same, Hand, hand-out, Grows, grows-same, Asked, asked}
-use Rattle.laws.specs.Emptied.{put-zero}
-use Rattle.laws.specs.AskListed.{front-of, ask-listed}
-use Rattle.laws.specs.Taken.{no-live, spentBooks, spend-is, spentUsable, spend-rows, withArenas, From, newRows, set-anew, taken-again}
+use Rattle.sequences.specs.Counting.{many-none, many-all, many-le}
+use Rattle.sound.specs.Chains.{Blocks}
+use Rattle.sound.specs.Sound.{Sound}
+use Rattle.sound.specs.Held.{Held, held, InClassOf, classed, use-class, usable-word, no-freed, freed-is, unused-is, home-freed, home-away, base-usable}
+use Rattle.sound.specs.Paths.{quiet-same, Hand, hand-out, Grows, grows-same, Asked, asked}
+use Rattle.sound.specs.Emptied.{put-zero}
+use Rattle.sound.specs.AskListed.{front-of, ask-listed}
+use Rattle.sound.specs.Taken.{no-live, spentBooks, spend-is, spentUsable, spend-rows, withArenas, From, newRows, set-anew, taken-again}
 
 -- ---- a heap, and the wanted class c, whose list is empty
 module _ {al A P c : ℕ} {h : Heap} {r : Plain} (L : Aligned al)

@@ -1,15 +1,28 @@
 -- What follows a member of a sequence, and sequences that rise by a number of each member: none of them has more than
--- one that follows it.
+-- one that follows it, which is to say more than the next.
 -- Assumes nothing.
 use mathlib.Core.Path.{_≡_, refl}
 use mathlib.Core.Logic.{_≢_, Ne·symm as flip}
 use mathlib.Core.List.{List, [], _∷_, _++_}
-use Prim.Native.Nat.{ℕ, _≤_}
+use Prim.Native.Nat.{ℕ, suc, _-_, _≤_}
 use native.Mathlib.Omega.{arith}
 use lib.Dec.{eqb}
 use borrow.Author.Tests.{eq-eqb, ne-eqb}
 use Rattle.rules.specs.Say.{if_then_else_}
-use Rattle.laws.specs.Sequences.{All, Pairs, Once, all-map, all-two, all-at, pairs-parts, pairs-append, pairs-drop, pairs-put}
+use Rattle.rules.specs.Books.{linked}
+use Rattle.sequences.specs.Sequences.{
+  All,
+  Pairs,
+  Once,
+  Seg,
+  all-map,
+  all-two,
+  all-at,
+  pairs-parts,
+  pairs-append,
+  pairs-drop,
+  pairs-put,
+}
 
 -- ---- what stands behind a in the sequence
 abbrev pub following : ℕ → List ℕ → List ℕ
@@ -66,3 +79,29 @@ rising-after f q a pre post l t R =
     pairs-append (λ x y. f x ≤ f y) pre (q ∷ a ∷ post) (u .0)
     (all-map (λ y (c : All (λ z. f y ≤ f z) (q ∷ post)). (c .0, (omega (arith, c .0), c .1))) pre (u .1))
     ((l, u .2 .0), (t, u .2 .1))
+
+-- ---- a linked sequence rises exactly if each link in it does: the one that x's link leads to has no fewer than x
+abbrev pub LinkRises : (ℕ → ℕ) → (ℕ → ℕ) → ℕ → Type 0
+LinkRises next f x = next x ≢ 0 → f x ≤ f (linked (next x))
+
+module _ (next prev f : ℕ → ℕ) where
+  pub links-rising : (l p : ℕ) (xs : List ℕ) → Seg next prev l p xs → All (LinkRises next f) xs → Rising f xs
+  links-rising l p [] s a = tt
+  links-rising l p (x ∷ xs) s a =
+      let R = links-rising (next x) (suc x) xs (s .1 .1) (a .1) in
+      (behind xs (s .1 .1) R, R)
+    where
+      behind : (ys : List ℕ) → Seg next prev (next x) (suc x) ys → Rising f ys → All (λ y. f x ≤ f y) ys
+      behind [] t R = tt
+      behind (y ∷ ys) t R =
+          let q : next x - 1 ≡ y = omega (arith, t .0) in
+          let u : f x ≤ f y = rw q at (a .0 (λ z. absurd (omega (arith, t .0)))) in
+          (u, all-map {R = λ z. f x ≤ f z} (λ z (v : f y ≤ f z). omega arith) ys (R .0))
+
+  pub rising-links : (l p : ℕ) (xs : List ℕ) → Seg next prev l p xs → Rising f xs → All (LinkRises next f) xs
+  rising-links l p [] s R = tt
+  rising-links l p (x ∷ xs) s R = (first xs (s .1 .1) (R .0), rising-links (next x) (suc x) xs (s .1 .1) (R .1))
+    where
+      first : (ys : List ℕ) → Seg next prev (next x) (suc x) ys → All (λ y. f x ≤ f y) ys → LinkRises next f x
+      first [] t u d = absurd (d t)
+      first (y ∷ ys) t u d = let q : next x - 1 ≡ y = omega (arith, t .0) in rw q (u .0)

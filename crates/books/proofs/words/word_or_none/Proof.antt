@@ -1,11 +1,11 @@
--- `records::word_or_none` reads the word where there is one.
+-- `books::words::word_or_none` reads the word where there is one.
 -- Assumes nothing.
 use mathlib.Core.Path.{sym}
 use native.Mathlib.Omega.{arith}
 use lib.ListN.{List·getD-eq-default}
 use borrow.Author.Needs.{needs}
-use Rattle.records.proofs.word_or_none.Statement.{statement}
-use Rattle.records.proofs.word_or_none.Tie as tie
+use Rattle.books.proofs.words.word_or_none.Statement.{statement}
+use Rattle.books.proofs.words.word_or_none.Tie as tie
 
 returns : tie.Need-returns
 returns c = let a = c .before .before .args in (sym (List·getD-eq-default (a .books .now) 0 (c .if1 .taken)), omega arith)

@@ -15,9 +15,9 @@ use borrow.Author.Tests.{eq-eqb, ne-eqb, le-leb}
 use Rattle.rules.specs.Say.{if_then_else_, _▷_}
 use Rattle.rules.specs.Books.{at, put, classHead, freedHead, arenaNext, arenaPrevious, arenaWord, arena, poolNext, poolPrevious, poolWord, pool, linkTo}
 use Rattle.rules.specs.Lists.{nextAt, previousAt, leave, join, goInAfter, mayLeave, arenaLinks, poolLinks}
-use Rattle.laws.specs.Update.{to, to-same, to-other}
-use Rattle.laws.specs.Sequences.{All, Not, In, Split, split, erase, erase-front, after, after-is, lastLink, last-link, all-map, all-every}
-use Rattle.laws.specs.Linked.{
+use Rattle.sequences.specs.Update.{to, to-same, to-other}
+use Rattle.sequences.specs.Sequences.{All, Not, In, Split, split, erase, erase-front, after, after-is, lastLink, last-link, all-map, all-every}
+use Rattle.sequences.specs.Linked.{
   Doubly,
   Singly,
   joinedBy,
@@ -37,7 +37,7 @@ use Rattle.laws.specs.Linked.{
   singly-comes,
   singly-goes,
 }
-use Rattle.laws.specs.Families.{
+use Rattle.sequences.specs.Families.{
   At,
   Family,
   stranger,

@@ -13,21 +13,21 @@ use lib.Arith.{digits-div}
 use lib.Dec.{ltb, eqb}
 use lib.ListN.{length}
 use borrow.Author.Tests.{eq-eqb, ne-eqb}
-use Rattle.rules.specs.Say.{if_then_else_}
+use Rattle.rules.specs.Say.{if_then_else_, howMany}
 use Rattle.rules.specs.Books.{at, isSet, editionWord, isEdition, alignmentOf, offsetOf, putMapBit}
 use Rattle.rules.specs.Blocks.{sizeOf, startOf, linkAt, putLink}
 use Rattle.bits.specs.Map.{put-block, length-put}
 use Rattle.books.specs.Sizes.{Aligned, size-low}
-use Rattle.laws.specs.Update.{to}
-use Rattle.laws.specs.Sequences.{Not, all-map}
-use Rattle.laws.specs.Rising.{Rising, rising-same}
-use Rattle.laws.specs.Books.{View}
-use Rattle.laws.specs.Plain.{Plain, count, inUse, carved, free, howMany}
-use Rattle.laws.specs.Counting.{many-same}
-use Rattle.laws.specs.Bytes.{Outside}
-use Rattle.laws.specs.Chains.{Blocks, block-ends, link-bytes, put-link-other, length-link, framed}
-use Rattle.laws.specs.Sound.{home, base}
-use Rattle.laws.specs.Held.{Says, ArenaSays, PoolSays, ListsSay, PoolRuleOf, rule-memory, opened}
+use Rattle.sequences.specs.Update.{to}
+use Rattle.sequences.specs.Sequences.{Not, all-map}
+use Rattle.sequences.specs.Rising.{Rising, rising-same}
+use Rattle.sound.specs.Books.{View}
+use Rattle.sound.specs.Plain.{Plain, count, inUse, carved, free}
+use Rattle.sequences.specs.Counting.{many-same}
+use Rattle.sound.specs.Bytes.{Outside}
+use Rattle.sound.specs.Chains.{Blocks, block-ends, link-bytes, put-link-other, length-link, framed}
+use Rattle.sound.specs.Sound.{home, base}
+use Rattle.sound.specs.Held.{Says, ArenaSays, PoolSays, ListsSay, PoolRuleOf, rule-memory, opened}
 
 -- ---- the plain heap but for pool p and arena a
 pub record Aside (p a : ℕ) (r r′ : Plain) : Type 0 where

@@ -17,7 +17,7 @@ use Rattle.rules.specs.Say.{if_then_else_}
 use Rattle.rules.specs.Books.{Heap, at, usableHead, arenaNext, arenaPrevious, arenaWord, arena}
 use Rattle.rules.specs.GiveBack.{freeNow, goesIn, walk}
 use Rattle.books.specs.Sizes.{Aligned}
-use Rattle.laws.specs.Sequences.{
+use Rattle.sequences.specs.Sequences.{
   All,
   Once,
   Split,
@@ -31,11 +31,11 @@ use Rattle.laws.specs.Sequences.{
   once-short,
   seg-cut,
 }
-use Rattle.laws.specs.Rising.{Rising}
-use Rattle.laws.specs.Linked.{Doubly}
-use Rattle.laws.specs.Families.{At, member-links}
-use Rattle.laws.specs.Plain.{Plain, free, past}
-use Rattle.laws.specs.Held.{Held, usable-word, usable-row, usable-members}
+use Rattle.sequences.specs.Rising.{Rising}
+use Rattle.sequences.specs.Linked.{Doubly}
+use Rattle.sequences.specs.Families.{At, member-links}
+use Rattle.sound.specs.Plain.{Plain, free, past}
+use Rattle.sound.specs.Held.{Held, usable-word, usable-row, usable-members}
 
 -- ---- where the plain heap's walk ends: none of xs has fewer than n free pools, or q is the last of those that have.
 -- What holds in both cases holds

@@ -21,10 +21,10 @@ use Rattle.rules.specs.Ask.{planAsk, afterAsk, askAnswer}
 use Rattle.rules.specs.GiveBack.{planBack, afterBack}
 use Rattle.books.specs.Known.{in-range}
 use Rattle.books.specs.Sizes.{Aligned, size-low}
-use Rattle.laws.specs.Update.{to, to-same, to-other}
-use Rattle.laws.specs.Sequences.{all-every}
-use Rattle.laws.specs.Rising.{Rising, rising-same}
-use Rattle.laws.specs.Plain.{
+use Rattle.sequences.specs.Update.{to, to-same, to-other}
+use Rattle.sequences.specs.Sequences.{all-every}
+use Rattle.sequences.specs.Rising.{Rising, rising-same}
+use Rattle.sound.specs.Plain.{
   Plain,
   count,
   inUse,
@@ -36,13 +36,13 @@ use Rattle.laws.specs.Plain.{
   planBack as plainBack,
   afterBack as plainAfterBack,
 }
-use Rattle.laws.specs.Counting.{many-same, many-more}
-use Rattle.laws.specs.Bytes.{outside-less}
-use Rattle.laws.specs.Chains.{block-ends, block-outside, first-outside, put-link-other, length-link, live-below}
-use Rattle.laws.specs.Books.{View}
-use Rattle.laws.specs.Sound.{Sound}
-use Rattle.laws.specs.Held.{Says, PoolSays, arena-low, in-class}
-use Rattle.laws.specs.Step.{Aside, BytesAfter, base-same, homes-same, stepped}
+use Rattle.sequences.specs.Counting.{many-same, many-more}
+use Rattle.sound.specs.Bytes.{outside-less}
+use Rattle.sound.specs.Chains.{block-ends, block-outside, first-outside, put-link-other, length-link, live-below}
+use Rattle.sound.specs.Books.{View}
+use Rattle.sound.specs.Sound.{Sound}
+use Rattle.sound.specs.Held.{Says, PoolSays, arena-low, in-class}
+use Rattle.sound.specs.Step.{Aside, BytesAfter, base-same, homes-same, stepped}
 
 -- ---- memory: no byte of a live block of the plain heap r, and none of a pool's first 48, is touched
 pub record Quiet (al A P : ℕ) (m m′ : List ℕ) (r : Plain) : Type 0 where

@@ -18,15 +18,15 @@ use Rattle.rules.specs.Lists.{mayJoin}
 use Rattle.rules.specs.GiveBack.{_⇛_, planBack, emptying, afterBack}
 use Rattle.books.specs.Starts.{start-is, number-is}
 use Rattle.books.specs.Sizes.{Aligned, size-low, capacity-high, capacity-low, class-low}
-use Rattle.laws.specs.Update.{to, to-cong}
-use Rattle.laws.specs.Families.{head-link}
-use Rattle.laws.specs.Books.{View, Books, put-pool, pool-joins, poolTo, homeTo, listedTo}
-use Rattle.laws.specs.Plain.{Plain, count, setChain, setLive, setListed}
-use Rattle.laws.specs.Counting.{many-some}
-use Rattle.laws.specs.Chains.{Blocks, room, given, live-below, block-ends}
-use Rattle.laws.specs.Held.{Says, Held, sound, home-listed, home-full, InClassOf, in-class}
-use Rattle.laws.specs.Step.{BytesAfter, link-after}
-use Rattle.laws.specs.Paths.{quiet-link, Backed, backed, count-off, insideRows, insideView, inner}
+use Rattle.sequences.specs.Update.{to, to-cong}
+use Rattle.sequences.specs.Families.{head-link}
+use Rattle.sound.specs.Books.{View, Books, put-pool, pool-joins, poolTo, homeTo, listedTo}
+use Rattle.sound.specs.Plain.{Plain, count, setChain, setLive, setListed}
+use Rattle.sequences.specs.Counting.{many-some}
+use Rattle.sound.specs.Chains.{Blocks, room, given, live-below, block-ends}
+use Rattle.sound.specs.Held.{Says, Held, sound, home-listed, home-full, InClassOf, in-class}
+use Rattle.sound.specs.Step.{BytesAfter, link-after}
+use Rattle.sound.specs.Paths.{quiet-link, Backed, backed, count-off, insideRows, insideView, inner}
 
 -- block j of pool p is live, in a heap that holds the plain heap r
 pub record Given (al A P : ℕ) (h : Heap) (r : Plain) (p j : ℕ) : Type 0 where

@@ -13,7 +13,7 @@ use lib.Seq.{getD-set-same, getD-set-other, lt-length-set}
 use Rattle.rules.specs.Say.{if_then_else_, only}
 use Rattle.rules.specs.Books.{at, none?}
 use Rattle.rules.specs.Lists.{leave, join, goInAfter, leaveBy, joinBy}
-use Rattle.laws.specs.Sequences.{
+use Rattle.sequences.specs.Sequences.{
   All,
   Not,
   Once,

@@ -37,14 +37,14 @@ use Rattle.bits.specs.Bit.{no-bit}
 use Rattle.books.specs.Known.{in-range}
 use Rattle.books.specs.Records.{length-arenas, length-pools}
 use Rattle.books.specs.Sizes.{aligned}
-use Rattle.laws.specs.Sequences.{All, Once, In, Seg}
-use Rattle.laws.specs.Linked.{Doubly}
-use Rattle.laws.specs.Families.{At}
-use Rattle.laws.specs.Books.{Books, ArenaHead}
-use Rattle.laws.specs.Plain.{count, from, fresh}
-use Rattle.laws.specs.Counting.{many-none}
-use Rattle.laws.specs.Sound.{home, base, arenaRows, Sound}
-use Rattle.laws.specs.Held.{Says, viewOf, home-away, base-unused, sound}
+use Rattle.sequences.specs.Sequences.{All, Once, In, Seg}
+use Rattle.sequences.specs.Linked.{Doubly}
+use Rattle.sequences.specs.Families.{At}
+use Rattle.sound.specs.Books.{Books, ArenaHead}
+use Rattle.sound.specs.Plain.{count, from, fresh}
+use Rattle.sequences.specs.Counting.{many-none}
+use Rattle.sound.specs.Sound.{home, base, arenaRows, Sound}
+use Rattle.sound.specs.Held.{Says, viewOf, home-away, base-unused, sound}
 
 -- ---- the records, of eight words each
 -- what holds of each of the eight words of a record

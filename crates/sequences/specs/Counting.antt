@@ -1,15 +1,20 @@
 -- The laws of counting: `howMany test n` where the test changes at one number, and where it passes everywhere or
--- nowhere.
+-- nowhere. And of tests that every number below n passes, that of a pool's set bits among them.
 -- Assumes nothing.
 use mathlib.Core.Path.{_≡_, refl, sym, ap, _∙_}
 use mathlib.Core.Logic.{_≢_}
-use mathlib.Core.Bool.{Bool, true, false}
+use mathlib.Core.Bool.{Bool, true, false, not, false≢true}
+use mathlib.Core.List.{List}
 use Prim.Native.Nat.{ℕ, zero, suc, _+_, _≤_, _<_}
 use native.Mathlib.Decide.{ℕ-discrete}
 use native.Mathlib.Omega.{arith}
-use Rattle.rules.specs.Say.{if_then_else_}
-use Rattle.laws.specs.Update.{is-false}
-use Rattle.laws.specs.Plain.{howMany}
+use lib.Dec.{ltb}
+use borrow.Author.Tests.{lt-ltb, ltb-true}
+use Rattle.rules.specs.Say.{if_then_else_, _implies_, allBelow, howMany}
+use Rattle.rules.specs.Books.{isSet}
+use Rattle.rules.specs.Audit.{bitsBelow}
+use Rattle.books.specs.Tests.{both}
+use Rattle.sequences.specs.Update.{is-false}
 
 -- what a number counts for
 abbrev one : Bool → ℕ
@@ -76,6 +81,16 @@ unfolding howMany
 many-le f zero = omega arith
 many-le f (suc n) = omega (arith, one-le (f n), many-le f n)
 
+-- those that pass and those that fail are all
+pub many-not : (f : ℕ → Bool) (n : ℕ) → howMany f n + howMany (λ k. not (f k)) n ≡ n
+unfolding howMany
+many-not f zero = refl
+many-not f (suc n) = omega (arith, halves (f n), many-not f n)
+  where
+    halves : (t : Bool) → one t + one (not t) ≡ 1
+    halves true = refl
+    halves false = refl
+
 -- all pass where all are counted
 pub all-many : (f : ℕ → Bool) (n : ℕ) → howMany f n ≡ n → (k : ℕ) → k < n → f k ≡ true
 unfolding howMany
@@ -104,3 +119,37 @@ many-has f (suc n) l = go (f n) refl (many-has f n)
     go : (t : Bool) → f n ≡ t → (1 ≤ howMany f n → Passes f n) → Passes f (suc n)
     go true e h = record { number = n; low = omega arith; yes = e }
     go false e h = up (h (omega (arith, ap one e)))
+
+-- ---- tests that every number below n passes
+pub every-is : (f : ℕ → Bool) (n : ℕ) → allBelow f n ≡ true → (k : ℕ) → k < n → f k ≡ true
+unfolding allBelow
+every-is f zero e k l = absurd (omega arith)
+every-is f (suc n) e k l = go (ℕ-discrete k n) (both (f n) (allBelow f n) e) (λ t. every-is f n t k)
+  where
+    go : Dec (k ≡ n) → (f n ≡ true) × (allBelow f n ≡ true) → (allBelow f n ≡ true → k < n → f k ≡ true) → f k ≡ true
+    go (yes q) t r = ap f q ∙ t .0
+    go (no q) t r = r (t .1) (omega arith)
+
+pub is-every : (f : ℕ → Bool) (n : ℕ) → ((k : ℕ) → k < n → f k ≡ true) → allBelow f n ≡ true
+unfolding allBelow
+is-every f zero e = refl
+is-every f (suc n) e = rw (e n (omega arith)) (is-every f n (λ k l. e k (omega arith)))
+
+-- of a test that is to pass where another one does
+pub implied : (t u : Bool) → (t implies u) ≡ true → t ≡ true → u ≡ true
+implied true u e p = e
+implied false u e p = absurd (false≢true p)
+
+pub is-implied : (t u : Bool) → (t ≡ true → u ≡ true) → (t implies u) ≡ true
+is-implied true u f = f refl
+is-implied false u f = refl
+
+-- ---- each set bit of pool n is of a block below block v
+module _ (map : List ℕ) (n v : ℕ) where
+  pub below-is : bitsBelow map n v ≡ true → (k : ℕ) → k < 512 → isSet map n k ≡ true → k < v
+  unfolding bitsBelow
+  below-is e k l q = ltb-true k v (implied (isSet map n k) (ltb k v) (every-is (λ k. isSet map n k implies ltb k v) 512 e k l) q)
+
+  pub is-below : ((k : ℕ) → k < 512 → isSet map n k ≡ true → k < v) → bitsBelow map n v ≡ true
+  unfolding bitsBelow
+  is-below f = is-every (λ k. isSet map n k implies ltb k v) 512 (λ k l. is-implied (isSet map n k) (ltb k v) (λ q. lt-ltb k v (f k l q)))

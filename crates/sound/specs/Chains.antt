@@ -3,23 +3,23 @@
 -- Assumes nothing.
 use mathlib.Core.Path.{_≡_, refl, sym, ap, _∙_}
 use mathlib.Core.Logic.{_≢_, inl, inr}
-use mathlib.Core.Bool.{Bool, true, false, not, _||_, true≢false}
+use mathlib.Core.Bool.{Bool, true, false, not, true≢false}
 use mathlib.Core.List.{List, [], _∷_}
 use Prim.Native.Nat.{ℕ, zero, suc, _+_, _*_, _/_, _%_, _<_, _≤_}
 use native.Mathlib.Nat.{mul-le-mul-right, suc-mul, add-zero, div-div-eq-div-mul, div-mul-le-self, le-div-iff-mul-le}
 use native.Mathlib.Omega.{arith}
 use native.Mathlib.Decide.{ℕ-discrete, decLe, decLt}
-use lib.Dec.{eqb}
 use lib.ListN.{length, length-set}
 use lib.Seq.{getD-set-same, getD-set-other, lt-length-set}
 use borrow.Author.Tests.{eq-eqb, ne-eqb, not-true}
+use Rattle.rules.specs.Say.{howMany}
 use Rattle.rules.specs.Books.{at, offsetOf}
 use Rattle.rules.specs.Blocks.{startOf, capacity, linkAt, putLink}
-use Rattle.laws.specs.Update.{to, to-same, to-other}
-use Rattle.laws.specs.Sequences.{All, Not, Once, all-map}
-use Rattle.laws.specs.Plain.{howMany}
-use Rattle.laws.specs.Counting.{many-same, many-more, many-all, many-cut}
-use Rattle.laws.specs.Bytes.{Outside, outside-less, Clear, clear-outside}
+use Rattle.sequences.specs.Update.{to, to-same, to-other}
+use Rattle.sequences.specs.Sequences.{All, Not, Once, among, all-map, among-not, not-among}
+use Rattle.sequences.specs.Counting.{many-same, many-all, many-cut}
+use Rattle.sequences.specs.Walks.{Member, left-over}
+use Rattle.sound.specs.Bytes.{Outside, outside-less, Clear, clear-outside}
 
 -- ---- the four bytes of a link
 four : (v : ℕ) → v < 4294967296
@@ -96,23 +96,6 @@ first-outside p f n i low high u = go (decLe (offsetOf p f) i)
     go (no q) = inl (omega arith)
     go (yes q) = inr (omega arith)
 
--- whether k is on the chain
-abbrev pub among : ℕ → List ℕ → Bool
-among k [] = false
-among k (j ∷ js) = eqb k j || among k js
-
-among-not : (k : ℕ) (ks : List ℕ) → Not k ks → among k ks ≡ false
-among-not k [] n = refl
-among-not k (j ∷ js) n = rw (ne-eqb k j (n .0)) (among-not k js (n .1))
-
-not-among : (k : ℕ) (ks : List ℕ) → among k ks ≡ false → Not k ks
-not-among k [] e = tt
-not-among k (j ∷ js) e = go (ℕ-discrete k j) (not-among k js)
-  where
-    go : Dec (k ≡ j) → (among k js ≡ false → Not k js) → (k ≢ j) × Not k js
-    go (yes q) h = absurd (true≢false (sym (ap (λ (t : Bool). t || among k js) (eq-eqb k j q)) ∙ e))
-    go (no q) h = (q, h (sym (ap (λ (t : Bool). t || among k js) (ne-eqb k j q)) ∙ e))
-
 -- ---- the chain in memory: from the link l exactly the blocks ks of pool n are met, and then 0
 abbrev pub Chained : ℕ → ℕ → List ℕ → ℕ → List ℕ → Type 0
 Chained s n m l [] = l ≡ 0
@@ -136,17 +119,6 @@ pub record Blocks (s n : ℕ) (m : List ℕ) (free next : ℕ) (live : ℕ → B
   pub rest : (k : ℕ) → virgin ≤ k → live k ≡ false
 
 -- every block below the virgin ones is live or on the chain, so the two counts are together their number
-room-of : (chain : List ℕ) (v : ℕ) → Once chain → All (λ k. k < v) chain
-    → howMany (λ k. not (among k chain)) v + length chain ≡ v
-room-of [] v o b = omega (arith, many-all (λ k. true) v (λ k l. refl))
-room-of (x ∷ xs) v o b =
-    omega (
-      arith,
-      many-more (λ k. not (among k (x ∷ xs))) (λ k. not (among k xs)) x v (b .0)
-          (rw (eq-eqb x x refl)) (rw (among-not x xs (o .0))) (λ k d. rw (ne-eqb k x d)),
-      room-of xs v (o .1) (b .1),
-    )
-
 module _ {s n : ℕ} {m : List ℕ} {free next : ℕ} {live : ℕ → Bool} {chain : List ℕ}
     {virgin : ℕ} (B : Blocks s n m free next live chain virgin) where
   pub room : capacity s ≤ 512 → howMany live 512 + length chain ≡ virgin
@@ -155,7 +127,8 @@ module _ {s n : ℕ} {m : List ℕ} {free next : ℕ} {live : ℕ → Bool} {cha
         arith,
         many-cut live virgin 512 (omega (arith, B .fits)) (λ k l _. B .rest k l),
         many-same (λ k. not (among k chain)) live virgin (λ k l. B .either k l),
-        room-of chain virgin (B .once) (B .below),
+        left-over (λ k. true) virgin chain (B .once) (all-map {R = Member (λ k. true) virgin} (λ k (l : k < virgin). (l, refl)) chain (B .below)),
+        many-all (λ k. true) virgin (λ k l. refl),
       )
 
   -- a live block lies below the virgin ones, and is not on the chain

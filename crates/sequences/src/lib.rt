@@ -1,0 +1,1 @@
+// Sequences of numbers, counted, linked and walked: laws in specs/. There is no code here.
