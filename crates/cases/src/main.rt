@@ -1,5 +1,5 @@
-// Runs 01's "Cases on each side" and cases of 02's W-206, W-211 and W-214, a line for each: the calls of the case in
-// order, with what each answered.
+// Runs 01's "Cases on each side" and cases of 02's W-201, W-206, W-211 and W-214, a line for each: the calls of the
+// case in order, with what each answered.
 use books::words::CLASS;
 use books::words::EIGHT;
 use books::words::FREEBLOCK;
@@ -121,6 +121,17 @@ fn stand_in<'a>(memory: &'a [u8], books: &[u32], map: &[u64], offset: usize, phr
     number(spoken.len());
     text(b" bytes: ");
     text(spoken);
+}
+
+// What the audit says.
+fn audited(memory: &[u8], books: &[u32], map: &[u64]) {
+    let rule = audit::number_of(audit::audit(memory, books, map));
+    if rule == 0 {
+        text(b"; audit -> yes");
+        return;
+    }
+    text(b"; audit -> rule ");
+    number(index(rule));
 }
 
 fn after_blank(n: usize) {
@@ -411,6 +422,25 @@ fn fill_by_512(memory: &mut [u8; 8192], books: &mut [u32; 96], map: &mut [u64; 1
     text(b"\n");
 }
 
+// A bit in a pool that is not carved leaves rule 4 whole and breaks rule 5, and a count that is not that of the bits
+// leaves rule 6 whole and breaks rule 7.
+fn audits(memory: &mut [u8; 8192], books: &mut [u32; 96], map: &mut [u64; 16], edition: usize) {
+    format(b"Audits", memory, books, map, 2, edition);
+    audited(memory, books, map);
+    ask(memory, books, map, 512);
+    ask(memory, books, map, 512);
+    ask(memory, books, map, 512);
+    audited(memory, books, map);
+    text(b"; bit 0 of pool 1 is set");
+    map[8] = 1;
+    audited(memory, books, map);
+    text(b", and is not; pool 0 has count 7");
+    map[8] = 0;
+    books[RECORDS + 8] = 7;
+    audited(memory, books, map);
+    text(b"\n");
+}
+
 // There is no third edition.
 fn no_edition(memory: &mut Memory, books: &mut Books, map: &mut Map) {
     format(b"No edition", memory, books, map, 16, 2);
@@ -453,6 +483,8 @@ fn of_2_pools() {
     fill_by_smallest(&mut memory, &mut books, &mut map, b"Asks of 8", EIGHT);
     fill_by_512(&mut memory, &mut books, &mut map);
     fill_by_smallest(&mut memory, &mut books, &mut map, b"Asks of 16", SIXTEEN);
+    audits(&mut memory, &mut books, &mut map, EIGHT);
+    audits(&mut memory, &mut books, &mut map, SIXTEEN);
 }
 
 fn main() {

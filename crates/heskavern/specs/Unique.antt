@@ -16,8 +16,10 @@ use Rattle.rules.specs.Promises.{
   ViewSizePromise,
   WritePromise,
   RollCallPromise,
+  AuditNumberPromise,
 }
 use Rattle.heap.specs.Unique as H
+use Rattle.audit.specs.Unique as A
 use Rattle.heskavern.specs.declared.HeskavernAnswer.{HeskavernAnswer}
 use Rattle.heskavern.specs.Answers.{answerIn, sizedIn, rolledIn}
 
@@ -62,3 +64,7 @@ module _ (h g k : Heap) (r s : HeskavernAnswer) where
   roll-call-one w u v e f =
       let t = H.roll-call-one h g k w u v (rolledIn r) (rolledIn s) e f in
       (ap (λ (x : Rolled). record { number = x .number; value = x .count }) (t .0), t .1, t .2)
+
+-- the audit answers a number alone
+pub audit-one : (h g k : Heap) (m n : ℕ) → AuditNumberPromise h g m → AuditNumberPromise h k n → (m ≡ n) × (g ≡ k)
+audit-one = A.audit-number-one

@@ -1,6 +1,7 @@
-// The calls of 01 for C and Rust: crate heap's calls under names that the archive exports, each with the promise of the
-// call that it passes on. include/heskavern.h declares them. A slice is a pointer and its length in elements there.
-// View and the stand-in are made there from `heskavern_view_size`, since an exported function cannot return a slice.
+// The calls of 01, and 02's audit, for C and Rust: the calls of crates heap and audit under names that the archive
+// exports, each with the promise of the call that it passes on. include/heskavern.h declares them. A slice is a pointer
+// and its length in elements there. View and the stand-in are made there from `heskavern_view_size`, since an exported
+// function cannot return a slice.
 ghost use Rattle.rules.specs.Outcome.{heapOf};
 ghost use Rattle.rules.specs.Promises.{
   FormatPromise,
@@ -10,6 +11,7 @@ ghost use Rattle.rules.specs.Promises.{
   ViewSizePromise,
   WritePromise,
   RollCallPromise,
+  AuditNumberPromise,
 };
 ghost use Rattle.heskavern.specs.Answers.{answerIn, sizedIn, rolledIn};
 
@@ -151,4 +153,13 @@ pub extern "C" fn heskavern_roll_call(
         number: rolled.number,
         value: rolled.count,
     }
+}
+
+// Audit: 0 for yes, or the number of the first broken rule.
+#[no_mangle]
+pub extern "C" fn heskavern_audit(memory: &[u8], books: &[u32], map: &[u64]) -> u32
+    ensures { λ r. ⌜ AuditNumberPromise (heapOf (now (memory .entry)) (now (books .entry)) (now (map .entry)))
+        (heapOf (now (memory .exit)) (now (books .exit)) (now (map .exit))) r ⌝ }
+{
+    audit::number_of(audit::audit(memory, books, map))
 }
