@@ -6,19 +6,38 @@ use std::{env, fs, process};
 #[path = "slips.rs"]
 mod slips;
 
-/// src/paper.rs with one slip, as a module that finds the crate's names where src/paper.rs finds them.
-fn with_slip(paper: &str, n: usize, slip: &slips::Slip) -> String {
-    if paper.matches(slip.old).count() != 1 {
-        stop(&format!("slips.rs, '{}': its old text must stand in src/paper.rs exactly once", slip.name));
+/// The two files of the paper: src/paper.rs, and the audit that is a module of it.
+fn read_paper() -> [String; 2] {
+    ["src/paper.rs", "src/paper/audit.rs"].map(|path| {
+        println!("cargo:rerun-if-changed={path}");
+        fs::read_to_string(path).unwrap_or_else(|error| stop(&format!("{path}: {error}")))
+    })
+}
+
+/// What stands for the audit where the slip is not in it: the crate's own, so that it is not built for each slip.
+const OWN_AUDIT: &str = "impl super::Heap<'_> {
+    pub(super) fn audit(&mut self) -> u32 {
+        let (memory, books, map) = (&mut *self.lent.memory, &mut *self.lent.books, &mut *self.lent.map);
+        super::Calls::audit(&mut heskavern_paper::Paper::default(), super::Lent { memory, books, map })
     }
-    let text = paper.replace(slip.old, slip.new);
+}";
+
+/// The paper with one slip, as a module that finds the crate's names where src/paper.rs finds them.
+fn with_slip(paper: &[String; 2], n: usize, slip: &slips::Slip) -> String {
+    let [mut text, mut audit] = paper.clone();
+    let slipped = if slip.audit { &mut audit } else { &mut text };
+    if slipped.matches(slip.old).count() != 1 {
+        stop(&format!("slips.rs, '{}': its old text must stand exactly once in its file", slip.name));
+    }
+    *slipped = slipped.replace(slip.old, slip.new);
+    let audit = if slip.audit { &audit } else { OWN_AUDIT };
+    let text = text.replace("\nmod audit;\n", &format!("\nmod audit {{\n{audit}\n}}\n"));
     format!("#[allow(warnings)]\nmod slip_{n} {{\nuse heskavern_paper::*;\npub mod paper {{\n{text}\n}}\n}}\n")
 }
 
 fn write_slips() {
-    println!("cargo:rerun-if-changed=src/paper.rs");
     println!("cargo:rerun-if-changed=slips.rs");
-    let paper = fs::read_to_string("src/paper.rs").unwrap_or_else(|error| stop(&format!("src/paper.rs: {error}")));
+    let paper = read_paper();
     let mut modules = String::new();
     let mut list = String::new();
     for (n, slip) in slips::ALL.into_iter().flatten().enumerate() {

@@ -1,6 +1,6 @@
-// Small changes to src/paper.rs, one at a time: the slips that 01 names, the other reading of each place that leaves
-// room, the slips of a tired hand, and those of W-203, W-206, W-211 and W-214. The build makes a program of each, and
-// tests/broken.rs shows that it is found.
+// Small changes to src/paper.rs and its audit, one at a time: the slips that 01 names, the other reading of each place
+// that leaves room, the slips of a tired hand, and those of W-201, W-203, W-206, W-211 and W-214. The build makes a
+// program of each, and tests/broken.rs shows that it is found.
 
 // the build reads the texts, the tests the rest
 #[allow(dead_code)]
@@ -8,16 +8,37 @@ pub struct Slip {
     pub name: &'static str,
     /// How the name of a case begins that fails on it as well.
     pub case: Option<&'static str>,
-    /// Stands in src/paper.rs exactly once.
+    /// Whether it is one to src/paper/audit.rs, and not to src/paper.rs.
+    pub audit: bool,
+    /// Stands in that file exactly once.
     pub old: &'static str,
     pub new: &'static str,
 }
 
 const fn slip(name: &'static str, case: Option<&'static str>, old: &'static str, new: &'static str) -> Slip {
-    Slip { name, case, old, new }
+    Slip { name, case, audit: false, old, new }
 }
 
-pub const ALL: [&[Slip]; 10] = [NAMED, READINGS, TIRED, SPLIT, SHAPE, EDITIONS, BY_EIGHT, STAND_IN, ORDER, GOING_IN];
+const fn in_audit(name: &'static str, case: Option<&'static str>, old: &'static str, new: &'static str) -> Slip {
+    Slip { name, case, audit: true, old, new }
+}
+
+pub const ALL: [&[Slip]; 14] = [
+    NAMED,
+    READINGS,
+    TIRED,
+    SPLIT,
+    SHAPE,
+    EDITIONS,
+    BY_EIGHT,
+    STAND_IN,
+    ORDER,
+    GOING_IN,
+    AUDIT_1_TO_5,
+    AUDIT_6,
+    AUDIT_7_TO_9,
+    AUDIT_READ,
+];
 
 /// The slips that 01 names.
 const NAMED: &[Slip] = &[
@@ -1659,5 +1680,627 @@ const GOING_IN: &[Slip] = &[
         "self.put(list.next(last), link_to(Some(member)));
          self.put(list.next(member), link_to(next));
          self.put(list.previous(member), link_to(Some(last)));",
+    ),
+];
+
+/// W-201: rules 1 to 5 of the audit.
+const AUDIT_1_TO_5: &[Slip] = &[
+    slip(
+        "a wrong length breaks no rule of the audit",
+        Some("W-201: rule 1, A"),
+        "                1
+            }",
+        "                2 - number
+            }",
+    ),
+    slip(
+        "an edition above 1 breaks no rule of the audit",
+        Some("W-201: rule 1, A"),
+        "    fn audit(&mut self, lent: Lent) -> u32 {
+",
+        "    fn audit(&mut self, lent: Lent) -> u32 {
+        if lent.books.len() > EDITION && lent.books[EDITION] > 1 { return 0; }
+",
+    ),
+    in_audit(
+        "the audit counts a pool's live blocks anew",
+        Some("W-201: rule 7"),
+        "        let rules: [fn(&Self) -> Kept; 8] = [",
+        "        if self.set_bits(0) > 0 {
+            self.put(self.pool(0, COUNT), self.set_bits(0));
+        }
+        let rules: [fn(&Self) -> Kept; 8] = [",
+    ),
+    in_audit(
+        "open 2 breaks no rule",
+        Some("W-201: rule 2, open"),
+        "self.read(self.arena(arena, OPEN)) <= 1",
+        "self.read(self.arena(arena, OPEN)) <= 2",
+    ),
+    in_audit(
+        "open is tested in the first arena alone",
+        Some("W-201: rule 2, open"),
+        "keeps(self.read(self.arena(arena, OPEN)) <= 1, Clause::OpenAbove)?;",
+        "keeps(arena > 0 || self.read(self.arena(arena, OPEN)) <= 1, Clause::OpenAbove)?;",
+    ),
+    in_audit(
+        "the last spare word is not tested",
+        Some("W-201: rule 2, the spare"),
+        "for word in EDITION + 1..ARENAS {",
+        "for word in EDITION + 1..ARENAS - 1 {",
+    ),
+    in_audit(
+        "the spare word after the edition is not tested",
+        Some("W-201: rule 2, the spare"),
+        "for word in EDITION + 1..ARENAS {",
+        "for word in EDITION + 2..ARENAS {",
+    ),
+    in_audit(
+        "an arena record's last but one is not tested",
+        Some("W-201: rule 2, the last"),
+        "keeps(self.read(self.arena(arena, 6)) == 0, Clause::ArenaWord6)?;",
+        "",
+    ),
+    in_audit(
+        "an arena record's last is not tested",
+        Some("W-201: rule 2, the last"),
+        "keeps(self.read(self.arena(arena, 7)) == 0, Clause::ArenaWord7)?;",
+        "",
+    ),
+    in_audit(
+        "a pool record's last is not tested",
+        Some("W-201: rule 2, the last"),
+        "keeps(self.read(self.pool(pool, 7)) == 0, Clause::PoolWord7)?;",
+        "",
+    ),
+    in_audit(
+        "a pool record's last is tested in carved pools alone",
+        Some("W-201: rule 2, the last"),
+        "keeps(self.read(self.pool(pool, 7)) == 0, Clause::PoolWord7)?;",
+        "keeps(!self.carved(pool) || self.read(self.pool(pool, 7)) == 0, Clause::PoolWord7)?;",
+    ),
+    in_audit(
+        "a closed arena's carve mark is not tested",
+        Some("W-201: rule 3"),
+        "keeps(self.read(self.arena(arena, CARVE_MARK)) == 0, Clause::ClosedMark)?;",
+        "",
+    ),
+    in_audit(
+        "a closed arena's free pools is not tested",
+        Some("W-201: rule 3"),
+        "keeps(self.read(self.arena(arena, FREE_POOLS)) == 0, Clause::ClosedFree)?;",
+        "",
+    ),
+    in_audit(
+        "a closed arena's freed-pool head is not tested",
+        Some("W-201: rule 3"),
+        "keeps(self.read(self.arena(arena, FREED_HEAD)) == 0, Clause::ClosedHead)?;",
+        "",
+    ),
+    in_audit(
+        "a closed arena's next is held to 0",
+        Some("W-201: rule 3"),
+        "keeps(self.read(self.arena(arena, FREED_HEAD)) == 0, Clause::ClosedHead)?;",
+        "keeps(self.read(self.arena(arena, FREED_HEAD)) == 0, Clause::ClosedHead)?;
+             keeps(self.read(self.arena(arena, ARENA_NEXT)) == 0, Clause::ClosedHead)?;",
+    ),
+    in_audit(
+        "carve mark 0 breaks no rule",
+        Some("W-201: rule 4, the carve"),
+        "keeps(mark >= 1, Clause::MarkNone)?;",
+        "",
+    ),
+    in_audit(
+        "carve mark 1 breaks rule 4",
+        Some("W-201: yes from"),
+        "keeps(mark >= 1, Clause::MarkNone)?;",
+        "keeps(mark >= 2, Clause::MarkNone)?;",
+    ),
+    in_audit(
+        "carve mark P + 1 breaks no rule",
+        Some("W-201: rule 4, the carve"),
+        "keeps(mark <= self.pools, Clause::MarkAbove)?;",
+        "keeps(mark <= self.pools + 1, Clause::MarkAbove)?;",
+    ),
+    in_audit(
+        "carve mark P breaks rule 4",
+        Some("W-201: rule 4, the carve"),
+        "keeps(mark <= self.pools, Clause::MarkAbove)?;",
+        "keeps(mark < self.pools, Clause::MarkAbove)?;",
+    ),
+    in_audit(
+        "fewer free pools break no rule",
+        Some("W-201: rule 4, free"),
+        "keeps(free >= not_in_use, Clause::FewFree)?;",
+        "",
+    ),
+    in_audit(
+        "more free pools break no rule",
+        Some("W-201: rule 4, free"),
+        "keeps(free <= not_in_use, Clause::ManyFree)?;",
+        "",
+    ),
+    in_audit(
+        "a pool not carved is no free one",
+        Some("W-201: rule 4, free"),
+        "self.pools_of(arena).filter(|pool| !self.in_use(*pool)).count();",
+        "self.pools_of(arena).filter(|pool| self.freed(*pool)).count();",
+    ),
+    in_audit(
+        "a bit in a pool not carved breaks no rule",
+        Some("W-201: rule 5, a pool"),
+        "keeps(self.carved(pool), Clause::BitNotCarved)?;",
+        "if !self.carved(pool) { continue; }",
+    ),
+    in_audit(
+        "a bit of a class without blocks breaks no rule",
+        Some("W-201: rule 5, a class"),
+        "keeps(blocks > 0, Clause::BitNoClass)?;",
+        "if blocks == 0 { continue; }",
+    ),
+    in_audit(
+        "a class has blocks up to 63 in both editions",
+        Some("W-201: rule 5, a class"),
+        "if class > self.edition.last_class() {
+            return 0;",
+        "if class > 63 {
+            return 0;",
+    ),
+    in_audit(
+        "a bit past the last block breaks no rule",
+        Some("W-201: rule 5, past"),
+        "keeps((blocks..BITS).all(|k| !self.bit(pool, k)), Clause::BitNoBlock)?;",
+        "",
+    ),
+    in_audit(
+        "the bit next to the last block's breaks no rule",
+        Some("W-201: rule 5, past"),
+        "(blocks..BITS).all(",
+        "(blocks + 1..BITS).all(",
+    ),
+    in_audit(
+        "the last block's bit breaks rule 5",
+        Some("W-201: rule 5, past"),
+        "(blocks..BITS).all(",
+        "(blocks - 1..BITS).all(",
+    ),
+    in_audit(
+        "a pool's last bit is not tested",
+        Some("W-201: rule 5, past"),
+        "const BITS: usize = 512;",
+        "const BITS: usize = 511;",
+    ),
+];
+
+/// W-201: rule 6.
+const AUDIT_6: &[Slip] = &[
+    in_audit(
+        "a link that leads to no record ends a list",
+        None,
+        "keeps((1..=most).contains(&link), of[0])?;",
+        "if link > most { break; }",
+    ),
+    in_audit(
+        "a walk without an end stops",
+        None,
+        "keeps(row.len() < most, of[1])?;",
+        "if row.len() == most { break; }",
+    ),
+    in_audit(
+        "a list may lack a member",
+        Some("W-201: rule 6, freed"),
+        "keeps(members.iter().all(|member| row.contains(member)), of[2])?;",
+        "",
+    ),
+    in_audit(
+        "a list may hold another",
+        Some("W-201: rule 6, freed"),
+        "keeps(row.iter().all(|member| members.contains(member)), of[3])",
+        "Ok(())",
+    ),
+    in_audit(
+        "a list that has as many as it should holds just its members",
+        None,
+        "keeps(members.iter().all(|member| row.contains(member)), of[2])?;
+    keeps(row.iter().all(|member| members.contains(member)), of[3])",
+        "keeps(row.len() == members.len(), of[2])",
+    ),
+    in_audit("freed-pool lists are not tested", Some("W-201: rule 6, freed"), "self.freed_list(arena)?;", ""),
+    in_audit(
+        "a freed-pool list is tested in an arena with one freed pool alone",
+        Some("W-201: rule 6, freed"),
+        "self.freed_list(arena)?;",
+        "if self.pools_of(arena).filter(|pool| self.freed(*pool)).count() == 1 { self.freed_list(arena)?; }",
+    ),
+    in_audit(
+        "a freed-pool list may hold another arena's freed pools",
+        None,
+        "just_its_members(&row, &members, OF_FREED)?;",
+        "let mut own = row.clone();
+         own.retain(|pool| pool / self.pools == arena || !self.freed(*pool));
+         just_its_members(&own, &members, OF_FREED)?;",
+    ),
+    in_audit(
+        "a freed pool's previous is not tested",
+        Some("W-201: rule 6, freed"),
+        "keeps(row.iter().all(|pool| self.read(self.pool(*pool, POOL_PREVIOUS)) == 0), OF_FREED[4])",
+        "Ok(())",
+    ),
+    in_audit(
+        "a freed pool's previous is held to the one before",
+        Some("W-201: rule 6, freed"),
+        "keeps(row.iter().all(|pool| self.read(self.pool(*pool, POOL_PREVIOUS)) == 0), OF_FREED[4])",
+        "keeps(row.windows(2).all(|two| self.read(self.pool(two[1], POOL_PREVIOUS)) == two[0] + 1), OF_FREED[4])",
+    ),
+    in_audit(
+        "the usable list is not tested",
+        Some("W-201: rule 6, the usable"),
+        "self.linked_both_ways(self.arena_list(USABLE), &usable, OF_USABLE)?;",
+        "",
+    ),
+    in_audit(
+        "the usable list holds every open arena",
+        Some("W-201: rule 6, the usable"),
+        "self.arenas_that(|arena| self.open(arena) && !spent(arena));",
+        "self.arenas_that(|arena| self.open(arena));",
+    ),
+    in_audit(
+        "the usable list holds the open arenas with a freed pool",
+        None,
+        "self.arenas_that(|arena| self.open(arena) && !spent(arena));",
+        "self.arenas_that(|arena| self.open(arena) && self.read(self.arena(arena, FREED_HEAD)) != 0);",
+    ),
+    in_audit(
+        "the unused list is not tested",
+        Some("W-201: rule 6, the unused"),
+        "self.linked_both_ways(self.arena_list(UNUSED), &unused, OF_UNUSED)?;",
+        "",
+    ),
+    in_audit(
+        "the unused list may be empty",
+        Some("W-201: rule 6, the unused"),
+        "self.linked_both_ways(self.arena_list(UNUSED), &unused, OF_UNUSED)?;",
+        "if self.read(UNUSED) != 0 { self.linked_both_ways(self.arena_list(UNUSED), &unused, OF_UNUSED)?; }",
+    ),
+    in_audit(
+        "class lists are not tested",
+        Some("W-201: rule 6, class"),
+        "self.linked_both_ways(self.class_list(class), &members, OF_CLASS)?;",
+        "",
+    ),
+    in_audit(
+        "the last class's list is not tested",
+        Some("W-201: rule 6, class"),
+        "for class in 0..EDITION - CLASSES {",
+        "for class in (0..EDITION - CLASSES).filter(|class| *class != self.edition.last_class()) {",
+    ),
+    in_audit(
+        "a class list holds full pools too",
+        Some("W-201: rule 6, class"),
+        "self.pools_that(|pool| self.in_use(pool) && !self.full(pool));",
+        "self.pools_that(|pool| self.in_use(pool));",
+    ),
+    in_audit(
+        "a class list holds freed pools too",
+        None,
+        "self.pools_that(|pool| self.in_use(pool) && !self.full(pool));",
+        "self.pools_that(|pool| self.carved(pool) && !self.full(pool));",
+    ),
+    in_audit(
+        "a pool may be on another class's list",
+        Some("W-201: rule 6, class"),
+        "members.retain(|pool| self.read(self.pool(*pool, CLASS)) == class);",
+        "let row = self.row(CLASSES + class, |pool| self.pool(pool, POOL_NEXT), self.all_pools(), OF_CLASS)?;
+             members.retain(|pool| row.contains(pool));",
+    ),
+    in_audit(
+        "previous is not tested",
+        Some("W-201: rule 6, the usable"),
+        "keeps(self.read(list.previous(member)) == link_to(before), of[4])?;",
+        "",
+    ),
+    in_audit(
+        "the previous of the first is not tested",
+        Some("W-201: rule 6, the usable"),
+        "keeps(self.read(list.previous(member)) == link_to(before), of[4])?;",
+        "keeps(before.is_none() || self.read(list.previous(member)) == link_to(before), of[4])?;",
+    ),
+    in_audit(
+        "the previous of the first alone is tested",
+        Some("W-201: rule 6, the usable"),
+        "keeps(self.read(list.previous(member)) == link_to(before), of[4])?;",
+        "keeps(before.is_some() || self.read(list.previous(member)) == link_to(before), of[4])?;",
+    ),
+    in_audit(
+        "a full pool's next is not tested",
+        Some("W-201: rule 6, full"),
+        "keeps(self.read(self.pool(pool, POOL_NEXT)) == 0, Clause::FullNext)?;",
+        "",
+    ),
+    in_audit(
+        "a full pool's previous is not tested",
+        Some("W-201: rule 6, full"),
+        "keeps(self.read(self.pool(pool, POOL_PREVIOUS)) == 0, Clause::FullPrevious)?;",
+        "",
+    ),
+    in_audit(
+        "the next of an arena without free pools is not tested",
+        Some("W-201: rule 6, full"),
+        "keeps(self.read(self.arena(arena, ARENA_NEXT)) == 0, Clause::SpentNext)?;",
+        "",
+    ),
+    in_audit(
+        "the previous of an arena without free pools is not tested",
+        Some("W-201: rule 6, full"),
+        "keeps(self.read(self.arena(arena, ARENA_NEXT + 1)) == 0, Clause::SpentPrevious)?;",
+        "",
+    ),
+];
+
+/// W-201: rules 7 to 9.
+const AUDIT_7_TO_9: &[Slip] = &[
+    in_audit(
+        "a count below the set bits breaks no rule",
+        Some("W-201: rule 7"),
+        "keeps(count >= self.set_bits(pool), Clause::CountBelow)?;",
+        "",
+    ),
+    in_audit(
+        "a count above the set bits breaks no rule",
+        Some("W-201: rule 7"),
+        "keeps(count <= self.set_bits(pool), Clause::CountAbove)?;",
+        "",
+    ),
+    in_audit(
+        "a freed pool's count is not tested",
+        Some("W-201: rule 7"),
+        "keeps(count <= self.set_bits(pool), Clause::CountAbove)?;",
+        "keeps(self.freed(pool) || count <= self.set_bits(pool), Clause::CountAbove)?;",
+    ),
+    in_audit(
+        "a freed pool may have any class",
+        Some("W-201: rule 8, a freed pool's"),
+        "keeps(class <= self.edition.last_class(), Clause::FreedClass)?;",
+        "if class > self.edition.last_class() { continue; }",
+    ),
+    in_audit(
+        "a freed pool may not have class 65,535",
+        Some("W-201: after a yes"),
+        "if self.freed(pool) && class == NO_CLASS {",
+        "if false {",
+    ),
+    in_audit(
+        "the freeblock of a freed pool of class 65,535 is not tested",
+        Some("W-201: rule 8, a freed pool of"),
+        "![POOL_NEXT, CLASS].contains(word)",
+        "![POOL_NEXT, CLASS, FREEBLOCK].contains(word)",
+    ),
+    in_audit(
+        "the nextoffset of a freed pool of class 65,535 is not tested",
+        Some("W-201: rule 8, a freed pool of"),
+        "![POOL_NEXT, CLASS].contains(word)",
+        "![POOL_NEXT, CLASS, NEXTOFFSET].contains(word)",
+    ),
+    in_audit(
+        "the maxnextoffset of a freed pool of class 65,535 is not tested",
+        Some("W-201: rule 8, a freed pool of"),
+        "![POOL_NEXT, CLASS].contains(word)",
+        "![POOL_NEXT, CLASS, MAXNEXTOFFSET].contains(word)",
+    ),
+    in_audit(
+        "the next of a freed pool of class 65,535 is held to 0",
+        Some("W-201: rule 8, a freed pool of"),
+        "![POOL_NEXT, CLASS].contains(word)",
+        "CLASS != *word",
+    ),
+    in_audit(
+        "maxnextoffset is not tested",
+        Some("W-201: rule 8, maxnextoffset"),
+        "keeps(self.read(self.pool(pool, MAXNEXTOFFSET)) == POOL - size, Clause::Maximum)?;",
+        "",
+    ),
+    in_audit(
+        "maxnextoffset is the last block's start",
+        Some("W-201: rule 8, maxnextoffset"),
+        "keeps(self.read(self.pool(pool, MAXNEXTOFFSET)) == POOL - size, Clause::Maximum)?;",
+        "keeps(self.read(self.pool(pool, MAXNEXTOFFSET)) == HEADER + (blocks - 1) * size, Clause::Maximum)?;",
+    ),
+    in_audit(
+        "nextoffset may be no block start",
+        Some("W-201: rule 8, nextoffset"),
+        "keeps(nextoffset == end || self.edition.block_at(class, nextoffset).is_some(), Clause::Nextoffset)?;",
+        "",
+    ),
+    in_audit(
+        "nextoffset may not be the last block's end",
+        Some("W-201: yes from"),
+        "keeps(nextoffset == end || self",
+        "keeps(self",
+    ),
+    in_audit(
+        "nextoffset may lie past the last block's end",
+        Some("W-201: rule 8, nextoffset"),
+        "keeps(nextoffset == end || self",
+        "keeps(nextoffset >= end || self",
+    ),
+    in_audit(
+        "the freed chain ends where no block starts",
+        Some("W-201: rule 8, the freed"),
+        "let k = self.edition.block_at(class, start).ok_or(Clause::ChainNoStart)?;",
+        "let k = match self.edition.block_at(class, start) { Some(k) => k, None => break };",
+    ),
+    in_audit(
+        "a freed chain without an end stops",
+        Some("W-201: rule 8, the freed"),
+        "keeps(chain.len() < self.blocks(pool), Clause::ChainNoEnd)?;",
+        "if chain.len() == self.blocks(pool) { break; }",
+    ),
+    in_audit(
+        "a block may be neither live, freed nor virgin",
+        Some("W-201: rule 8, each"),
+        "keeps(live || freed || virgin, Clause::InNone)?;",
+        "",
+    ),
+    in_audit(
+        "a block may be live and on the freed chain",
+        Some("W-201: rule 8, each"),
+        "keeps(!(live && freed), Clause::LiveAndFreed)?;",
+        "",
+    ),
+    in_audit(
+        "a block may be live and virgin",
+        Some("W-201: each way"),
+        "keeps(!(live && virgin), Clause::LiveAndVirgin)?;",
+        "",
+    ),
+    in_audit(
+        "a block may be on the freed chain and virgin",
+        Some("W-201: rule 8, each"),
+        "keeps(!(freed && virgin), Clause::FreedAndVirgin)?;",
+        "",
+    ),
+    in_audit(
+        "the last block is not tested",
+        Some("W-201: rule 8, nextoffset"),
+        "let mut on_chain = vec![false; blocks];
+        chain.iter().for_each(|k| on_chain[*k] = true);",
+        "let mut on_chain = vec![false; blocks];
+        chain.iter().for_each(|k| on_chain[*k] = true);
+        on_chain.pop();",
+    ),
+    in_audit(
+        "one on the chain of a freed pool is enough",
+        Some("W-201: rule 8, how"),
+        "keeps(chain.len() >= 2 || !self.freed(pool), Clause::FreedShort)?;",
+        "",
+    ),
+    in_audit(
+        "a pool in use has two on its chain",
+        Some("W-201: rule 8, how"),
+        "keeps(chain.len() >= 2 || !self.freed(pool), Clause::FreedShort)?;",
+        "keeps(chain.len() >= 2 || self.full(pool), Clause::FreedShort)?;",
+    ),
+    in_audit(
+        "a pool in use may have none on its chain",
+        Some("W-201: rule 8, how"),
+        "keeps(!chain.is_empty() || self.full(pool), Clause::ChainNone)",
+        "Ok(())",
+    ),
+    in_audit(
+        "a full pool has one on its chain",
+        Some("W-201: yes from"),
+        "keeps(!chain.is_empty() || self.full(pool), Clause::ChainNone)",
+        "keeps(!chain.is_empty(), Clause::ChainNone)",
+    ),
+    in_audit("the order is not tested", Some("W-201: rule 9"), "free(two[0]) <= free(two[1])", "true"),
+    in_audit("the order falls", Some("W-201: rule 9"), "free(two[0]) <= free(two[1])", "free(two[0]) >= free(two[1])"),
+    in_audit("the order of the first two alone is tested", None, "row.windows(2).all(", "row.windows(2).take(1).all("),
+];
+
+/// W-201: the other reading of each place that leaves room.
+const AUDIT_READ: &[Slip] = &[
+    in_audit(
+        "the highest number is given",
+        Some("W-201, read: the lowest"),
+        "for (number, rule) in (2..).zip(rules) {",
+        "for (number, rule) in (2..10).zip(rules).collect::<Vec<_>>().into_iter().rev() {",
+    ),
+    slip(
+        "the audit of wrong lengths gives the call's number",
+        Some("W-201, read: rule 1"),
+        "                1
+            }",
+        "                number
+            }",
+    ),
+    slip(
+        "an edition above 1 is rule 2",
+        Some("W-201, read: word 68"),
+        "    fn audit(&mut self, lent: Lent) -> u32 {
+",
+        "    fn audit(&mut self, lent: Lent) -> u32 {
+        if lent.books.len() > EDITION && lent.books[EDITION] > 1 { return 2; }
+",
+    ),
+    in_audit(
+        "the edition is a spare word",
+        Some("W-201, read: word 68"),
+        "for word in EDITION + 1..ARENAS {",
+        "for word in EDITION..ARENAS {",
+    ),
+    in_audit(
+        "a pool not carved is in use by its bit",
+        Some("W-201, read: in use"),
+        "self.carved(pool) && self.set_bits(pool) > 0",
+        "self.set_bits(pool) > 0",
+    ),
+    in_audit(
+        "a set bit is one of a block",
+        Some("W-201, read: a set bit"),
+        "(0..8).map(|word| self.lent.map[8 * pool + word].count_ones() as usize).sum()",
+        "(0..self.blocks(pool)).filter(|k| self.bit(pool, *k)).count()",
+    ),
+    in_audit(
+        "full is told by the count",
+        Some("W-201, read: full"),
+        "self.in_use(pool) && self.set_bits(pool) == self.blocks(pool)",
+        "self.in_use(pool) && self.read(self.pool(pool, COUNT)) == self.blocks(pool)",
+    ),
+    in_audit(
+        "heads 36 to 67 are not tested in sixteen",
+        Some("W-201, read: heads"),
+        "for class in 0..EDITION - CLASSES {",
+        "for class in 0..=self.edition.last_class() {",
+    ),
+    in_audit(
+        "the count of a pool not carved is not tested",
+        Some("W-201, read: each pool"),
+        "keeps(count <= self.set_bits(pool), Clause::CountAbove)?;",
+        "keeps(!self.carved(pool) || count <= self.set_bits(pool), Clause::CountAbove)?;",
+    ),
+    in_audit(
+        "the blocks of a freed pool are not tested",
+        Some("W-201, read: every carved"),
+        "self.blocks_of(pool, class)?;",
+        "if !self.freed(pool) { self.blocks_of(pool, class)?; }",
+    ),
+    in_audit(
+        "the freed chain may lead through what is no block",
+        Some("W-201, read: the chain"),
+        "let k = self.edition.block_at(class, start).ok_or(Clause::ChainNoStart)?;",
+        "if start > POOL - 4 { return Err(Clause::ChainNoStart); }
+            let k = match self.edition.block_at(class, start) {
+                Some(k) => k,
+                None => {
+                    start = self.link_in(pool, start);
+                    if self.edition.block_at(class, start).is_none() && start != 0 { return Err(Clause::ChainNoStart); }
+                    continue;
+                }
+            };",
+    ),
+    in_audit(
+        "an open arena with no pool in use breaks rule 4",
+        Some("W-201, read: an open"),
+        "keeps(free <= not_in_use, Clause::ManyFree)?;",
+        "keeps(free <= not_in_use && free < self.pools, Clause::ManyFree)?;",
+    ),
+    in_audit(
+        "a pool not carved has class 65,535 and no links",
+        Some("W-201, read: a pool not carved"),
+        "keeps(self.read(self.pool(pool, 7)) == 0, Clause::PoolWord7)?;",
+        "keeps(self.read(self.pool(pool, 7)) == 0, Clause::PoolWord7)?;
+             keeps(self.carved(pool) || self.read(self.pool(pool, CLASS)) == NO_CLASS, Clause::PoolWord7)?;",
+    ),
+    in_audit(
+        "as many free pools break the order",
+        Some("W-201, read: rising"),
+        "free(two[0]) <= free(two[1])",
+        "free(two[0]) < free(two[1])",
+    ),
+    in_audit(
+        "a fall to one free pool breaks no order",
+        Some("W-201, read: a list kept"),
+        "free(two[0]) <= free(two[1])",
+        "free(two[0]) <= free(two[1]).max(2)",
     ),
 ];

@@ -1,5 +1,6 @@
 //! Two programs, the same steps: number, value, view's part, the place of what stand-in hands back and every byte and
-//! word of every buffer, a lent phrase too, after every call.
+//! word of every buffer, a lent phrase too, after every call. The audit's promise is held to beside that: once it has
+//! said yes, no call gives 6 and it says yes again.
 
 use std::fmt;
 use std::time::{Duration, Instant};
@@ -7,27 +8,31 @@ use std::time::{Duration, Instant};
 use crate::damage::Source;
 use crate::editions::{self, edition_met, Met};
 use crate::sides::{Seen, SIDES};
-use crate::steps::{in_words, word_name, Buffers, Call, Outcome, Step};
-use crate::{Calls, Path, Rule, Trail};
+use crate::steps::{in_words, lengths, word_name, Buffers, Call, Outcome, Step};
+use crate::{bounds, Calls, Clause, Path, Rule, Trail};
 
-/// The numbers that a call can give; 8 and 9 are the replay's.
-const NUMBERS: [usize; 9] = [0, 1, 2, 3, 4, 5, 6, 7, 10];
+/// The numbers that a call can give; 8 and 9 are rules of the audit, which has no 10.
+const NUMBERS: [usize; 11] = [0, 1, 2, 3, 4, 5, 6, 7, 8, 9, 10];
 
 /// The editions by what word 68 says.
 const EDITIONS: [&str; 2] = ["eight", "sixteen"];
 
-/// In one edition: how often each call gave each number, and each path, rule and side of the split was met.
+/// In one edition: how often each call gave each number, each path, rule and side of the split was met, each clause of
+/// the audit was broken first, and a heap with a yes lay at each of its bounds.
 struct Counts {
-    numbers: [[u64; 11]; Call::KINDS.len()],
+    numbers: [[u64; NUMBERS.len()]; Call::KINDS.len()],
     paths: Vec<u64>,
     rules: Vec<u64>,
     sides: Vec<u64>,
+    clauses: Vec<u64>,
+    bounds: Vec<u64>,
 }
 
 impl Counts {
     fn new() -> Counts {
         let (paths, rules) = (vec![0; Path::ALL.len()], vec![0; Rule::ALL.len()]);
-        Counts { numbers: Default::default(), paths, rules, sides: vec![0; SIDES.len()] }
+        let (clauses, bounds) = (vec![0; Clause::ALL.len()], vec![0; bounds::SIDES.len()]);
+        Counts { numbers: Default::default(), paths, rules, sides: vec![0; SIDES.len()], clauses, bounds }
     }
 
     fn note(&mut self, call: &Call, number: u32, heap: &Buffers, trail: Option<&Trail>) {
@@ -41,6 +46,10 @@ impl Counts {
         if let Some(trail) = trail {
             trail.paths.iter().for_each(|path| self.paths[*path as usize] += 1);
             trail.broken.iter().for_each(|rule| self.rules[*rule as usize] += 1);
+            trail.clause.iter().for_each(|clause| self.clauses[*clause as usize] += 1);
+        }
+        if let (Call::Audit, 0) = (call, number) {
+            self.bounds.iter_mut().zip(bounds::met(heap)).for_each(|(count, met)| *count += u64::from(met));
         }
     }
 
@@ -60,7 +69,10 @@ impl Counts {
         let paths = Path::ALL.iter().zip(&self.paths).map(|(path, n)| (path.words().to_string(), *n));
         let rules = Rule::ALL.iter().zip(&self.rules).map(|(rule, n)| (rule.words().to_string(), *n));
         let sides = SIDES.iter().zip(&self.sides).map(|((words, ..), n)| (words.to_string(), *n));
-        numbers.chain(paths).chain(rules).chain(sides).collect()
+        let audit = |words: &str| format!("audit: {words}");
+        let clauses = Clause::ALL.iter().zip(&self.clauses).map(|(clause, n)| (audit(clause.words()), *n));
+        let bounds = bounds::SIDES.iter().zip(&self.bounds).map(|((words, _), n)| (audit(words), *n));
+        numbers.chain(paths).chain(rules).chain(sides).chain(clauses).chain(bounds).collect()
     }
 }
 
@@ -84,13 +96,22 @@ impl fmt::Display for Counts {
         for ((words, ..), n) in SIDES.iter().zip(&self.sides) {
             writeln!(f, "{n:>10}  {words}")?;
         }
+        writeln!(f, "clauses of the audit, broken and kept:")?;
+        for (clause, n) in Clause::ALL.iter().zip(&self.clauses) {
+            writeln!(f, "{n:>10}  {}", clause.words())?;
+        }
+        for ((words, _), n) in bounds::SIDES.iter().zip(&self.bounds) {
+            writeln!(f, "{n:>10}  {words}")?;
+        }
         Ok(())
     }
 }
 
 /// What a run met: in each edition, and of the sides of W-211's clauses.
 pub struct Tally {
+    /// The calls but for audits, and the audits.
     pub calls: u64,
+    pub audits: u64,
     /// The heaps that were made in each edition.
     pub heaps: [u64; 2],
     /// By whether word 68, or the edition given to a format, is 1: a value above 1 is counted with eight.
@@ -101,12 +122,13 @@ pub struct Tally {
 impl Tally {
     pub fn new() -> Tally {
         let met = [Counts::new(), Counts::new()];
-        Tally { calls: 0, heaps: [0, 0], met, editions: vec![0; editions::SIDES.len()] }
+        Tally { calls: 0, audits: 0, heaps: [0, 0], met, editions: vec![0; editions::SIDES.len()] }
     }
 
     /// A call's outcome, and the heap that it left.
     fn note(&mut self, call: &Call, outcome: &Outcome, heap: &Buffers, trail: Option<&Trail>) {
-        self.calls += 1;
+        let audit = *call == Call::Audit;
+        *if audit { &mut self.audits } else { &mut self.calls } += 1;
         let sixteen = edition_met(call, heap) == 1;
         self.met[usize::from(sixteen)].note(call, outcome.answer.number, heap, trail);
         // view has no number
@@ -159,25 +181,64 @@ struct Side<'a> {
 struct Pair<'a> {
     left: Side<'a>,
     right: Side<'a>,
+    /// Whether the audit has said yes, or must, and only calls have changed the heap since.
+    whole: bool,
+}
+
+/// What a step did on both sides.
+struct Taken {
+    left: Outcome,
+    right: Outcome,
+    /// Whether the right one agrees in everything.
+    same: bool,
+    /// Whether the audit's promise is kept.
+    kept: bool,
 }
 
 impl<'a> Pair<'a> {
     fn new(left: &'a mut dyn Calls, right: &'a mut dyn Calls, arenas: usize, pools: usize) -> Pair<'a> {
         let side = |calls| Side { calls, buffers: Buffers::new(arenas, pools) };
-        Pair { left: side(left), right: side(right) }
+        Pair { left: side(left), right: side(right), whole: false }
     }
 
-    /// The step on both sides: what the left one answers, and whether the right one agrees in everything.
-    fn take(&mut self, step: &Step) -> (Outcome, Outcome, bool) {
+    fn take(&mut self, step: &Step) -> Taken {
         let left = self.left.buffers.take(self.left.calls, step);
         let right = self.right.buffers.take(self.right.calls, step);
         let is_call = matches!(step, Step::Call(_));
         let same = !is_call || (left == right && self.left.buffers == self.right.buffers);
-        (left, right, same)
+        let kept = [left, right].into_iter().all(|outcome| self.keeps_promise(step, outcome.answer.number));
+        self.whole = self.whole_after(step, left.answer.number);
+        Taken { left, right, same, kept }
+    }
+
+    /// Where all of the buffers is lent, or not, for one call.
+    fn exact(&self) -> bool {
+        let [arenas, pools] = self.left.buffers.shape();
+        self.left.buffers.lent() == lengths(arenas, pools)
+    }
+
+    /// After a yes, no call gives 6, and the audit says yes again. It says yes after a format too (demand 2).
+    fn keeps_promise(&self, step: &Step, number: u32) -> bool {
+        match step {
+            Step::Call(Call::Audit) => number == 0 || !self.whole || !self.exact(),
+            Step::Call(_) => number != 6 || !self.whole,
+            _ => true,
+        }
+    }
+
+    /// Whether the heap is one that the audit has to say yes to after this step.
+    fn whole_after(&self, step: &Step, number: u32) -> bool {
+        match step {
+            Step::Call(Call::Audit) if self.exact() => number == 0,
+            Step::Call(Call::Format { .. }) => self.whole || number == 0,
+            Step::Call(_) | Step::Lend(_) => self.whole,
+            Step::Whole { .. } => true,
+            _ => false,
+        }
     }
 }
 
-/// Where two programs part, with a sequence of steps from zeroed buffers that shows it.
+/// Where two programs part, or break the audit's promise, with a sequence of steps from zeroed buffers that shows it.
 pub struct Difference {
     pub seed: u64,
     /// Which call of the whole run it was.
@@ -187,36 +248,65 @@ pub struct Difference {
     pub steps: Vec<Step>,
 }
 
-/// Runs the same sequences, at least this many calls, through both programs, until they differ.
-pub fn compare(
-    left: &mut dyn Calls,
-    right: &mut dyn Calls,
-    seed: u64,
-    calls: u64,
-    tally: &mut Tally,
-) -> Result<(), Difference> {
-    let end = tally.calls + calls;
-    let mut seed = seed;
-    let mut steps = Vec::new();
-    while tally.calls < end {
-        let mut source = Source::new(seed);
-        let (arenas, pools, edition) = (source.arenas, source.pools, source.edition);
-        let mut pair = Pair::new(left, right, arenas, pools);
-        steps.clear();
-        while let Some(step) = source.next(&pair.left.buffers) {
-            steps.push(step);
-            let (outcome, _, same) = pair.take(&step);
-            if let Step::Call(call) = step {
-                tally.note(&call, &outcome, &pair.left.buffers, pair.left.calls.trail());
-                source.learn(&call, outcome.answer);
-            }
-            if !same {
-                return Err(Difference { seed, call: tally.calls, arenas, pools, steps });
-            }
+/// Which sequences are run.
+#[derive(Clone, Copy, PartialEq, Eq)]
+pub enum Of {
+    /// Those of the calls, without audits.
+    Calls,
+    /// The audit's own, on heaps that are made up whole.
+    Audits,
+    /// Both, with audits between the calls.
+    All,
+}
+
+/// A run: the seed of its first heaps, at least how many calls, and of what.
+#[derive(Clone, Copy)]
+pub struct Run {
+    pub seed: u64,
+    pub calls: u64,
+    pub of: Of,
+}
+
+impl Run {
+    fn sources(&self, seed: u64) -> Vec<Source> {
+        match self.of {
+            Of::Calls => vec![Source::new(seed, false)],
+            Of::Audits => vec![Source::whole(seed)],
+            Of::All => vec![Source::new(seed, true), Source::whole(seed)],
         }
-        tally.heaps[edition] += 1;
+    }
+}
+
+/// Runs the same sequences through both programs, until they differ or break the audit's promise.
+pub fn compare(left: &mut dyn Calls, right: &mut dyn Calls, wanted: Run, tally: &mut Tally) -> Result<(), Difference> {
+    let end = tally.calls + wanted.calls;
+    let mut seed = wanted.seed;
+    while tally.calls < end {
+        for source in wanted.sources(seed) {
+            run(left, right, source, tally).map_err(|difference| Difference { seed, ..difference })?;
+        }
         seed = seed.wrapping_add(1);
     }
+    Ok(())
+}
+
+/// One sequence through both programs.
+fn run(left: &mut dyn Calls, right: &mut dyn Calls, mut source: Source, tally: &mut Tally) -> Result<(), Difference> {
+    let (arenas, pools, edition) = (source.arenas, source.pools, source.edition);
+    let mut pair = Pair::new(left, right, arenas, pools);
+    let mut steps = Vec::new();
+    while let Some(step) = source.next(&pair.left.buffers) {
+        steps.push(step);
+        let taken = pair.take(&step);
+        if let Step::Call(call) = step {
+            tally.note(&call, &taken.left, &pair.left.buffers, pair.left.calls.trail());
+            source.learn(&call, taken.left.answer);
+        }
+        if !(taken.same && taken.kept) {
+            return Err(Difference { seed: 0, call: tally.calls, arenas, pools, steps });
+        }
+    }
+    tally.heaps[edition] += 1;
     Ok(())
 }
 
@@ -227,7 +317,7 @@ impl Difference {
     /// The place of the first step after which the sides differ, if they do.
     fn replay(&self, left: &mut dyn Calls, right: &mut dyn Calls, steps: &[Step]) -> Option<usize> {
         let mut pair = Pair::new(left, right, self.arenas, self.pools);
-        steps.iter().position(|step| !pair.take(step).2)
+        steps.iter().map(|step| pair.take(step)).position(|taken| !(taken.same && taken.kept))
     }
 
     /// Drops steps, many at a time and then one by one, while a difference remains.
@@ -259,7 +349,7 @@ impl Difference {
         let mut pair = Pair::new(left, right, self.arenas, self.pools);
         let mut lines = vec![format!("A = {}, P = {}, from zeroed buffers:", self.arenas, self.pools)];
         for (i, step) in self.steps.iter().enumerate() {
-            let (left, right, same) = pair.take(step);
+            let Taken { left, right, same, kept } = pair.take(step);
             let words = in_words(step, self.arenas);
             match step {
                 Step::Call(_) if same => lines.push(format!("{:>4}. {words}: {}", i + 1, said(step, &left))),
@@ -269,6 +359,9 @@ impl Difference {
                     lines.push(format!("      the other: {}", said(step, &right)));
                 }
                 _ => lines.push(format!("{:>4}. {words}", i + 1)),
+            }
+            if !kept {
+                lines.push("      the heap is whole here, so no call gives 6 and the audit says yes".to_string());
             }
         }
         lines.extend(pair.differing(self.arenas));

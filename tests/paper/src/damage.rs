@@ -1,10 +1,12 @@
 //! Seeded sequences of steps: heaps reached by calls, heaps that are spoilt on the way, and heaps made up at random, of
-//! one edition or the other, with pools of few classes or with most pools of a class of their own.
+//! one edition or the other, with pools of few classes or with most pools of a class of their own. The audit goes along
+//! with them, and has sequences of its own on heaps that are made up whole.
 
 use std::collections::VecDeque;
 
+use crate::look::Look;
 use crate::steps::{lengths, within, Buffers, Call, Phrase, Step};
-use crate::Answer;
+use crate::{spoils, whole, Answer};
 
 /// A small generator of numbers (splitmix64): the same seed gives the same numbers.
 pub struct Rng(u64);
@@ -35,6 +37,10 @@ impl Rng {
 
     pub fn pick<T: Copy>(&mut self, from: &[T]) -> T {
         from[self.below(from.len())]
+    }
+
+    pub fn shuffle<T>(&mut self, row: &mut [T]) {
+        (1..row.len()).rev().for_each(|n| row.swap(n, self.below(n + 1)));
     }
 
     /// A link that a freed block could hold: often 0, or a block start of one of a few sizes.
@@ -73,7 +79,12 @@ enum Kind {
     Spoilt,
     /// Made up at random, from values small enough that paths are really taken.
     MadeUp,
+    /// Made up at random so that the audit says yes; calls and ways to spoil it take turns.
+    Whole,
 }
+
+/// In the sequences that are not the audit's own it comes after each so many calls.
+const AUDIT_EVERY: usize = 4;
 
 /// The steps on one heap. They depend on its seed and on what the calls before them left.
 pub struct Source {
@@ -99,10 +110,17 @@ pub struct Source {
     waiting: VecDeque<Step>,
     /// What was spoilt as it was, each with the number of calls left at which it is mended.
     mends: Vec<(usize, Step)>,
+    /// What was spoilt as it was, to be mended unless the next audit says yes.
+    unless_whole: Option<Step>,
+    /// How many calls were made, but for audits.
+    made: usize,
+    /// Whether the audit goes along.
+    audited: bool,
 }
 
 impl Source {
-    pub fn new(seed: u64) -> Source {
+    /// The steps of calls, with or without audits between them.
+    pub fn new(seed: u64, audited: bool) -> Source {
         let mut rng = Rng::new(seed);
         let large = rng.one_in(100);
         let kind = match rng.below(16) {
@@ -111,13 +129,25 @@ impl Source {
             _ => Kind::MadeUp,
         };
         let apart = kind != Kind::MadeUp && !large && rng.one_in(4);
+        Source { audited, ..Source::of(rng, kind, large, apart) }
+    }
+
+    /// The audit's own steps, on a heap that is made up whole.
+    pub fn whole(seed: u64) -> Source {
+        let mut rng = Rng::new(!seed);
+        let large = rng.one_in(200);
+        let apart = !large && rng.one_in(3);
+        Source::of(rng, Kind::Whole, large, apart)
+    }
+
+    fn of(mut rng: Rng, kind: Kind, large: bool, apart: bool) -> Source {
         let (arenas, pools) = shape(&mut rng, large, apart);
         let calls_left = how_many_calls(&mut rng, kind, large);
         let edition = rng.below(2);
         let alignment = 8 + 8 * edition;
         let sizes = if apart { each_size(2 * arenas * pools, alignment) } else { sizes(&mut rng, kind, alignment) };
         let (held, gone, rise, stuck) = (Vec::new(), VecDeque::new(), 80, 0);
-        let (waiting, mends) = (VecDeque::new(), Vec::new());
+        let (waiting, mends, unless_whole, made) = (VecDeque::new(), Vec::new(), None, 0);
         let mut source = Source {
             rng,
             kind,
@@ -133,6 +163,9 @@ impl Source {
             stuck,
             waiting,
             mends,
+            unless_whole,
+            made,
+            audited: true,
         };
         source.begin();
         source
@@ -142,9 +175,21 @@ impl Source {
     pub fn next(&mut self, heap: &Buffers) -> Option<Step> {
         if self.waiting.is_empty() {
             self.calls_left = self.calls_left.checked_sub(1)?;
-            self.prepare(heap);
+            if self.kind == Kind::Whole {
+                self.prepare_whole(heap);
+            } else {
+                self.prepare(heap);
+            }
         }
-        self.waiting.pop_front()
+        let step = self.waiting.pop_front();
+        if self.kind != Kind::Whole && matches!(step, Some(Step::Call(call)) if call != Call::Audit) {
+            self.made += 1;
+            // it draws no number, so the sequences are what they would be without it
+            if self.audited && self.made % AUDIT_EVERY == 0 {
+                self.waiting.push_front(Step::Call(Call::Audit));
+            }
+        }
+        step
     }
 
     /// What the next steps can know from an answer.
@@ -170,6 +215,10 @@ impl Source {
                 self.held.clear();
                 self.edition = *edition;
             }
+            (Call::Audit, number) => {
+                let mend = self.unless_whole.take();
+                mend.filter(|_| number != 0).into_iter().for_each(|mend| self.waiting.push_front(mend));
+            }
             _ => {}
         }
     }
@@ -187,10 +236,43 @@ impl Source {
             self.make_up();
             return;
         }
+        if self.kind == Kind::Whole {
+            self.waiting.push_back(Step::Whole { edition: self.edition, seed });
+            self.sizes = whole::sizes(self.edition, seed);
+            return;
+        }
         // format must write every word, whatever stood there
         self.waiting.push_back(if self.rng.one_in(2) { Step::Noise(seed) } else { Step::Links(seed) });
         let (arenas, pools, edition) = (self.arenas, self.pools, self.edition);
         self.waiting.push_back(Step::Call(Call::Format { arenas, pools, edition }));
+    }
+
+    /// One clause is spoilt, audited and mended; or anything at all is, and stays where the audit says yes all the
+    /// same; or calls are made, with an audit before and after each.
+    fn prepare_whole(&mut self, heap: &Buffers) {
+        const AUDIT: Step = Step::Call(Call::Audit);
+        if self.held.is_empty() {
+            self.held = whole::held(heap);
+        }
+        match self.rng.below(8) {
+            0..=4 => {
+                let (number, steps) = spoils::any(&mut self.rng, &Look::new(heap));
+                let mends = if number == 0 { Vec::new() } else { spoils::mends(heap, &steps) };
+                self.waiting.extend(steps.into_iter().chain([AUDIT]).chain(mends));
+            }
+            5 => {
+                let (spoilt, mend) = self.spoiling(heap);
+                self.waiting.extend([spoilt, AUDIT]);
+                self.unless_whole = Some(mend);
+            }
+            _ => {
+                self.waiting.push_back(AUDIT);
+                for _ in 0..self.rng.between(1, 4) {
+                    let call = self.call(heap, lengths(self.arenas, self.pools)[0]);
+                    self.waiting.extend([Step::Call(call), AUDIT]);
+                }
+            }
+        }
     }
 
     fn prepare(&mut self, heap: &Buffers) {
@@ -260,6 +342,7 @@ fn how_many_calls(rng: &mut Rng, kind: Kind, large: bool) -> usize {
         Kind::Sound => rng.between(100, 1600),
         Kind::Spoilt => rng.between(40, 400),
         Kind::MadeUp => rng.between(8, 64),
+        Kind::Whole => rng.between(10, 40),
     }
 }
 
@@ -484,13 +567,7 @@ impl Source {
 impl Source {
     /// One word, link or bit is spoilt, or a word of the map, and will mostly be mended after a few calls.
     fn spoil(&mut self, heap: &Buffers) {
-        let (spoilt, mend) = match self.rng.below(20) {
-            _ if self.apart && self.rng.one_in(2) => self.spoil_order(heap),
-            0..=3 => self.spoil_link(heap),
-            4..=6 => self.spoil_bit(heap),
-            7 => self.spoil_bits(heap),
-            _ => self.spoil_word(heap),
-        };
+        let (spoilt, mend) = self.spoiling(heap);
         self.waiting.push_back(spoilt);
         // a heap with a wrong A, P or edition takes no step, so it isn't left so for long; a stand-in has its answer
         // there too
@@ -504,6 +581,17 @@ impl Source {
             let last = if shape { 2 } else { 12 };
             let until = self.calls_left.saturating_sub(self.rng.between(1, last));
             self.mends.push((until, mend));
+        }
+    }
+
+    /// A step that spoils something, and the one that mends it.
+    fn spoiling(&mut self, heap: &Buffers) -> (Step, Step) {
+        match self.rng.below(20) {
+            _ if self.apart && self.rng.one_in(2) => self.spoil_order(heap),
+            0..=3 => self.spoil_link(heap),
+            4..=6 => self.spoil_bit(heap),
+            7 => self.spoil_bits(heap),
+            _ => self.spoil_word(heap),
         }
     }
 
@@ -681,7 +769,7 @@ impl Source {
     /// it has and point back to the one before.
     fn row_of_followers(&mut self, arena: usize, free: u32) -> Vec<(usize, u32)> {
         let mut row: Vec<usize> = (0..self.arenas).filter(|other| *other != arena).collect();
-        (1..row.len()).rev().for_each(|n| row.swap(n, self.rng.below(n + 1)));
+        self.rng.shuffle(&mut row);
         let length = if self.rng.one_in(2) { row.len().min(self.rng.below(3)) } else { self.rng.below(row.len() + 1) };
         let mut words = vec![(self.arena_word(arena, 5), self.previous_of_moved(arena, &row))];
         let mut from = arena;

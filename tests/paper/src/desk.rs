@@ -19,6 +19,14 @@ pub fn head_in_sixteen(size: usize) -> usize {
     3 + size / 16
 }
 
+/// Both editions, as format is told them.
+pub const EDITIONS: [usize; 2] = [0, 1];
+
+/// What an edition aligns to.
+pub fn alignment(edition: usize) -> usize {
+    8 + 8 * edition
+}
+
 /// Words of an arena's record.
 pub const OPEN: usize = 0;
 pub const CARVE_MARK: usize = 1;
@@ -53,10 +61,24 @@ impl<'a> Desk<'a> {
         Desk::formatted(calls, arenas, pools, 1)
     }
 
-    fn formatted(calls: &'a mut dyn Calls, arenas: usize, pools: usize, edition: usize) -> Desk<'a> {
+    pub fn formatted(calls: &'a mut dyn Calls, arenas: usize, pools: usize, edition: usize) -> Desk<'a> {
         let mut desk = Desk { calls, heap: Buffers::new(arenas, pools), arenas };
         desk.done(Call::Format { arenas, pools, edition }, 0);
         desk
+    }
+
+    /// A heap that is made up whole, of this edition.
+    pub fn whole(calls: &'a mut dyn Calls, arenas: usize, pools: usize, edition: usize, seed: u64) -> Desk<'a> {
+        let mut heap = Buffers::new(arenas, pools);
+        heap.whole(edition, seed);
+        Desk { calls, heap, arenas }
+    }
+
+    /// What a stranger does to the buffers.
+    pub fn strange(&mut self, steps: &[Step]) {
+        steps.iter().for_each(|step| {
+            self.heap.take(self.calls, step);
+        });
     }
 
     pub fn answer(&mut self, call: Call) -> Answer {
@@ -73,6 +95,13 @@ impl<'a> Desk<'a> {
         let before = self.heap.clone();
         assert_eq!(self.answer(call), Answer { number, value: 0 }, "{call}");
         self.unchanged(&before, call);
+    }
+
+    /// The audit says this, 0 for yes or the first broken rule, and changes nothing.
+    pub fn audited(&mut self, number: u32) {
+        let before = self.heap.clone();
+        assert_eq!(self.answer(Call::Audit), Answer { number, value: 0 }, "audit");
+        self.unchanged(&before, Call::Audit);
     }
 
     fn unchanged(&self, before: &Buffers, call: Call) {

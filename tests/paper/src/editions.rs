@@ -46,9 +46,19 @@ impl<'a> Met<'a> {
         matches!(self.call, Call::Format { .. }) && self.answer.number == number
     }
 
-    /// Another call that gives this number, where the books have two words at least.
+    /// Another call that gives this number, where the books have two words at least. The audit's numbers are rules.
     fn other(&self, number: u32) -> bool {
-        !matches!(self.call, Call::Format { .. }) && self.answer.number == number && self.books >= 2
+        !matches!(self.call, Call::Format { .. } | Call::Audit) && self.answer.number == number && self.books >= 2
+    }
+
+    /// An audit that gives this number.
+    fn audit(&self, number: u32) -> bool {
+        self.call == Call::Audit && self.answer.number == number
+    }
+
+    /// Whether a head of no class is not 0 in sixteen.
+    fn late_head(&self) -> bool {
+        self.edition == 1 && self.heap.books[36..68].iter().any(|head| *head != 0)
     }
 
     fn known(&self) -> bool {
@@ -184,9 +194,7 @@ pub const SIDES: &[Side] = &[
     ("ask in sixteen: count becomes 253", |met| met.count(false) == 253),
     ("ask in sixteen: count becomes 254 to 505", |met| (254..=505).contains(&met.count(false))),
     ("ask in sixteen: count becomes 506", |met| met.count(false) == 506),
-    ("ask in sixteen: a head from 36 to 67 is not 0", |met| {
-        met.asked().is_some() && met.heap.books[36..68].iter().any(|head| *head != 0)
-    }),
+    ("ask in sixteen: a head from 36 to 67 is not 0", |met| met.asked().is_some() && met.late_head()),
     ("give back in sixteen: count was 254 to 505", |met| (253..=504).contains(&met.count(true))),
     ("give back in sixteen: count was 506", |met| met.count(true) == 505),
     ("resize in sixteen: kept at its least size", |met| {
@@ -200,4 +208,9 @@ pub const SIDES: &[Side] = &[
     }),
     ("5 in sixteen: class 32, its first bit set", |met| met.first_of_class(32..=32)),
     ("5 in sixteen: class 33 to 63, its first bit set", |met| met.first_of_class(33..=63)),
+    // the audit's
+    ("audit, 1: word 68 above 1, lengths exact", |met| met.audit(1) && met.in_range && !met.known() && met.exact),
+    ("audit, 1: books that end at word 67", |met| met.audit(1) && met.in_range && met.books == EDITION),
+    ("audit, 0: word 68 is 1", |met| met.audit(0) && met.edition == 1),
+    ("audit, 6: a head from 36 to 67 is not 0 in sixteen", |met| met.audit(6) && met.late_head()),
 ];

@@ -1,6 +1,8 @@
-//! 01, and W-203, W-206, W-211 and W-214 of 02, read a second time: the calls as a trait, one program that keeps them,
-//! and what tells any other program from it.
+//! 01, and W-201, W-203, W-206, W-211 and W-214 of 02, read a second time: the calls as a trait, one program that keeps
+//! them, and what tells any other program from it.
 
+pub mod audited;
+pub mod bounds;
 pub mod cases;
 pub mod compare;
 pub mod damage;
@@ -8,16 +10,19 @@ pub mod desk;
 pub mod editions;
 #[cfg(feature = "library")]
 pub mod library;
+pub mod look;
 pub mod order;
 pub mod paper;
 pub mod readings;
 pub mod sides;
 pub mod sixteen;
+pub mod spoils;
 pub mod steps;
 pub mod trail;
+pub mod whole;
 
 pub use paper::Paper;
-pub use trail::{Path, Rule, Trail};
+pub use trail::{Clause, Path, Rule, Trail};
 
 /// What a call answers: its number, and the offset, size or count that goes with it.
 #[derive(Clone, Copy, Debug, Default, PartialEq, Eq)]
@@ -61,7 +66,7 @@ pub enum Place {
     Elsewhere,
 }
 
-/// 01's seven calls, view's companion and 02's stand-in, over buffers of any length and with any contents.
+/// 01's seven calls, view's companion and 02's stand-in and audit, over buffers of any length and with any contents.
 pub trait Calls {
     /// The edition is 0 for eight and 1 for sixteen.
     fn format(&mut self, lent: Lent, arenas: usize, pools: usize, edition: usize) -> Answer;
@@ -75,8 +80,10 @@ pub trait Calls {
     fn stand_in(&mut self, lent: Lent, offset: usize, phrase: LentPhrase) -> Place;
     fn write(&mut self, lent: Lent, offset: usize, text: &[u8]) -> Answer;
     fn roll_call(&mut self, lent: Lent, roll: &mut [u32]) -> Answer;
+    /// 0 for yes, or the number of the first broken rule.
+    fn audit(&mut self, lent: Lent) -> u32;
 
-    /// The paths and the broken rule of the last call, from a program that notes them.
+    /// The paths, broken rule and clause of the last call, from a program that notes them.
     fn trail(&self) -> Option<&Trail> {
         None
     }

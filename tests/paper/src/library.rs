@@ -71,4 +71,8 @@ impl Calls for Library {
     fn roll_call(&mut self, lent: Lent, roll: &mut [u32]) -> Answer {
         calls::roll_call(lent.memory, lent.books, lent.map, roll).into()
     }
+
+    fn audit(&mut self, lent: Lent) -> u32 {
+        calls::audit(lent.memory, lent.books, lent.map)
+    }
 }

@@ -43,24 +43,9 @@ pub const READINGS: &[Case] = &[
     ("W-203, read: own links first", own_links_first),
 ];
 
-const EDITIONS: [usize; 2] = [0, 1];
-
-/// What an edition aligns to.
-fn alignment(edition: usize) -> usize {
-    8 + 8 * edition
-}
-
-fn fresh(calls: &mut dyn Calls, edition: usize, arenas: usize, pools: usize) -> Desk<'_> {
-    if edition == 0 {
-        Desk::fresh(calls, arenas, pools)
-    } else {
-        Desk::sixteen(calls, arenas, pools)
-    }
-}
-
 /// A heap whose first pools, this many, each hold one block, of a class of its own.
 fn with_pools(calls: &mut dyn Calls, edition: usize, [arenas, pools]: [usize; 2], taken: usize) -> Desk<'_> {
-    let mut desk = fresh(calls, edition, arenas, pools);
+    let mut desk = Desk::formatted(calls, arenas, pools, edition);
     for pool in 0..taken {
         desk.done(Ask { size: alignment(edition) * (pool + 1) }, first_of(pool) as u32);
     }
@@ -240,7 +225,7 @@ fn all_others(calls: &mut dyn Calls) {
 fn always_rising(calls: &mut dyn Calls) {
     for edition in EDITIONS {
         let mut rng = Rng::new(203);
-        let mut desk = fresh(calls, edition, 6, 4);
+        let mut desk = Desk::formatted(calls, 6, 4, edition);
         let mut held = Vec::new();
         for _ in 0..2000 {
             if held.is_empty() || rng.one_in(2) {

@@ -1,11 +1,14 @@
 //! 01 as a program: its calls over lent buffers, in its order and its words, on any lengths and any contents. The split
 //! of 5 that W-206 of 02 makes stands at the live test, the two editions of W-211 where 01 says classes and blocks, the
-//! call of W-214 beside view, and the order of the usable arenas of W-203 where a give-back frees a pool.
+//! call of W-214 beside view, the order of the usable arenas of W-203 where a give-back frees a pool, and the audit of
+//! W-201 in a file of its own.
 //!
 //! A step writes as it goes, in the order that 01 gives, and notes what stood there before. Where a used word breaks
 //! its rule, the notes are walked back and the answer is 6. So 01 can be laid beside this file sentence by sentence.
 
-use super::{Answer, Calls, Lent, LentPhrase, Path, Place, Rule, Trail};
+use super::{Answer, Calls, Clause, Lent, LentPhrase, Path, Place, Rule, Trail};
+
+mod audit;
 
 // Memory, books, map
 
@@ -694,7 +697,7 @@ impl Heap<'_> {
 
 // Numbers a call can return
 
-/// 01's calls and 02's stand-in, over whatever is lent.
+/// 01's calls, 02's stand-in and 02's audit, over whatever is lent.
 #[derive(Default)]
 pub struct Paper {
     notes: Vec<Was>,
@@ -796,6 +799,17 @@ impl Calls for Paper {
 
     fn roll_call(&mut self, lent: Lent, roll: &mut [u32]) -> Answer {
         answer(self.heap(lent).and_then(|heap| heap.roll_call(roll)))
+    }
+
+    /// **Audit** (W-201). Rule 1 is that there is no 1 or 2; the audit is never refused.
+    fn audit(&mut self, lent: Lent) -> u32 {
+        match self.heap(lent) {
+            Ok(mut heap) => heap.audit(),
+            Err(Answer { number, .. }) => {
+                self.trail.clause = Some(if number == 1 { Clause::RangeOrEdition } else { Clause::Lengths });
+                1
+            }
+        }
     }
 
     fn trail(&self) -> Option<&Trail> {

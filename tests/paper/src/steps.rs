@@ -17,6 +17,7 @@ pub enum Call {
     Write { offset: usize, length: usize, first: u8 },
     RollCall { words: usize },
     StandIn { offset: usize, phrase: Phrase },
+    Audit,
 }
 
 /// A phrase to lend. Only a part of memory has no buffer of its own.
@@ -35,8 +36,9 @@ const VIEW: &[usize] = &[0, 1, 2, 5, 10];
 
 impl Call {
     /// The kinds of calls, each with the numbers that it can give. View gives none, its companion gives view's.
-    /// Stand-in gives none either, but goes by view's, and is a kind of its own with each kind of phrase.
-    pub const KINDS: [(&'static str, &'static [usize]); 14] = [
+    /// Stand-in gives none either, but goes by view's, and is a kind of its own with each kind of phrase. The audit's
+    /// are its rules.
+    pub const KINDS: [(&'static str, &'static [usize]); 15] = [
         ("format", &[0, 1, 2]),
         ("ask", &[0, 1, 2, 3, 4, 6]),
         ("give back", &[0, 1, 2, 5, 6, 10]),
@@ -51,6 +53,7 @@ impl Call {
         ("stand-in: an empty part of memory", VIEW),
         ("stand-in: memory over the offset", VIEW),
         ("stand-in: other memory", VIEW),
+        ("audit", &[0, 1, 2, 3, 4, 5, 6, 7, 8, 9]),
     ];
 
     /// Which of the kinds it is.
@@ -72,6 +75,7 @@ impl Call {
                 Phrase::Part(start, length) if (start..start + length).contains(&offset) => 12,
                 Phrase::Part(..) => 13,
             },
+            Call::Audit => 14,
         }
     }
 
@@ -84,7 +88,7 @@ impl Call {
             | Call::ViewSize { offset }
             | Call::Write { offset, .. }
             | Call::StandIn { offset, .. } => Some(offset),
-            Call::Format { .. } | Call::Ask { .. } | Call::RollCall { .. } => None,
+            Call::Format { .. } | Call::Ask { .. } | Call::RollCall { .. } | Call::Audit => None,
         }
     }
 }
@@ -103,6 +107,11 @@ pub enum Step {
     Noise(u64),
     /// Memory is filled with in-pool offsets, so that links lead somewhere.
     Links(u64),
+    /// All three buffers become a whole heap of this edition, which the audit says yes to.
+    Whole {
+        edition: usize,
+        seed: u64,
+    },
     /// How many elements of memory, books and map are lent.
     Lend([usize; 3]),
 }
@@ -127,6 +136,8 @@ pub struct Buffers {
     pub map: Vec<u64>,
     pub roll: Vec<u32>,
     pub phrase: Vec<u8>,
+    /// The A and P that they were made for.
+    shape: [usize; 2],
     lent: [usize; 3],
 }
 
@@ -144,7 +155,12 @@ impl Buffers {
         let lent = lengths(arenas, pools);
         let [memory, books, map] = lent.map(|length| length + 1);
         let (memory, books, map) = (vec![0; memory], vec![0; books], vec![0; map]);
-        Buffers { memory, books, map, roll: Vec::new(), phrase: Vec::new(), lent }
+        Buffers { memory, books, map, roll: Vec::new(), phrase: Vec::new(), shape: [arenas, pools], lent }
+    }
+
+    /// The A and P that they were made for.
+    pub fn shape(&self) -> [usize; 2] {
+        self.shape
     }
 
     /// How many elements of memory, books and map are lent.
@@ -166,6 +182,7 @@ impl Buffers {
             Step::Link(at, link) => self.memory[at..at + 4].copy_from_slice(&link.to_le_bytes()),
             Step::Noise(seed) => self.noise(seed),
             Step::Links(seed) => self.links(seed),
+            Step::Whole { edition, seed } => self.whole(edition, seed),
             Step::Lend(lent) => self.lent = lent,
         }
         Outcome::default()
@@ -190,6 +207,7 @@ impl Buffers {
                 answer
             }
             Call::StandIn { offset, phrase } => return self.stand_in(calls, offset, phrase),
+            Call::Audit => Answer { number: calls.audit(self.lend()), value: 0 },
         };
         Outcome { answer, ..Outcome::default() }
     }
@@ -230,7 +248,7 @@ impl Buffers {
         self.map.iter_mut().for_each(|word| *word = rng.draw());
     }
 
-    fn links(&mut self, seed: u64) {
+    pub fn links(&mut self, seed: u64) {
         let mut rng = Rng::new(seed);
         for block in self.memory.chunks_exact_mut(8) {
             block[..4].copy_from_slice(&rng.link().to_le_bytes());
@@ -277,6 +295,7 @@ impl fmt::Display for Call {
             }
             Call::RollCall { words } => write!(f, "roll call with {words} words"),
             Call::StandIn { offset, phrase } => write!(f, "stand-in for {offset}, lent {phrase}"),
+            Call::Audit => write!(f, "audit"),
         }
     }
 }
@@ -311,6 +330,7 @@ pub fn in_words(step: &Step, arenas: usize) -> String {
         Step::Link(at, link) => format!("bytes {at} to {} of memory become the link {link}", at + 3),
         Step::Noise(seed) => format!("all buffers are filled with noise {seed:#x}"),
         Step::Links(seed) => format!("memory is filled with links {seed:#x}"),
+        Step::Whole { edition, seed } => format!("a whole heap of edition {edition} is made up from {seed:#x}"),
         Step::Lend([memory, books, map]) => {
             format!("lent from here: {memory} bytes of memory, {books} words of books, {map} words of map")
         }

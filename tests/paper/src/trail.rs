@@ -1,4 +1,5 @@
-//! The paths of the steps and the rules of number 6, by name, so that a run can say which of them it reached.
+//! The paths of the steps, the rules of number 6 and the clauses of the audit's rules, by name, so that a run can say
+//! which of them it reached.
 
 /// An enum whose cases can be listed and said in words.
 macro_rules! named {
@@ -107,16 +108,81 @@ named! {
     }
 }
 
-/// What the last call met: the paths that stand, and the rule that was broken.
+named! {
+    /// A clause of the audit's rules (W-201), by what is wrong there: the first one that a broken rule was seen at.
+    Clause {
+        RangeOrEdition = "1: A, P or word 68 out of range",
+        Lengths = "1: a lent length not exact",
+        OpenAbove = "2: open above 1",
+        ArenaWord6 = "2: an arena record's last but one not 0",
+        ArenaWord7 = "2: an arena record's last not 0",
+        SpareWord = "2: a word from 69 to 71 not 0",
+        PoolWord7 = "2: a pool record's last not 0",
+        ClosedMark = "3: a closed arena's carve mark not 0",
+        ClosedFree = "3: a closed arena's free pools not 0",
+        ClosedHead = "3: a closed arena's freed-pool head not 0",
+        MarkNone = "4: carve mark 0",
+        MarkAbove = "4: carve mark above P",
+        FewFree = "4: free pools fewer than the pools not in use",
+        ManyFree = "4: free pools more than the pools not in use",
+        BitNotCarved = "5: a set bit in a pool not carved",
+        BitNoClass = "5: a set bit in a pool of a class without blocks",
+        BitNoBlock = "5: a set bit past the last block",
+        FreedNoRecord = "6: freed-pool list: a link above A x P",
+        FreedNoEnd = "6: freed-pool list: a walk without an end",
+        FreedMissing = "6: freed-pool list: a freed pool is missing",
+        FreedStranger = "6: freed-pool list: another pool is on it",
+        FreedPrevious = "6: freed-pool list: a previous that is not 0",
+        UsableNoRecord = "6: usable list: a link above A",
+        UsableNoEnd = "6: usable list: a walk without an end",
+        UsableMissing = "6: usable list: an open arena with free pools is missing",
+        UsableStranger = "6: usable list: another arena is on it",
+        UsablePrevious = "6: usable list: a previous that is not the one before",
+        UnusedNoRecord = "6: unused list: a link above A",
+        UnusedNoEnd = "6: unused list: a walk without an end",
+        UnusedMissing = "6: unused list: a closed arena is missing",
+        UnusedStranger = "6: unused list: another arena is on it",
+        UnusedPrevious = "6: unused list: a previous that is not the one before",
+        ClassNoRecord = "6: class list: a link above A x P",
+        ClassNoEnd = "6: class list: a walk without an end",
+        ClassMissing = "6: class list: a pool with live and spare blocks is missing",
+        ClassStranger = "6: class list: another pool is on it",
+        ClassPrevious = "6: class list: a previous that is not the one before",
+        FullNext = "6: a full pool's next not 0",
+        FullPrevious = "6: a full pool's previous not 0",
+        SpentNext = "6: the next of an open arena without free pools not 0",
+        SpentPrevious = "6: the previous of an open arena without free pools not 0",
+        CountBelow = "7: count below the set bits",
+        CountAbove = "7: count above the set bits",
+        FreedClass = "8: a freed pool of a class without blocks",
+        NoClassRecord = "8: a freed pool of class 65,535 with another word not 0",
+        Maximum = "8: maxnextoffset not 4,096 - size",
+        Nextoffset = "8: nextoffset neither a block start nor the last block's end",
+        ChainNoStart = "8: the freed chain leads to no block start",
+        ChainNoEnd = "8: the freed chain has no end",
+        InNone = "8: a block neither live, freed nor virgin",
+        LiveAndFreed = "8: a block live and on the freed chain",
+        LiveAndVirgin = "8: a block live and virgin",
+        FreedAndVirgin = "8: a block on the freed chain and virgin",
+        FreedShort = "8: a freed pool with fewer than two on its chain",
+        ChainNone = "8: a pool that is not full with none on its chain",
+        Order = "9: the usable list falls",
+    }
+}
+
+/// What the last call met: the paths that stand, the rule that was broken, and the clause of the audit's first broken
+/// rule.
 #[derive(Default)]
 pub struct Trail {
     pub paths: Vec<Path>,
     pub broken: Option<Rule>,
+    pub clause: Option<Clause>,
 }
 
 impl Trail {
     pub fn clear(&mut self) {
         self.paths.clear();
         self.broken = None;
+        self.clause = None;
     }
 }

@@ -3,32 +3,33 @@
 use std::process::ExitCode;
 use std::time::Instant;
 
-use heskavern_paper::compare::{compare, Tally};
+use heskavern_paper::compare::{compare, Of, Run, Tally};
 use heskavern_paper::{Calls, Paper};
 
 const USAGE: &str = "usage: compare [--seed N] [--calls N] [--coverage [--least N]]
   --seed N      the seed of the first heap (1); a difference names the seed of its heap
-  --calls N     at least this many calls (3000000)
-  --coverage    make the calls of the paper alone and print how often each number, path, rule and side was met
-  --least N     with --coverage: fail where a number that a call can give, a path, rule or side was met less often (0)";
+  --calls N     at least this many calls, audits not counted (3000000)
+  --coverage    make the calls of the paper alone and print how often each number, path, rule, side and clause was met
+  --least N     with --coverage: fail where a number that a call can give, a path, rule, side or clause was met less
+                often (0)";
 
 struct Wanted {
-    seed: u64,
-    calls: u64,
+    run: Run,
     coverage: bool,
     least: u64,
 }
 
 fn wanted(mut arguments: impl Iterator<Item = String>) -> Result<Wanted, String> {
-    let mut wanted = Wanted { seed: 1, calls: 3_000_000, coverage: false, least: 0 };
+    let run = Run { seed: 1, calls: 3_000_000, of: Of::All };
+    let mut wanted = Wanted { run, coverage: false, least: 0 };
     while let Some(argument) = arguments.next() {
         let place = match argument.as_str() {
             "--coverage" => {
                 wanted.coverage = true;
                 continue;
             }
-            "--seed" => &mut wanted.seed,
-            "--calls" => &mut wanted.calls,
+            "--seed" => &mut wanted.run.seed,
+            "--calls" => &mut wanted.run.calls,
             "--least" => &mut wanted.least,
             _ => return Err(format!("'{argument}' is not an option")),
         };
@@ -48,10 +49,10 @@ fn library() -> Option<Box<dyn Calls>> {
     None
 }
 
-/// The calls of the paper alone, and how often each number, path, rule and side was met.
+/// The calls of the paper alone, and how often each number, path, rule, side and clause was met.
 fn coverage(wanted: &Wanted) -> ExitCode {
     let mut tally = Tally::new();
-    let same = compare(&mut Paper::default(), &mut Paper::default(), wanted.seed, wanted.calls, &mut tally);
+    let same = compare(&mut Paper::default(), &mut Paper::default(), wanted.run, &mut tally);
     print!("{tally}");
     let rare = tally.rarer_than(wanted.least);
     for words in &rare {
@@ -68,13 +69,13 @@ fn against(other: &mut dyn Calls, wanted: &Wanted) -> ExitCode {
     let mut paper = Paper::default();
     let mut tally = Tally::new();
     let begun = Instant::now();
-    match compare(&mut paper, other, wanted.seed, wanted.calls, &mut tally) {
+    match compare(&mut paper, other, wanted.run, &mut tally) {
         Ok(()) => {
             let seconds = begun.elapsed().as_secs_f32();
             println!(
-                "the library and the paper agree on {} calls over {} heaps of edition eight and {} of sixteen \
-                 ({seconds:.0} s)",
-                tally.calls, tally.heaps[0], tally.heaps[1]
+                "the library and the paper agree on {} calls and {} audits over {} heaps of edition eight and {} of \
+                 sixteen, and keep the audit's promise ({seconds:.0} s)",
+                tally.calls, tally.audits, tally.heaps[0], tally.heaps[1]
             );
             ExitCode::SUCCESS
         }
