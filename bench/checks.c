@@ -545,6 +545,252 @@ INLINE void put_plain_roll(const struct heap *h, uint32_t *roll)
     }
 }
 
+/* ---- the audit: 02's rules in their order, each over the whole heap before the next; whether each is kept */
+
+/* What is found out once, on the way to rule 4, for it and those after it: of each pool how many of its bits are set;
+ * of each pool and each arena its home, the head word of the list that it belongs to, or one of two that are no list's;
+ * and of each head how many are at home there. */
+enum { MOST_ARENAS = 16, MOST_POOLS = 64 * MOST_ARENAS, CLASSES = 64, FREED_HEAD = 3 };
+enum { NO_LIST = 0, NOT_CARVED = 1, HEADS = RECORDS + RECORD * MOST_ARENAS };
+
+struct found {
+    uint16_t set[MOST_POOLS], members[HEADS];
+    uint8_t home[MOST_POOLS], arena_home[MOST_ARENAS];
+};
+
+/* 2, but for the edition, which has been tested. */
+INLINE bool zeros(const struct heap *h)
+{
+    if ((h->books[69] | h->books[70] | h->books[71]) != 0)
+        return false;
+    for (uint32_t a = 0; a < h->arenas; a++)
+        if (h->arena[a].open > 1 || (h->arena[a].zero[0] | h->arena[a].zero[1]) != 0)
+            return false;
+    for (uint32_t p = 0; p < h->all; p++)
+        if (h->pool[p].zero != 0)
+            return false;
+    return true;
+}
+
+/* 3. */
+INLINE bool closed_arenas(const struct heap *h)
+{
+    for (uint32_t a = 0; a < h->arenas; a++) {
+        const struct arena *arena = &h->arena[a];
+        if (arena->open == 0 && (arena->mark | arena->free_pools | arena->freed_head) != 0)
+            return false;
+    }
+    return true;
+}
+
+/* How many bits of pool p are set, be it at a block or at none. */
+INLINE uint32_t set_bits(const struct heap *h, uint32_t p)
+{
+    const uint64_t *m = map_word(h, p, 0);
+    uint32_t set = 0;
+    if (none_set(h, p))
+        return 0;
+    for (uint32_t w = 0; w < 8; w++)
+        set += (uint32_t)__builtin_popcountll(m[w]);
+    return set;
+}
+
+/* How many blocks pool p has: none, where it has no class. */
+INLINE uint32_t blocks_of_pool(const struct heap *h, uint32_t p)
+{
+    return has_class(h, p) ? (POOL_BYTES - FIRST_BLOCK) / size_of_pool(h, p) : 0;
+}
+
+/* The home of pool p, which is carved and of arena a. */
+INLINE uint32_t home_of(const struct heap *h, uint32_t a, uint32_t p, uint32_t set)
+{
+    if (set == 0)
+        return RECORDS + RECORD * a + FREED_HEAD;
+    return set < blocks_of_pool(h, p) ? CLASS_HEADS + h->pool[p].class : NO_LIST;
+}
+
+/* Looks at the pools of arena a; how many of them are in use. */
+INLINE uint32_t look(const struct heap *h, uint32_t a, struct found *f)
+{
+    const struct arena *arena = &h->arena[a];
+    uint32_t first = a * h->pools, in_use = 0;
+    for (uint32_t i = 0; i < h->pools; i++) {
+        uint32_t p = first + i, set = set_bits(h, p);
+        bool carved = arena->open == 1 && i < arena->mark;
+        uint32_t home = carved ? home_of(h, a, p, set) : NOT_CARVED;
+        f->set[p] = (uint16_t)set;
+        f->home[p] = (uint8_t)home;
+        f->members[home]++;
+        in_use += carved && set != 0;
+    }
+    return in_use;
+}
+
+/* 4. How many pools are in use is found here, with all that the rules after it want to know. */
+INLINE bool open_arenas(const struct heap *h, struct found *f)
+{
+    for (uint32_t a = 0; a < h->arenas; a++) {
+        const struct arena *arena = &h->arena[a];
+        uint32_t in_use = look(h, a, f), usable = arena->free_pools != 0 ? USABLE_HEAD : NO_LIST;
+        if (arena->open == 1
+            && (arena->mark < 1 || arena->mark > h->pools || arena->free_pools != h->pools - in_use))
+            return false;
+        f->arena_home[a] = (uint8_t)(arena->open == 1 ? usable : UNUSED_HEAD);
+        f->members[f->arena_home[a]]++;
+    }
+    return true;
+}
+
+/* No bit of pool p is set from block v on. */
+INLINE bool none_from(const struct heap *h, uint32_t p, uint32_t v)
+{
+    const uint64_t *m = map_word(h, p, 0);
+    uint64_t left = m[v / 64] >> v % 64;
+    for (uint32_t w = v / 64 + 1; w < 8; w++)
+        left |= m[w];
+    return left == 0;
+}
+
+/* 5. */
+INLINE bool bits_at_blocks(const struct heap *h, const struct found *f)
+{
+    for (uint32_t p = 0; p < h->all; p++)
+        if (f->set[p] != 0 && (f->home[p] == NOT_CARVED || !none_from(h, p, blocks_of_pool(h, p))))
+            return false;
+    return true;
+}
+
+/* The list of this head has just those that are at home there, once: so many are met, and then it ends. A walk that
+ * ends meets none twice, for it would go on as it went before. The next word of record n, of so many at most, is
+ * links[8n], and the previous word comes after it: the link to the one before, or 0 in all, where the list is not
+ * doubly linked. (No link, 0, less 1 is above all records.) */
+INLINE bool list_has(const struct heap *h, const uint32_t *links, const uint8_t *home, uint32_t most, uint32_t members,
+                     uint32_t head, bool doubly)
+{
+    uint32_t link = h->books[head], previous = 0;
+    for (; members != 0; members--) {
+        uint32_t n = link - 1;
+        if (n >= most || home[n] != head || links[RECORD * n + 1] != previous)
+            return false;
+        previous = doubly ? link : 0;
+        link = links[RECORD * n];
+    }
+    return link == 0;
+}
+
+/* What is on no list has both links 0. */
+INLINE bool unlisted(const uint32_t *links, const uint8_t *home, uint32_t most)
+{
+    for (uint32_t n = 0; n < most; n++)
+        if (home[n] == NO_LIST && (links[RECORD * n] | links[RECORD * n + 1]) != 0)
+            return false;
+    return true;
+}
+
+/* 6. */
+INLINE bool lists(const struct heap *h, const struct found *f)
+{
+    const uint32_t *arenas = &h->arena->next, *pools = &h->pool->next;
+    for (uint32_t a = 0; a < h->arenas; a++) {
+        uint32_t head = RECORDS + RECORD * a + FREED_HEAD;
+        if (!list_has(h, pools, f->home, h->all, f->members[head], head, false))
+            return false;
+    }
+    for (uint32_t head = USABLE_HEAD; head <= UNUSED_HEAD; head++)
+        if (!list_has(h, arenas, f->arena_home, h->arenas, f->members[head], head, true))
+            return false;
+    for (uint32_t head = CLASS_HEADS; head < CLASS_HEADS + CLASSES; head++)
+        if (!list_has(h, pools, f->home, h->all, f->members[head], head, true))
+            return false;
+    return unlisted(pools, f->home, h->all) && unlisted(arenas, f->arena_home, h->arenas);
+}
+
+/* 7. */
+INLINE bool counts(const struct heap *h, const struct found *f)
+{
+    for (uint32_t p = 0; p < h->all; p++)
+        if (h->pool[p].count != f->set[p])
+            return false;
+    return true;
+}
+
+/* From this link on, so many blocks of pool p are met that are not live and come before block v; then the chain ends,
+ * and so it met none twice. */
+INLINE bool chain_has(const struct heap *h, uint32_t p, uint32_t size, uint32_t v, uint32_t dead, uint32_t link)
+{
+    for (; dead != 0; dead--) {
+        uint32_t k = block_at(size, link);
+        if (k >= v || is_set(h, p, k))
+            return false;
+        link = get_link(place_in(h, p, link));
+    }
+    return link == 0;
+}
+
+/* Each block of pool p, of which so many are live, is one of these, or on the chain, or virgin: those from block v on,
+ * at nextoffset. At least so many are on the chain. */
+INLINE bool divided(const struct heap *h, uint32_t p, uint32_t live, uint32_t least)
+{
+    const struct pool *pool = &h->pool[p];
+    if (!has_class(h, p))
+        return false;
+    uint32_t size = size_of_pool(h, p), blocks = blocks_of_pool(h, p);
+    bool none_virgin = pool->nextoffset == FIRST_BLOCK + blocks * size;
+    uint32_t v = none_virgin ? blocks : block_at(size, pool->nextoffset);
+    return pool->maxnextoffset == POOL_BYTES - size && v != NONE && none_from(h, p, v) && v - live >= least
+        && chain_has(h, p, size, v, v - live, pool->freeblock);
+}
+
+/* 8. A freed pool that was set to no class has words of 0: some of them the rules before this one have found so. */
+INLINE bool blocks(const struct heap *h, const struct found *f)
+{
+    for (uint32_t p = 0; p < h->all; p++) {
+        const struct pool *pool = &h->pool[p];
+        bool freed = f->set[p] == 0, full = f->home[p] == NO_LIST;
+        if (f->home[p] == NOT_CARVED)
+            continue;
+        if (freed && pool->class == NO_CLASS) {
+            if ((pool->freeblock | pool->nextoffset | pool->maxnextoffset) != 0)
+                return false;
+        } else if (!divided(h, p, f->set[p], freed ? 2 : full ? 0 : 1)) {
+            return false;
+        }
+    }
+    return true;
+}
+
+/* 9. Of the usable arenas none has more free pools than the next. */
+INLINE bool rising(const struct heap *h, const struct found *f)
+{
+    for (uint32_t a = 0; a < h->arenas; a++) {
+        uint32_t next = h->arena[a].next;
+        if (f->arena_home[a] == USABLE_HEAD && next != 0 && h->arena[a].free_pools > h->arena[next - 1].free_pools)
+            return false;
+    }
+    return true;
+}
+
+INLINE uint32_t first_broken(const struct heap *h)
+{
+    struct found f;
+    memset(f.members, 0, sizeof f.members);
+    if (!zeros(h))
+        return HESKAVERN_AUDIT_ZEROS;
+    if (!closed_arenas(h))
+        return HESKAVERN_AUDIT_CLOSED;
+    if (!open_arenas(h, &f))
+        return HESKAVERN_AUDIT_OPEN;
+    if (!bits_at_blocks(h, &f))
+        return HESKAVERN_AUDIT_BITS;
+    if (!lists(h, &f))
+        return HESKAVERN_AUDIT_LISTS;
+    if (!counts(h, &f))
+        return HESKAVERN_AUDIT_COUNTS;
+    if (!blocks(h, &f))
+        return HESKAVERN_AUDIT_BLOCKS;
+    return rising(h, &f) ? HESKAVERN_AUDIT_YES : HESKAVERN_AUDIT_ORDER;
+}
+
 /* ---- the calls */
 
 heskavern_answer CHECKS(format)(const uint8_t *memory, size_t memory_bytes, uint32_t *books, size_t books_words,
@@ -687,4 +933,13 @@ heskavern_answer CHECKS(plain_roll_call)(const uint8_t *memory, size_t memory_by
         return answer(HESKAVERN_DOES_NOT_FIT, 0);
     put_plain_roll(&h, roll);
     return answer(HESKAVERN_DONE, live);
+}
+
+uint32_t CHECKS(audit)(const uint8_t *memory, size_t memory_bytes, const uint32_t *books, size_t books_words,
+                       const uint64_t *map, size_t map_words)
+{
+    struct heap h;
+    if (open_heap(&h, memory, memory_bytes, books, books_words, map, map_words) != HESKAVERN_DONE)
+        return HESKAVERN_AUDIT_SHAPE;
+    return first_broken(&h);
 }

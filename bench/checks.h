@@ -20,6 +20,9 @@ heskavern_answer CHECKS(roll_call)(const uint8_t *memory, size_t memory_bytes, c
                                    size_t books_words, const uint64_t *map, size_t map_words, uint32_t *roll,
                                    size_t roll_words);
 
+uint32_t CHECKS(audit)(const uint8_t *memory, size_t memory_bytes, const uint32_t *books, size_t books_words,
+                       const uint64_t *map, size_t map_words);
+
 /* Of checks.c alone: the stand-in, which no archive has, since the header makes it from view_size; and the roll call by
  * a plain loop. The live blocks are always counted first, and no pool is passed over. */
 heskavern_part CHECKS(stand_in)(const uint8_t *memory, size_t memory_bytes, const uint32_t *books, size_t books_words,

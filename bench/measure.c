@@ -227,8 +227,17 @@ static void print_ratios(const struct task *t, const struct task *first, const s
     fflush(stdout);
 }
 
-/* A table of the times of each task and then one of all ratios; but of roll call the ratios alone, each row as soon as
- * it is measured. */
+/* A table of the ratios alone, each row as soon as it is measured. */
+static void measure_ratios(const char *title, size_t first, size_t end)
+{
+    print_head(title, &tasks[first]);
+    for (size_t i = first; i < end; i++) {
+        measure(&tasks[i], figures[i]);
+        print_ratios(&tasks[i], &tasks[first], figures[i]);
+    }
+}
+
+/* A table of the times of each task and then one of all ratios; but of roll call and the audit the ratios alone. */
 static void measure_all(void)
 {
     for (size_t i = 0; i < FIRST_ROLL; i++) {
@@ -238,11 +247,8 @@ static void measure_all(void)
     print_head("library / it (in quiet rounds)", &tasks[0]);
     for (size_t i = 0; i < FIRST_ROLL; i++)
         print_ratios(&tasks[i], &tasks[0], figures[i]);
-    print_head("roll call, in µs: library / it (in quiet rounds)", &tasks[FIRST_ROLL]);
-    for (size_t i = FIRST_ROLL; i < TASKS; i++) {
-        measure(&tasks[i], figures[i]);
-        print_ratios(&tasks[i], &tasks[FIRST_ROLL], figures[i]);
-    }
+    measure_ratios("roll call, in µs: library / it (in quiet rounds)", FIRST_ROLL, FIRST_AUDIT);
+    measure_ratios("audit, in ns a pool: library / it (in quiet rounds)", FIRST_AUDIT, TASKS);
 }
 
 /* ---- a second give-back */

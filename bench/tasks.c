@@ -22,9 +22,9 @@ static struct step full[IN_POOL * EMPTIED], others[(IN_POOL - 1) * EMPTIED], las
 static uint16_t runs[RUN_WINDOWS][RUNS];
 static uint8_t text[512];
 
-/* Of roll call and format: the largest heap, and about the nanoseconds of a short visit, where a pool takes two and a
- * live block one. */
-enum { VISIT = 40000 };
+/* Of roll call, audit and format: the largest heap, and about the nanoseconds of a short visit, where a pool takes two
+ * and a live block one; of the audit a pool takes some more, and a block on a freed chain about three. */
+enum { VISIT = 40000, AUDITED_POOL = 50, ON_CHAIN = 3 };
 static uint8_t heap_memory[HESKAVERN_MEMORY_BYTES(16, 64)];
 static uint32_t heap_books[HESKAVERN_BOOKS_WORDS(16, 64)], roll[HESKAVERN_ROLL_WORDS(16, 64)];
 static uint64_t heap_map[HESKAVERN_MAP_WORDS(16, 64)];
@@ -289,12 +289,12 @@ static double visit_stand_in(const struct variant *v, size_t round)
     return (end - begin) / PAIRS;
 }
 
-/* ---- roll call and format */
+/* ---- roll call, audit and format */
 
 /* The heap that these are about: one for all variants. */
 static struct {
     size_t arenas, pools, roll_words;
-    uint32_t live, calls;           /* so many blocks are live, and so many calls of a visit are timed */
+    uint32_t live, calls, audits;   /* so many blocks are live, and so many calls of a visit are timed */
 } heap;
 
 #define HEAP HESKAVERN_LENT(heap_memory, heap_books, heap_map, heap.arenas, heap.pools)
@@ -302,6 +302,11 @@ static struct {
 static bool can_roll(const struct variant *v)
 {
     return v->roll_call != NULL;
+}
+
+static bool can_audit(const struct variant *v)
+{
+    return v->audit != NULL;
 }
 
 static bool can_format(const struct variant *v)
@@ -319,6 +324,40 @@ static void fill_heap(uint32_t largest)
             ;
 }
 
+/* Of the first so many blocks of the roll, gives any back until so many are live. */
+static void drain_heap(uint32_t left, uint32_t live)
+{
+    for (; left > live; left--) {
+        uint32_t i = below(left);
+        if (heskavern_give_back(HEAP, roll[2 * i]).number != HESKAVERN_DONE)
+            fail("this library", "a give-back was refused");
+        roll[2 * i] = roll[2 * (left - 1)];
+    }
+}
+
+/* All but the first block of each pool go to the front of the roll; how many these are. */
+static uint32_t all_but_first(uint32_t blocks)
+{
+    uint32_t others = 0;
+    for (uint32_t i = 0; i < blocks; i++)
+        if (roll[2 * i] % 4096 != 48)
+            roll[2 * others++] = roll[2 * i];
+    return others;
+}
+
+/* Of the blocks of the roll those stay live that are wanted; how many these are. */
+static uint32_t leave_live(const struct wanted_heap *w, uint32_t blocks)
+{
+    uint32_t share = (uint32_t)(((uint64_t)blocks * w->share + 500) / 1000);
+    if (w->live == A_SHARE) {
+        drain_heap(blocks, share);
+        return share;
+    }
+    uint32_t others = all_but_first(blocks);
+    drain_heap(others, 0);
+    return blocks - others;
+}
+
 /* The heap that is wanted, the room of its roll, and how long a visit is. */
 static void make_heap(const struct wanted_heap *w)
 {
@@ -326,17 +365,15 @@ static void make_heap(const struct wanted_heap *w)
     heap.pools = w->pools;
     if (heskavern_format(HEAP, w->arenas, w->pools, HESKAVERN_EIGHT).number != HESKAVERN_DONE)
         fail("this library", "a format was refused");
-    fill_heap(w->largest);
-    uint32_t left = heskavern_roll_call(HEAP, roll, sizeof roll / sizeof *roll).value;
-    heap.live = (uint32_t)(((uint64_t)left * w->share + 500) / 1000);
-    for (; left > heap.live; left--) {
-        uint32_t i = below(left);
-        if (heskavern_give_back(HEAP, roll[2 * i]).number != HESKAVERN_DONE)
-            fail("this library", "a give-back was refused");
-        roll[2 * i] = roll[2 * (left - 1)];
-    }
+    if (w->live == ONE_ALONE)
+        (void)heskavern_ask(HEAP, w->largest);
+    else
+        fill_heap(w->largest);
+    uint32_t blocks = heskavern_roll_call(HEAP, roll, sizeof roll / sizeof *roll).value;
+    heap.live = leave_live(w, blocks);
     heap.roll_words = w->tight ? 2 * (size_t)heap.live : HESKAVERN_ROLL_WORDS(w->arenas, w->pools);
     heap.calls = 1 + VISIT / (2 * w->arenas * w->pools + heap.live);
+    heap.audits = 1 + VISIT / (AUDITED_POOL * w->arenas * w->pools + ON_CHAIN * (blocks - heap.live));
 }
 
 static void call_roll(const struct variant *v)
@@ -368,6 +405,26 @@ static double visit_roll(const struct variant *v, size_t round)
         call_roll(v);
     double end = now();
     return (end - begin) / heap.calls / 1000;
+}
+
+static void prepare_audit(const struct variant *v)
+{
+    if (v->audit(HEAP) != HESKAVERN_AUDIT_YES)
+        fail(v->name, "its audit does not say yes of a sound heap");
+}
+
+/* By the pool, so that it shows how the time grows with their number. */
+static double visit_audit(const struct variant *v, size_t round)
+{
+    uint32_t broken = v->audit(HEAP);
+    (void)round;
+    double begin = now();
+    for (uint32_t i = 0; i < heap.audits; i++)
+        broken |= v->audit(HEAP);
+    double end = now();
+    if (broken != HESKAVERN_AUDIT_YES)
+        fail(v->name, "its audit does not say yes of a sound heap");
+    return (end - begin) / heap.audits / (double)(heap.arenas * heap.pools);
 }
 
 static void prepare_format(const struct variant *v)
@@ -413,7 +470,7 @@ double visit(const struct task *t, const struct variant *v, size_t round)
 
 /* Roll call over one heap, with each share of its blocks live; and the same where the roll has just room enough. */
 #define ROLL(title, share, tight, ...) \
-    {title, can_roll, prepare_roll, .visit = visit_roll, .wanted = {__VA_ARGS__, share, tight}}
+    {title, can_roll, prepare_roll, .visit = visit_roll, .wanted = {__VA_ARGS__, share, tight, A_SHARE}}
 #define ROLLS(title, ...) \
     ROLL(title ", 0 % live", 0, false, __VA_ARGS__), ROLL(title ", 0.1 % live", 1, false, __VA_ARGS__), \
         ROLL(title ", 1 % live", 10, false, __VA_ARGS__), ROLL(title ", 10 % live", 100, false, __VA_ARGS__), \
@@ -423,6 +480,13 @@ double visit(const struct task *t, const struct variant *v, size_t round)
     ROLL(title ", 0.1 % live, just room enough", 1, true, __VA_ARGS__), \
         ROLL(title ", 10 % live, just room enough", 100, true, __VA_ARGS__), \
         ROLL(title ", 100 % live, just room enough", 1000, true, __VA_ARGS__)
+
+/* The audit of heaps of blocks of 8 bytes, of each number of pools, with these of the blocks live. */
+#define AUDIT(title, live, arenas, pools) \
+    {title, can_audit, prepare_audit, .visit = visit_audit, .wanted = {arenas, pools, 8, 1000, false, live}}
+#define AUDITS(title, live) \
+    AUDIT("16 pools, " title, live, 1, 16), AUDIT("256 pools, " title, live, 4, 64), \
+        AUDIT("1,024 pools, " title, live, 16, 64)
 
 const struct task tasks[TASKS] = {
     {"ask + give back, mixed: ns a pair", can_ask, prepare_mixed, .visit = visit_mixed},
@@ -439,11 +503,14 @@ const struct task tasks[TASKS] = {
     {"view_size: ns", can_write, prepare_write, .visit = visit_view},
     {"stand-in, half of the blocks given back: ns", can_stand_in, prepare_stand_in, .visit = visit_stand_in},
     {"format (C: memset and a loop): µs", can_format, prepare_format, .visit = visit_format,
-     .wanted = {4, 64, 8, 0, false}},
+     .wanted = {4, 64, 8, 0, false, A_SHARE}},
     ROLLS("16 pools, blocks of 8 bytes", 1, 16, 8),
     ROLLS("16 pools, blocks of all sizes", 1, 16, HESKAVERN_LARGEST),
     ROLLS("1,024 pools, blocks of 8 bytes", 16, 64, 8),
     ROLLS("1,024 pools, blocks of all sizes", 16, 64, HESKAVERN_LARGEST),
     TIGHT_ROLLS("1,024 pools, blocks of 8 bytes", 16, 64, 8),
     TIGHT_ROLLS("1,024 pools, blocks of all sizes", 16, 64, HESKAVERN_LARGEST),
+    AUDITS("all blocks of 8 bytes live", A_SHARE),
+    AUDITS("one block live", ONE_ALONE),
+    AUDITS("one block of each pool live, and 505 on its freed chain", ONE_A_POOL),
 };

@@ -4,14 +4,19 @@
 
 #include "variants.h"
 
-enum { FIRST_ROLL = 12, TASKS = FIRST_ROLL + 34 };    /* those of roll call are the last ones */
+/* Those of roll call, and then those of the audit, are the last ones. */
+enum { FIRST_ROLL = 12, FIRST_AUDIT = FIRST_ROLL + 34, TASKS = FIRST_AUDIT + 9 };
+
+/* The blocks of a heap that are live. */
+enum live { A_SHARE, ONE_A_POOL, ONE_ALONE };
 
 /* A heap that was filled with blocks for 1 to so many bytes until there was room for none, of which this share, in
- * thousandths and to the nearest block, is still live. The roll has room for just these where it is tight, and
- * otherwise for every block that a heap of so many pools could have. */
+ * thousandths and to the nearest block, is still live, or one of each pool; or where one alone was asked for. The roll
+ * has room for just these where it is tight, and otherwise for every block that a heap of so many pools could have. */
 struct wanted_heap {
     uint32_t arenas, pools, largest, share;
     bool tight;
+    enum live live;
 };
 
 /* A visit gives the time of one operation; it makes some of them untimed first. */
@@ -20,7 +25,7 @@ struct task {
     bool (*can)(const struct variant *v);
     void (*prepare)(const struct variant *v);
     double (*visit)(const struct variant *v, size_t round);
-    struct wanted_heap wanted;      /* of roll call and format; 0 arenas where the variants have heaps of their own */
+    struct wanted_heap wanted;      /* of roll call, audit and format; 0 arenas where variants have their own heaps */
     size_t edition;                 /* of their own heaps */
 };
 

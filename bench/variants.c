@@ -29,12 +29,12 @@
 #include "checked.h"
 static const struct variant library = {
     "this library", CHECKED(library), STAND_IN_TRACE(library), .roll_call = heskavern_roll_call,
-    .format = heskavern_format
+    .format = heskavern_format, .audit = heskavern_audit
 };
 
-/* The older archive is linked with before_ask for heskavern_ask and so on. In one of before W-211 format takes no
- * edition. It is given one all the same: on x86-64 that stands on the stack after the arguments that it reads, and is
- * its caller's to clear away. */
+/* The older archive is linked with before_ask for heskavern_ask and so on. One of before W-201 has no audit: it is not
+ * measured of any. In one of before W-211 format takes no edition. It is given one all the same: on x86-64 that stands
+ * on the stack after the arguments that it reads, and is its caller's to clear away. */
 #ifdef BEFORE
 #define CHECKS(name) before_##name
 #include "checks.h"
@@ -56,7 +56,7 @@ static const struct variant archive_before = {
 #include "checked.h"
 static const struct variant by_gcc = {
     "the same checks in C, gcc -O2", CHECKED(by_gcc), STAND_IN_TRACE(by_gcc), .roll_call = gcc_roll_call,
-    .format = gcc_format
+    .format = gcc_format, .audit = gcc_audit
 };
 static const struct variant plain_by_gcc = {"a plain loop with ctz, gcc -O2", .roll_call = gcc_plain_roll_call};
 #undef CHECKS
@@ -69,7 +69,7 @@ static const struct variant plain_by_gcc = {"a plain loop with ctz, gcc -O2", .r
 #include "checked.h"
 static const struct variant by_clang = {
     "the same checks in C, clang -O3", CHECKED(by_clang), STAND_IN_TRACE(by_clang), .roll_call = clang_roll_call,
-    .format = clang_format
+    .format = clang_format, .audit = clang_audit
 };
 static const struct variant plain_by_clang = {"a plain loop with ctz, clang -O3", .roll_call = clang_plain_roll_call};
 #undef CHECKS

@@ -35,6 +35,7 @@ struct variant {
     heskavern_answer (*roll_call)(const uint8_t *, size_t, const uint32_t *, size_t, const uint64_t *, size_t,
                                   uint32_t *, size_t);
     heskavern_answer (*format)(const uint8_t *, size_t, uint32_t *, size_t, uint64_t *, size_t, size_t, size_t, size_t);
+    uint32_t (*audit)(const uint8_t *, size_t, const uint32_t *, size_t, const uint64_t *, size_t);
 };
 
 /* All variants that this machine has; the library is the first. */

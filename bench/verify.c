@@ -1,13 +1,15 @@
 /* Holds bench/checks.c, by its names CHECKS(name), to the library: verify SEED CALLS. Both get the same random calls
  * over the same buffers, in both editions, on sound books and on damaged ones, and must give the same number and value,
- * or of a stand-in the same part, and leave the same memory, books, map and roll. Fails also where the calls never met
- * one of the tests of a shape that fails first, or in one of the editions a number, a half-done resize whose give-back
- * meets 5, 6 or 10, a stand-in that is the phrase or one that is the block's own part, one of the calls on an offset
- * with one of the reasons why that is a dead block or none, a give-back with one of the kinds of walk past the arenas
- * that follow in the usable list, or one of the roll calls over one of the kinds of map with one of the kinds of
- * room. */
+ * or of a stand-in the same part, and leave the same memory, books, map and roll. The audit must say yes of a sound
+ * heap, and of one that is spoilt in one place the rule that this breaks (spoils.h). Fails also where the calls never
+ * met one of the tests of a shape that fails first, or in one of the editions a number, a half-done resize whose
+ * give-back meets 5, 6 or 10, a stand-in that is the phrase or one that is the block's own part, one of the calls on an
+ * offset with one of the reasons why that is a dead block or none, a give-back with one of the kinds of walk past the
+ * arenas that follow in the usable list, one of the roll calls over one of the kinds of map with one of the kinds of
+ * room, an audit that gives one of the rules, or one of the kinds of place that is spoilt. */
 #include "checks.h"
 #include "random.h"
+#include "spoils.h"
 
 #include <stdbool.h>
 #include <stdio.h>
@@ -15,7 +17,7 @@
 #include <string.h>
 
 enum { MOST_POOLS = 64, MOST_HELD = 4096, GONE = 64, EDITION = 68, EDITIONS = 2 };
-enum { FORMAT, ASK, GIVE_BACK, RESIZE, VIEW_SIZE, STAND_IN, WRITE, ROLL_CALL, PLAIN_ROLL_CALL, CALLS };
+enum { FORMAT, ASK, GIVE_BACK, RESIZE, VIEW_SIZE, STAND_IN, WRITE, AUDIT, ROLL_CALL, PLAIN_ROLL_CALL, CALLS };
 enum { AT_BLOCKS, PAST_THE_LAST, NO_CLASS, WHOLE_WORDS, ALL_ONES, LAST_WORD, CROWDED, MAPS };
 enum { FOR_ALL, MORE, ENOUGH, ONE_TOO_FEW, FEWER, ROOMS };
 enum { DEAD, DEAD_DAMAGED, OPEN_0, OPEN_ABOVE_1, PAST_THE_MARK, AT_NEXTOFFSET, PAST_NEXTOFFSET, NO_START, NO_END,
@@ -23,6 +25,7 @@ enum { DEAD, DEAD_DAMAGED, OPEN_0, OPEN_ABOVE_1, PAST_THE_MARK, AT_NEXTOFFSET, P
 enum { PASSES_NONE, UNREAD_PREVIOUS, PASSES_ONE, PASSES_MORE, COMES_BACK, BAD_NEXT, BAD_NEXT_LATER, BAD_PREVIOUS,
        TOO_LONG, WALKS };
 enum { UNDER_TWO_WORDS, A_OR_P, NO_EDITION, BAD_EDITION, LENGTHS, SHAPES };
+enum { VERDICTS = HESKAVERN_AUDIT_ORDER + 1 };
 
 struct buffers {
     uint8_t memory[MOST_POOLS * 4096];
@@ -41,7 +44,7 @@ struct call {
 };
 
 static const char *const names[CALLS] = {"format", "ask", "give back", "resize", "view_size", "stand-in", "write",
-                                         "roll call", "plain roll call"};
+                                         "audit", "roll call", "plain roll call"};
 static const char *const maps[MAPS] = {
     [AT_BLOCKS] = "bits at blocks alone",
     [PAST_THE_LAST] = "bits past a pool's last block",
@@ -96,12 +99,14 @@ static const uint8_t on_offsets[] = {GIVE_BACK, RESIZE, VIEW_SIZE, WRITE};
 static struct buffers library, checks;
 static size_t arenas, pools;
 static bool sound;                              /* nothing was damaged since format */
+static bool just_damaged;                       /* no call has met the damage yet */
 static bool few;                                /* about one block for each pool is out, so that arenas move */
 static uint32_t held[MOST_HELD], held_count;    /* offsets that were handed out, as far as the answers tell */
 static uint32_t gone[GONE], gone_count;         /* the last of those that came back, and how many came in all */
 static unsigned long shapes_met[2][SHAPES];     /* of the other calls, and of format */
 static struct met {
     unsigned long numbers[11], half_done[11], stood_in[2], rolls[CALLS][MAPS][ROOMS], on[CALLS][REASONS], walks[WALKS];
+    unsigned long verdicts[VERDICTS], spoilt[SPOILS];
 } met_in[EDITIONS], *met = met_in;              /* met is that of the books' edition */
 static uint8_t text[600];
 
@@ -126,6 +131,7 @@ static heskavern_answer by_library(struct buffers *b, const struct call *c)
     case VIEW_SIZE: return heskavern_view_size(LENT(b), c->x);
     case STAND_IN: return handed(b, heskavern_stand_in(LENT(b), c->x, text, c->y));
     case WRITE: return heskavern_write(LENT(b), c->x, text, c->y);
+    case AUDIT: return (heskavern_answer){heskavern_audit(LENT(b)), 0};
     default: return heskavern_roll_call(LENT(b), b->roll, c->roll_words);
     }
 }
@@ -140,6 +146,7 @@ static heskavern_answer by_checks(struct buffers *b, const struct call *c)
     case VIEW_SIZE: return CHECKS(view_size)(LENT(b), c->x);
     case STAND_IN: return handed(b, CHECKS(stand_in)(LENT(b), c->x, text, c->y));
     case WRITE: return CHECKS(write)(LENT(b), c->x, text, c->y);
+    case AUDIT: return (heskavern_answer){CHECKS(audit)(LENT(b)), 0};
     case ROLL_CALL: return CHECKS(roll_call)(LENT(b), b->roll, c->roll_words);
     default: return CHECKS(plain_roll_call)(LENT(b), b->roll, c->roll_words);
     }
@@ -273,18 +280,26 @@ static void blank_rolls(void)
     memset(checks.roll, 0xff, sizeof *checks.roll * HESKAVERN_ROLL_WORDS(arenas, pools));
 }
 
+/* A call of this kind that lends the exact lengths. */
+static struct call exact_call(unsigned kind)
+{
+    return (struct call){.kind = kind,
+                         .memory_bytes = arenas * pools * 4096,
+                         .books_words = 72 + 8 * arenas + 8 * arenas * pools,
+                         .map_words = 8 * arenas * pools};
+}
+
 static struct call random_call(void)
 {
-    static const uint8_t kinds[] = {ASK,    ASK,    ASK,       ASK,      ASK,   GIVE_BACK, GIVE_BACK,      GIVE_BACK,
-                                    RESIZE, RESIZE, VIEW_SIZE, STAND_IN, WRITE, ROLL_CALL, PLAIN_ROLL_CALL};
+    static const uint8_t kinds[] = {ASK,    ASK,    ASK,       ASK,      ASK,   GIVE_BACK, GIVE_BACK, GIVE_BACK,
+                                    RESIZE, RESIZE, VIEW_SIZE, STAND_IN, WRITE, AUDIT,     ROLL_CALL, PLAIN_ROLL_CALL};
     static const size_t editions[] = {2, (size_t)1 << 32, ((size_t)1 << 32) + 1, SIZE_MAX};    /* each is none */
-    struct call c = {.kind = kinds[below(sizeof kinds)],
-                     .memory_bytes = arenas * pools * 4096,
-                     .books_words = 72 + 8 * arenas + 8 * arenas * pools,
-                     .map_words = 8 * arenas * pools,
-                     .x = random_offset(),
-                     .y = random_size()};
-    if (few && below(2) == 0)
+    struct call c = exact_call(kinds[below(sizeof kinds)]);
+    c.x = random_offset();
+    c.y = random_size();
+    if (just_damaged && below(2) == 0)
+        c.kind = AUDIT;
+    else if (few && below(2) == 0)
         c.kind = below((uint32_t)(arenas * pools)) < held_count ? GIVE_BACK : ASK;
     if (below(300) == 0) {
         c.kind = FORMAT, c.x = below(4) == 0 ? below(18) : arenas, c.y = below(4) == 0 ? below(66) : pools;
@@ -386,6 +401,7 @@ static void damage(void)
     size_t words = 72 + 8 * arenas + 8 * arenas * pools, p = below((uint32_t)(arenas * pools)), at;
     uint32_t word = odd_word();
     sound = false;
+    just_damaged = true;
     switch (library.books[EDITION] > HESKAVERN_SIXTEEN ? 9 : below(16)) {
     case 0:
         at = 8 * p + below(1 + below(8));
@@ -430,7 +446,8 @@ static void damage(void)
     }
 }
 
-static void fresh(void)
+/* Memory of anything, or of zeros, so that what is no link looks like the end of a chain. */
+static void fresh(bool zeros)
 {
     few = below(4) == 0;
     do {
@@ -438,7 +455,7 @@ static void fresh(void)
         pools = below(8) == 0 ? between(2, 64) : few ? between(3, 5) : between(2, 4);
     } while (arenas * pools > MOST_POOLS);
     for (size_t i = 0; i < sizeof library.memory; i++)
-        library.memory[i] = (uint8_t)below(256);
+        library.memory[i] = zeros ? 0 : (uint8_t)below(256);
     memset(library.books, 0xff, sizeof library.books);
     memset(library.map, 0xff, sizeof library.map);
     checks = library;
@@ -547,12 +564,29 @@ static void note_shape(const struct call *c)
     shapes_met[format][first]++;
 }
 
+/* Counts an audit: of a sound heap it is yes, if the lengths are exact, or both programs are wrong. */
+static void note_audit(const struct call *c, uint32_t verdict)
+{
+    struct call exact = exact_call(AUDIT);
+    bool shaped = c->memory_bytes == exact.memory_bytes && c->books_words == exact.books_words
+        && c->map_words == exact.map_words;
+    if (sound && verdict != (shaped ? HESKAVERN_AUDIT_YES : HESKAVERN_AUDIT_SHAPE)) {
+        printf("bench/verify: the audit gives %u of a sound heap\n", verdict);
+        exit(1);
+    }
+    met->verdicts[verdict]++;
+}
+
 /* Keeps what is held by the answers of the call. */
 static void note(const struct call *c, heskavern_answer a)
 {
     bool moved = c->kind == RESIZE && a.value != c->x;
     if (c->kind == STAND_IN) {
         met->stood_in[a.number]++;
+        return;
+    }
+    if (c->kind == AUDIT) {
+        note_audit(c, a.number);
         return;
     }
     met->numbers[a.number]++;
@@ -581,25 +615,46 @@ static void note(const struct call *c, heskavern_answer a)
         held[held_count++] = a.value;
 }
 
+/* A sound heap is spoilt in one place, if it has such a one: both audits give the rule that this breaks. Then it is as
+ * it was, which the checks' heap still is. */
+static bool compare_spoilt(void)
+{
+    const size_t i = below(SPOILS);
+    const struct call c = exact_call(AUDIT);
+    const struct sound_heap heap = {library.memory, library.books, library.map, arenas, pools};
+    size_t link = 0;
+    if (!spoil(&heap, &spoils[i], &link))
+        return true;
+    uint32_t x = by_library(&library, &c).number, y = by_checks(&library, &c).number;
+    memcpy(library.memory + link, checks.memory + link, 4);
+    memcpy(library.books, checks.books, sizeof library.books);
+    memcpy(library.map, checks.map, sizeof library.map);
+    met->spoilt[i]++;
+    met->verdicts[x]++;
+    if (x == spoils[i].rule && y == x)
+        return true;
+    printf("bench/verify: %s is spoilt, A = %zu, P = %zu: the library gives %u, checks.c %u, and the rule is %u\n",
+           spoils[i].what, arenas, pools, x, y, spoils[i].rule);
+    return false;
+}
+
 /* Up to 400 calls on one heap. Half of the heaps are damaged now and then. */
 static bool compare(unsigned long *calls)
 {
-    fresh();
     bool damaged = below(2) == 0;
+    fresh(!damaged && below(2) == 0);
     unsigned long last = *calls > 400 ? *calls - 400 : 0;
-    struct call c = {.kind = FORMAT,
-                     .memory_bytes = arenas * pools * 4096,
-                     .books_words = 72 + 8 * arenas + 8 * arenas * pools,
-                     .map_words = 8 * arenas * pools,
-                     .x = arenas,
-                     .y = pools,
-                     .z = below(2)};
+    struct call c = exact_call(FORMAT);
+    c.x = arenas, c.y = pools, c.z = below(2);
     for (; *calls > last; --*calls, c = random_call()) {
         heskavern_answer x = by_library(&library, &c), y = by_checks(&checks, &c);
         if (!same(&c, x, y))
             return false;
         met = &met_in[library.books[EDITION] == HESKAVERN_SIXTEEN];
         note(&c, x);
+        just_damaged = false;
+        if (sound && below(8) == 0 && !compare_spoilt())
+            return false;
         if (damaged && below(16) == 0)
             damage();
         if (damaged && below(1000) == 0)
@@ -658,6 +713,24 @@ static bool say_walks(void)
     return all;
 }
 
+/* Says what was met of audits, and whether all of it was. */
+static bool say_audits(void)
+{
+    bool all = true;
+    printf("  audits, by what they give, 0 to 9:");
+    for (size_t i = 0; i < VERDICTS; i++) {
+        printf(" %lu", met->verdicts[i]);
+        all &= met->verdicts[i] != 0;
+    }
+    printf("\n  audits of a sound heap with one thing spoilt");
+    for (size_t i = 0; i < SPOILS; i++) {
+        printf("\n    %u, %s: %lu", spoils[i].rule, spoils[i].what, met->spoilt[i]);
+        all &= met->spoilt[i] != 0;
+    }
+    printf("\n");
+    return all;
+}
+
 /* Says what was met in an edition, and whether all of it was. */
 static bool say_met(size_t edition)
 {
@@ -674,6 +747,7 @@ static bool say_met(size_t edition)
            phrases);
     all &= say_reasons();
     all &= say_walks();
+    all &= say_audits();
     return say_rolls() && all;
 }
 

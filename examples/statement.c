@@ -1,6 +1,6 @@
 /* A talking statement keeps each text in a block. The block of the word "owed" is given back twice: the second time
    is refused with 10, a dead block, and while the block is not out a stand-in is spoken for it. Then the payee's name
-   gets a block of its own, and the roll call says what every block that is out holds.
+   gets a block of its own, the roll call says what every block that is out holds, and the audit that all is in order.
 
    gcc -Iinclude examples/statement.c target/staticlib/libheskavern.a -o target/statement && target/statement */
 #include <stdio.h>
@@ -64,5 +64,10 @@ int main(void)
         printf("roll call: %u, %u bytes, \"%.*s\"\n", roll[2 * i], roll[2 * i + 1],
                (int)part.size, (const char *)part.bytes);
     }
+    uint32_t broken = heskavern_audit(HEAP);
+    if (broken == HESKAVERN_AUDIT_YES)
+        printf("audit: yes\n");
+    else
+        printf("audit: rule %u is broken\n", broken);
     return 0;
 }

@@ -6,19 +6,20 @@ a pointer and its length in elements: memory, which holds the blocks, books and 
 macros below; HESKAVERN_LENT makes all six arguments. A block is known by its offset in memory. A heap is of edition
 eight or sixteen: format is told which, and every other call reads it off the books.
 
-Every call answers a number and a value, but for view and the stand-in, which hand back a part. The number is 0 when it
-is done, and otherwise says why it is refused. A refusal has value 0 and leaves every byte and word as it was, but for
-the half-done resize. Any lengths, any contents of the buffers and any arguments get their number: that is proved of the
-source, and so is that a call always returns and touches nothing but the buffers. (View and the stand-in are lines of
-this header over view_size.) No call allocates or makes a system call.
+Every call answers a number and a value, but for view and the stand-in, which hand back a part, and the audit, which
+answers yes or the rule that is broken. The number is 0 when it is done, and otherwise says why it is refused. A refusal
+has value 0 and leaves every byte and word as it was, but for the half-done resize. Any lengths, any contents of the
+buffers and any arguments get their number: that is proved of the source, and so is that a call always returns and
+touches nothing but the buffers. (View and the stand-in are lines of this header over view_size.) No call allocates or
+makes a system call.
 
 What the caller owes, and no call can test:
 - Each pointer is valid for its length and aligned for its type. It is not null, even where the length is 0.
 - A buffer that a call may write, one whose pointer is not const, overlaps no other buffer of that call. That goes for
   text and roll too.
 - During a call no other thread writes these buffers, or reads one that is not const.
-- There are 512 bytes of stack for the call, and for format what memset takes besides. (Where it is bound lazily, its
-  first call is the dynamic linker's and takes some thousands.)
+- There are 512 bytes of stack for the call, and 8,192 for the audit; and for format and the audit what memset takes
+  besides. (Where it is bound lazily, its first call is the dynamic linker's and takes some thousands.)
 Between calls, books and map are not yours to write, and of memory only the blocks that you hold. Keep to that from
 format on, and no block is handed out twice and no call gives 6. After any other write every call is still safe and
 still answers by its rules, but it may meet damage and give 6, or hand out what is in use.
@@ -48,10 +49,12 @@ What is good to know:
   and round up: the sum is the pools that are always enough. (A resize that moves holds both blocks for a moment: count
   one text more of the new size.) 300 texts of 1 to 24 bytes and 20 of 500 want 1 + 2 + 2 + 3 pools, and in edition
   sixteen 2 + 3 + 3: A = 1, P = 8.
-- After a 6 something other than this heap's own calls has written to books, map or a block that is not out. Ask for
-  nothing more: copy the texts out by roll call and view, and format anew. Those never give 6; they go by the map and
-  the pools' classes, and show what stands there, whoever wrote it. The call that gave 6 wrote nothing, unless it is a
-  resize with a value.
+- After a 6 something other than this heap's own calls has written to books, map or a block that is not out. The call
+  wrote nothing, unless it is a resize with a value, which has moved the text; where it wrote nothing, the audit names
+  the first rule that is broken. Ask for nothing more: copy the texts out by roll call and view, and format anew. Those
+  never give 6; they go by the map and the pools' classes, and show what stands there, whoever wrote it.
+- A damaged heap may give no 6 for long: no call but the audit looks at all of it. So audit one that comes from
+  elsewhere, as a saved one, before you go on with it.
 
 Example:
     #include "heskavern.h"
@@ -107,6 +110,24 @@ enum {
     HESKAVERN_DAMAGED = 6,      /* books damaged; see resize for its one answer with a value */
     HESKAVERN_DOES_NOT_FIT = 7, /* text longer than its block, or fewer than two roll words for each live block */
     HESKAVERN_DEAD_BLOCK = 10   /* a block that is not live: it was given back, or never handed out */
+};
+
+/* What the audit answers: yes, or the first rule that is broken. A carved pool lies below an open arena's mark; it is
+   in use where a bit of it is set, and otherwise freed. */
+enum {
+    HESKAVERN_AUDIT_YES = 0,    /* every rule is kept */
+    HESKAVERN_AUDIT_SHAPE = 1,  /* no 1 or 2: A, P and the edition in range, each lent length exact */
+    HESKAVERN_AUDIT_ZEROS = 2,  /* open 0 or 1; words 69 to 71, an arena record's last two and a pool record's last 0 */
+    HESKAVERN_AUDIT_CLOSED = 3, /* each closed arena's record 0 but for its links */
+    HESKAVERN_AUDIT_OPEN = 4,   /* each open arena's carve mark 1 to P, its free pools equal to its pools not in use */
+    HESKAVERN_AUDIT_BITS = 5,   /* no set bit in a pool not carved, or at no block of its class */
+    HESKAVERN_AUDIT_LISTS = 6,  /* each list just its members, once, its links matching; those of full pools and of
+                                   open arenas without free pools 0 */
+    HESKAVERN_AUDIT_COUNTS = 7, /* each pool's count equal to its set bits */
+    HESKAVERN_AUDIT_BLOCKS = 8, /* each carved pool of a class, or freed and unset; its last start and nextoffset right,
+                                   each block just one of live, on the freed chain and virgin, once, and on the chain
+                                   two at least if it is freed, one unless it is full */
+    HESKAVERN_AUDIT_ORDER = 9   /* the usable list rising by free pools */
 };
 
 /* The largest size that can be asked for. */
@@ -215,6 +236,17 @@ HESKAVERN_MUST_USE heskavern_answer heskavern_write(
 HESKAVERN_MUST_USE heskavern_answer heskavern_roll_call(
     const uint8_t *memory, size_t memory_bytes, const uint32_t *books, size_t books_words, const uint64_t *map,
     size_t map_words, uint32_t *roll, size_t roll_words) HESKAVERN_NOEXCEPT;
+
+/* Audit: whether the heap keeps the nine rules above. Answers 0, HESKAVERN_AUDIT_YES, or the number, 1 to 9, of the
+   first rule that is broken: the lowest one, anywhere in the heap. It never refuses: rule 1 is what 1 and 2 of the
+   other calls say. Writes nothing. It reads books and map and, of memory, the links of freed blocks.
+   On every heap that is kept as said above it is yes. After a yes no call gives 6, and after any call it is yes again,
+   until somebody else writes to books, map or a block that is not out. A no of another rule than 1 says that
+   somebody did: see "After a 6". (But rule 9 alone is broken, too, of a heap that was saved before the usable list had
+   an order: every call goes on with that one.) */
+HESKAVERN_MUST_USE uint32_t heskavern_audit(
+    const uint8_t *memory, size_t memory_bytes, const uint32_t *books, size_t books_words, const uint64_t *map,
+    size_t map_words) HESKAVERN_NOEXCEPT;
 
 /* Stand-in: the live block's own part of memory, the whole block; where view_size refuses, the phrase itself, all of
    it. So, on a heap that is kept as said above, a block that is not out is never read out: its offset speaks the

@@ -42,8 +42,8 @@ int main(void)
         && noexcept(heskavern_give_back(HEAP, 48)) && noexcept(heskavern_resize(HEAP, 48, 100))
         && noexcept(heskavern_view_size(HEAP, 48)) && noexcept(heskavern_view(HEAP, 48))
         && noexcept(heskavern_stand_in(HEAP, 48, "no", 2))
-        && noexcept(heskavern_write(HEAP, 48, "owed", 4)) && noexcept(heskavern_roll_call(HEAP, roll, 2)),
-        "no call throws");
+        && noexcept(heskavern_write(HEAP, 48, "owed", 4)) && noexcept(heskavern_roll_call(HEAP, roll, 2))
+        && noexcept(heskavern_audit(HEAP)), "no call throws");
 #endif
     EXPECT(heskavern_format(HEAP, A, P, HESKAVERN_EIGHT).number == HESKAVERN_DONE);
     EXPECT(heskavern_view_size(HEAP, 48).number == HESKAVERN_NO_BLOCK);
@@ -56,6 +56,7 @@ int main(void)
     part = heskavern_view(HEAP, moved.value);
     EXPECT(part.size == 104 && memcmp(part.bytes, "owed", 4) == 0);
     EXPECT(heskavern_roll_call(HEAP, roll, 2).value == 1);
+    EXPECT(heskavern_audit(HEAP) == HESKAVERN_AUDIT_YES);
     EXPECT(roll[0] == moved.value && roll[1] == part.size);
     (void)heskavern_give_back(HEAP, moved.value);
     EXPECT(heskavern_give_back(HEAP, moved.value).number == HESKAVERN_NO_BLOCK);

@@ -18,4 +18,5 @@ void ignores_all(uint8_t *memory, uint32_t *books, uint64_t *map, uint32_t *roll
     IGNORED heskavern_view_size(HEAP, 48);
     IGNORED heskavern_write(HEAP, 48, "owed", 4);
     IGNORED heskavern_roll_call(HEAP, roll, 2);
+    IGNORED heskavern_audit(HEAP);
 }

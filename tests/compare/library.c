@@ -1,5 +1,6 @@
 /* Replays 01's records through the C library, for a heap of any shape and edition: library A P EDITION < records
- * > replies. The records are whole and well made: bad ones are the replay program's own business. */
+ * > replies. The records are whole and well made: bad ones are the replay program's own business. After every record,
+ * or where the heap is large after some, the audit must say yes. */
 #include "../../include/heskavern.h"
 #include "../source/bytes.h"
 
@@ -8,6 +9,7 @@
 
 enum { RECORD = 16, ASK = 1, GIVE_BACK = 2 };
 enum { MOST = 16 * 64 };
+enum { SMALL = 16 };    /* pools; the time of an audit grows with them, and it is made as much more seldom */
 
 static uint8_t memory[HESKAVERN_MEMORY_BYTES(1, MOST)];
 static uint32_t books[HESKAVERN_BOOKS_WORDS(16, 64)];
@@ -36,10 +38,20 @@ static void answer(const unsigned char *record, unsigned char *reply, uint32_t *
     put32(reply + 12, *live);
 }
 
+/* Says that the audit gives a rule after so many records; whether it does. */
+static int broken(unsigned long records)
+{
+    uint32_t rule = heskavern_audit(HEAP);
+    if (rule != HESKAVERN_AUDIT_YES)
+        fprintf(stderr, "the audit gives %u after %lu records\n", rule, records);
+    return rule != HESKAVERN_AUDIT_YES;
+}
+
 int main(int argc, char **argv)
 {
     unsigned char record[RECORD], reply[RECORD];
     uint32_t live = 0;
+    unsigned long records = 0;
     arenas = argc == 4 ? strtoul(argv[1], NULL, 10) : 0;
     pools = argc == 4 ? strtoul(argv[2], NULL, 10) : 0;
     size_t edition = argc == 4 ? strtoul(argv[3], NULL, 10) : 0;
@@ -47,9 +59,12 @@ int main(int argc, char **argv)
         fputs("usage: library A P EDITION, A from 1 to 16, P from 2 to 64, EDITION 0 or 1\n", stderr);
         return 2;
     }
+    size_t each = arenas * pools > SMALL ? arenas * pools / SMALL : 1;
     while (fread(record, 1, RECORD, stdin) == RECORD) {
         answer(record, reply, &live);
         fwrite(reply, 1, RECORD, stdout);
+        if (++records % each == 0 && broken(records))
+            return 1;
     }
     return fflush(stdout) == 0 ? 0 : 1;
 }

@@ -3,8 +3,8 @@
 A depth is counted in bytes down from where the stack pointer stands before a call, so it is 8 at a function's first
 instruction: the return address. The flow is followed from there, over jumps and jump tables. Every instruction must be
 reached, and at one depth. Code may use places below the stack pointer (the red zone of this machine's convention), and
-they count. A place that is reached through a register which holds an address on the stack is taken to lie at that
-address or above it. What is not understood is a Fault: nothing is guessed.
+they count. A place that is reached through a register which holds an address on the stack, or by an index from one, is
+taken to lie at that address or above it. What is not understood is a Fault: nothing is guessed.
 """
 import re, subprocess
 
@@ -13,7 +13,7 @@ PADDING = re.compile(r'(data16 |cs )*nop[wl]?\b|xchg +%ax,%ax|int3')
 PREFIX = re.compile(r'(notrack|bnd|rep[nz]*|lock) +')
 SUFFIX = re.compile(r'(push|pop|call|ret|jmp)q\b')  # as older disassemblers write them
 POINTER = re.compile(r'%(rsp|esp|spl?)\b')
-PLACE = re.compile(r'(-?0x[0-9a-f]+|)\(%rsp\)')
+PLACE = re.compile(r'(-?0x[0-9a-f]+|)\(%rsp(?:,%\w+,[1248])?\)')
 # what push and pop move as eight bytes: a whole register, a number, a place
 EIGHT = re.compile(r'%r(\d+|[a-d]x|[sd]i|bp)|\$0x[0-9a-f]+|.*\(.*\)')
 # what else moves the stack pointer or the flow

@@ -84,8 +84,9 @@ static struct call {
     {"heskavern_write", heskavern_write, 0},
     {"heskavern_view_size", heskavern_view_size, 0},
     {"heskavern_roll_call", heskavern_roll_call, 0},
+    {"heskavern_audit", heskavern_audit, 0},
 };
-enum { FORMAT, ASK, GIVE_BACK, RESIZE, WRITE, VIEW_SIZE, ROLL_CALL, CALLS };
+enum { FORMAT, ASK, GIVE_BACK, RESIZE, WRITE, VIEW_SIZE, ROLL_CALL, AUDIT, CALLS };
 
 static heskavern_answer call(int which, uint64_t seventh, uint64_t eighth, uint64_t ninth)
 {
@@ -131,8 +132,8 @@ static void damage(void)
 /* One call, mostly on an offset that was answered, and with sizes that soon fill a pool. */
 static void step(void)
 {
-    static const int turns[] = {ASK,    ASK,    ASK,   ASK,       GIVE_BACK, GIVE_BACK, GIVE_BACK,
-                                RESIZE, RESIZE, WRITE, VIEW_SIZE, ROLL_CALL};
+    static const int turns[] = {ASK,    ASK,   ASK,       ASK,       GIVE_BACK, GIVE_BACK, GIVE_BACK, RESIZE,
+                                RESIZE, WRITE, VIEW_SIZE, ROLL_CALL, AUDIT};
     int which = turns[below(sizeof turns / sizeof *turns)];
     uint32_t *place = &kept[below(KEPT)], end = (uint32_t)HESKAVERN_MEMORY_BYTES(arenas, pools);
     uint32_t offset = below(16) ? *place : 8 * below(end / 8 + 2);

@@ -174,13 +174,13 @@ def theorems():
 
 @functools.cache
 def rows():
-    """The rows of the five tables: of damaged books and of the order those in the list that the theorem speaks of, K1
-    to K10, S1 to S15, and the replays."""
+    """The rows of the six tables: of damaged books, of the order and of the audit those in the lists that the theorem
+    speaks of, K1 to K10, S1 to S17, and the replays."""
     found = {'replays'}
-    for file in ('Damaged', 'Order'):
+    for file in ('Damaged', 'Order', 'Audits'):
         text = read(f'{RULES}/{file}.antt')
-        listed = re.search(r'^Holds m b k = T \(every (\w+) ', text, re.M).group(1)
-        found.update(re.findall(r'\w+', re.search(rf'^{listed} =\n(.*?)∷ \[\]\n\n', text, re.M | re.S).group(1)))
+        for listed in re.findall(r'^\w+ m b k = T \(every (\w+) ', text, re.M):
+            found.update(re.findall(r'\w+', re.search(rf'^{listed} =\n(.*?)∷ \[\]\n\n', text, re.M | re.S).group(1)))
     for file in ('Cases', 'Sixteen'):
         found.update(re.findall(r'-- ([KS]\d+):', read(f'{RULES}/{file}.antt')))
     return found

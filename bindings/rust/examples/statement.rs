@@ -1,6 +1,6 @@
 //! A talking statement keeps each text in a block. The block of the word "owed" is given back twice: the second time
 //! is refused with 10, a dead block, and while the block is not out a stand-in is spoken for it. Then the payee's name
-//! gets a block of its own, and the roll call says what every block that is out holds.
+//! gets a block of its own, the roll call says what every block that is out holds, and the audit that all is in order.
 //!
 //! cargo run --manifest-path bindings/rust/Cargo.toml --example statement
 
@@ -48,5 +48,6 @@ fn main() -> Result<(), Refusal> {
     for (offset, size) in heap.roll_call(&mut words)? {
         println!("roll call: {offset}, {size} bytes, \"{}\"", text_of(heap.view(offset)?));
     }
+    println!("audit: {}", heap.audit());
     Ok(())
 }

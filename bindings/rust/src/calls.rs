@@ -3,6 +3,7 @@
 //!
 //! Each takes any lengths, any contents of the buffers and any arguments, and answers by its rules:
 //! [`Answer::number`] is 0 when it is done. [`stand_in`] alone hands back a part: it is made here from [`view_size`].
+//! [`audit`] answers a number alone, and refuses nothing.
 //!
 //! ```
 //! use heskavern::calls::{ask, Answer};
@@ -97,6 +98,14 @@ extern "C" {
         roll: *mut u32,
         roll_words: usize,
     ) -> Answer;
+    fn heskavern_audit(
+        memory: *const u8,
+        memory_bytes: usize,
+        books: *const u32,
+        books_words: usize,
+        map: *const u64,
+        map_words: usize,
+    ) -> u32;
 }
 
 /// Format: a fresh heap of A arenas of P pools, of edition eight (0) or sixteen (1); another edition is refused with 1.
@@ -227,4 +236,18 @@ pub fn roll_call(memory: &[u8], books: &[u32], map: &[u64], roll: &mut [u32]) ->
             roll.len(),
         )
     }
+}
+
+/// Audit: 0 for yes, or the number, 1 to 9, of the first rule that is broken ([`Verdict`](crate::Verdict) has the
+/// rules). Rule 1 is what 1 and 2 of the other calls say.
+///
+/// ```
+/// use heskavern::calls::audit;
+/// use heskavern::Verdict;
+/// assert_eq!(Verdict::from(audit(&[], &[], &[])), Verdict::Shape);
+/// ```
+#[must_use = "the heap may be damaged"]
+pub fn audit(memory: &[u8], books: &[u32], map: &[u64]) -> u32 {
+    // SAFETY: see the module.
+    unsafe { heskavern_audit(memory.as_ptr(), memory.len(), books.as_ptr(), books.len(), map.as_ptr(), map.len()) }
 }

@@ -58,9 +58,12 @@
 //!   moment: count one text more of the new size.) 300 texts of 1 to 24 bytes and 20 of 500 want 1 + 2 + 2 + 3 pools in
 //!   edition eight, for 8, 16, 24 and 504, and 2 + 3 + 3 in edition sixteen, for 16, 32 and 512: A = 1 and P = 8.
 //! - After a [`Damaged`](Refusal::Damaged) something other than this heap's own calls has written to books, map or a
-//!   block that is not out. Ask for nothing more: copy the texts out by [`roll_call`](Heap::roll_call) and
-//!   [`view`](Heap::view), and format anew. Those never give it; they go by the map and the pools' classes, and show
-//!   what stands there, whoever wrote it.
+//!   block that is not out. The refused call wrote nothing, but for a resize that says where the text is now, and
+//!   [`audit`](Heap::audit) names the first rule that is broken. Ask for nothing more: copy the texts out by
+//!   [`roll_call`](Heap::roll_call) and [`view`](Heap::view), and format anew. Those never give it; they go by the map
+//!   and the pools' classes, and show what stands there, whoever wrote it.
+//! - A damaged heap may give no `Damaged` for long: no call but the audit looks at all of it. So audit one that comes
+//!   from elsewhere, as a saved one, before you go on with it.
 //!
 //! Without the feature `std`, which is on by default, the crate needs `core` alone; then [`Refusal`] is no
 //! `std::error::Error`.
@@ -78,10 +81,12 @@ pub mod calls;
 mod edition;
 mod refusal;
 mod roll;
+mod verdict;
 
 pub use edition::Edition;
 pub use refusal::Refusal;
 pub use roll::Roll;
+pub use verdict::Verdict;
 
 /// The largest size that can be asked for.
 pub const LARGEST: usize = 512;
@@ -118,7 +123,7 @@ pub const fn roll_words(arenas: usize, pools: usize) -> usize {
 ///
 /// While it stands, nothing else can read or write them. A holder writes to its own block by [`write`](Heap::write)
 /// or [`view_mut`](Heap::view_mut). So, from [`format`](Heap::format) on, a block is never handed out twice and no
-/// call gives 6. Only [`open`](Heap::open) can bring in books that something damaged.
+/// call gives 6. Only [`open`](Heap::open) can bring in books that something damaged; [`audit`](Heap::audit) tells.
 pub struct Heap<'a> {
     // A, P, the edition and the three lengths are good: `format` or `open` has had them tested, and no call writes A, P
     // or the edition thereafter.
@@ -152,7 +157,8 @@ impl<'a> Heap<'a> {
     }
 
     /// A heap that was formatted before, with the blocks that are live in it. Writes nothing. Refused with 1 or 2, by
-    /// the A, P and edition that stand in the books; other damage to them is met by the call that comes upon it.
+    /// the A, P and edition that stand in the books; other damage to them is met by the call that comes upon it, or
+    /// found by the [`audit`](Heap::audit).
     ///
     /// ```
     /// # use heskavern::{books_words, map_words, memory_bytes, Edition, Heap, Refusal};
@@ -342,6 +348,29 @@ impl<'a> Heap<'a> {
     pub fn roll_call<'r>(&self, words: &'r mut [u32]) -> Result<Roll<'r>, Refusal> {
         let live = done(calls::roll_call(self.memory, self.books, self.map, words))?;
         Ok(Roll::new(&words[..2 * live as usize]))
+    }
+
+    /// Audit: whether the heap keeps all its rules, or the first that is broken. Writes nothing, and is never refused.
+    /// On a heap that nothing else has written to it is [`Verdict::Yes`]. After a yes no call gives 6, and after any
+    /// call it is yes again: while the [`Heap`] stands, nothing else can write. (Rule 9 alone, [`Verdict::Order`], is
+    /// broken too of a heap that was saved before the usable list had an order: every call goes on with that one.)
+    ///
+    /// ```
+    /// # use heskavern::{books_words, map_words, memory_bytes, Edition, Heap, Refusal, Verdict};
+    /// # let (mut memory, mut books, mut map) =
+    /// #     ([0; memory_bytes(1, 2)], [0; books_words(1, 2)], [0; map_words(1, 2)]);
+    /// let mut heap = Heap::format(&mut memory, &mut books, &mut map, 1, 2, Edition::Eight)?;
+    /// let word = heap.ask(4)?;
+    /// assert_eq!(heap.audit(), Verdict::Yes);
+    ///
+    /// books[72 + 8] = 0; // the count of the first pool, which has a block that is out
+    /// let mut heap = Heap::open(&mut memory, &mut books, &mut map)?;
+    /// assert_eq!(heap.give_back(word), Err(Refusal::Damaged));
+    /// assert_eq!(heap.audit(), Verdict::Counts);
+    /// # Ok::<(), Refusal>(())
+    /// ```
+    pub fn audit(&self) -> Verdict {
+        Verdict::from(calls::audit(self.memory, self.books, self.map))
     }
 
     /// The size of the live block at an offset.

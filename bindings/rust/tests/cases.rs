@@ -1,10 +1,10 @@
 //! 01's cases, W-203's, W-206's and W-214's through the bindings, at either edition of W-211: what a caller in Rust
-//! gets for each number, and what it can get hold of.
+//! gets for each number, and what it can get hold of. The heaps are audited before and after each call.
 
 mod common;
 
-use common::{at_either_edition, lent, smallest};
-use heskavern::{calls, roll_words, Edition, Heap, Refusal};
+use common::{at_either_edition, lent, smallest, Kept};
+use heskavern::{calls, roll_words, Edition, Refusal};
 
 at_either_edition! {
     blocks_come_back_in_01s_order,
@@ -33,7 +33,7 @@ at_either_edition! {
 /// Every call on the offset is refused with this, whatever the text, and the stand-in is its phrase. Only a bad size
 /// comes before it.
 #[track_caller]
-fn assert_refused(heap: &mut Heap, offset: u32, refusal: Refusal) {
+fn assert_refused(heap: &mut Kept, offset: u32, refusal: Refusal) {
     let phrase = b"this amount can't be read out";
     assert_eq!(heap.give_back(offset), Err(refusal));
     assert_eq!(heap.resize(offset, 0), Err(Refusal::BadSize));

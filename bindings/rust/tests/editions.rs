@@ -31,8 +31,8 @@ fn classes(edition: Edition) -> usize {
     }
 }
 
-/// Every call on these buffers is refused with this number, also where its offset or size would be refused later, and
-/// the stand-in is its phrase. Nothing is written.
+/// Every call on these buffers is refused with this number, also where its offset or size would be refused later, the
+/// stand-in is its phrase, and the audit says rule 1. Nothing is written.
 #[track_caller]
 fn assert_refused(lent: &mut Lent, number: u32) {
     let refused = Answer { number, value: 0 };
@@ -49,6 +49,7 @@ fn assert_refused(lent: &mut Lent, number: u32) {
     let mut roll = [7; 2];
     assert_eq!(calls::roll_call(memory, books, map, &mut roll), refused);
     assert_eq!(roll, [7; 2]);
+    assert_eq!(calls::audit(memory, books, map), 1);
     assert_eq!(lent.open().map(drop).map_err(Refusal::number), Err(number));
     assert!(*lent == before);
 }
@@ -63,7 +64,7 @@ fn the_books_say_the_edition(edition: Edition) -> Result<(), Refusal> {
     assert_eq!(lent.format(1, 2, edition)?.edition(), edition); // format goes by what it is told
     assert_eq!(lent.books[EDITION..72], [word, 0, 0, 0]); // of eight all 0, as before there were editions
     let mut heap = lent.open()?;
-    assert_eq!(format!("{heap:?}"), format!("Heap {{ arenas: 1, pools: 2, edition: {edition:?}, .. }}"));
+    assert_eq!(format!("{:?}", *heap), format!("Heap {{ arenas: 1, pools: 2, edition: {edition:?}, .. }}"));
     let offset = heap.ask(8)?;
     let offset = heap.resize(offset, 100)?;
     heap.give_back(offset)?;

@@ -1,6 +1,8 @@
-//! What the tests share: the buffers that they lend, and a test at either edition.
+//! What the tests share: the buffers that they lend, a heap that is audited before and after each call, and a test at
+//! either edition.
 
-use heskavern::{books_words, map_words, memory_bytes, Edition, Heap, Refusal};
+use heskavern::{books_words, map_words, memory_bytes, Edition, Heap, Refusal, Verdict};
+use std::ops::{Deref, DerefMut};
 
 /// Buffers for A arenas of P pools, which held something else.
 #[derive(Clone, PartialEq)]
@@ -19,12 +21,67 @@ pub fn lent(arenas: usize, pools: usize) -> Lent {
 }
 
 impl Lent {
-    pub fn format(&mut self, arenas: usize, pools: usize, edition: Edition) -> Result<Heap<'_>, Refusal> {
-        Heap::format(&mut self.memory, &mut self.books, &mut self.map, arenas, pools, edition)
+    pub fn format(&mut self, arenas: usize, pools: usize, edition: Edition) -> Result<Kept<'_>, Refusal> {
+        let heap = Heap::format(&mut self.memory, &mut self.books, &mut self.map, arenas, pools, edition)?;
+        assert_eq!(heap.audit(), Verdict::Yes);
+        Ok(Kept(heap))
     }
 
-    pub fn open(&mut self) -> Result<Heap<'_>, Refusal> {
-        Heap::open(&mut self.memory, &mut self.books, &mut self.map)
+    pub fn open(&mut self) -> Result<Kept<'_>, Refusal> {
+        Heap::open(&mut self.memory, &mut self.books, &mut self.map).map(Kept)
+    }
+}
+
+/// A heap of which it is seen, at each call that may write to it: where the audit says yes before, no 6 comes, and it
+/// says yes after it.
+#[derive(Debug)]
+pub struct Kept<'a>(Heap<'a>);
+
+#[allow(dead_code)] // not every file of tests makes every call
+impl<'a> Kept<'a> {
+    #[track_caller]
+    fn kept<T>(&mut self, call: impl FnOnce(&mut Heap<'a>) -> Result<T, Refusal>) -> Result<T, Refusal> {
+        let whole = self.0.audit().is_yes();
+        let answer = call(&mut self.0);
+        if whole {
+            assert!(!matches!(answer, Err(Refusal::Damaged | Refusal::HalfDone(_))), "a 6 after a yes");
+            assert_eq!(self.0.audit(), Verdict::Yes);
+        }
+        answer
+    }
+
+    #[track_caller]
+    pub fn ask(&mut self, size: usize) -> Result<u32, Refusal> {
+        self.kept(|heap| heap.ask(size))
+    }
+
+    #[track_caller]
+    pub fn give_back(&mut self, offset: u32) -> Result<(), Refusal> {
+        self.kept(|heap| heap.give_back(offset))
+    }
+
+    #[track_caller]
+    pub fn resize(&mut self, offset: u32, size: usize) -> Result<u32, Refusal> {
+        self.kept(|heap| heap.resize(offset, size))
+    }
+
+    #[track_caller]
+    pub fn write(&mut self, offset: u32, text: &[u8]) -> Result<(), Refusal> {
+        self.kept(|heap| heap.write(offset, text))
+    }
+}
+
+impl<'a> Deref for Kept<'a> {
+    type Target = Heap<'a>;
+
+    fn deref(&self) -> &Heap<'a> {
+        &self.0
+    }
+}
+
+impl<'a> DerefMut for Kept<'a> {
+    fn deref_mut(&mut self) -> &mut Heap<'a> {
+        &mut self.0
     }
 }
 
