@@ -17,16 +17,8 @@ use Rattle.rules.specs.Audit.{leads, meets, holds, isDead, chained}
 use Rattle.books.specs.Tests.{both}
 use Rattle.sequences.specs.Counting.{many-same}
 
--- ---- tests and counts, from 0 up
+-- ---- counts, from 0 up
 module _ (f : ℕ → Bool) where
-  pub all-none : allBelow f 0 ≡ true
-  unfolding allBelow
-  all-none = refl
-
-  pub all-more : (n : ℕ) → allBelow f (n + 1) ≡ f n && allBelow f n
-  unfolding allBelow
-  all-more n = rw add-one
-
   pub none-counted : howMany f 0 ≡ 0
   unfolding howMany
   none-counted = refl

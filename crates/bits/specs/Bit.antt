@@ -15,11 +15,11 @@ unfolding bit
 no-bit j = rw (zero-div (2 ^ j))
 
 -- ---- digit by digit: bit j + 1 of a word is bit j of its half
-bit-zero : (w : ℕ) → bit w zero ≡ w % 2
+pub bit-zero : (w : ℕ) → bit w zero ≡ w % 2
 unfolding bit
 bit-zero w = omega arith
 
-bit-suc : (w j : ℕ) → bit w (suc j) ≡ bit (w / 2) j
+pub bit-suc : (w j : ℕ) → bit w (suc j) ≡ bit (w / 2) j
 unfolding bit
 bit-suc w j =
     ap (λ (x : ℕ). w / x % 2) (pow-suc 2 j ∙ mul-comm (2 ^ j) 2) ∙ ap (λ (x : ℕ). x % 2) (sym (div-div-eq-div-mul w 2 (2 ^ j)))

@@ -5,12 +5,14 @@
 use mathlib.Core.Path.{_≡_, refl, ap, ap₂, _∙_}
 use mathlib.Core.Logic.{_⊎_, inl, inr}
 use Prim.Native.Nat.{ℕ, zero, suc, _+_, _-_, _*_, _/_, _%_, _^_, _≤_, _<_, min}
-use native.Mathlib.Nat.{mod-one, add-suc, add-zero, mul-one, pow-suc}
+use native.Mathlib.Nat.{not-suc-le-zero, mod-one, add-suc, add-zero, mul-one, pow-suc}
 use native.Mathlib.Numerals.{add-one}
 use native.Mathlib.Omega.{arith}
 use lib.Bits.{bitAnd, and-step, and-self, and-le-r, shifted-half, shifted-even}
 use lib.Pow.{field, mod-mod-pow}
 use lib.Count.{ones, onesIn, ones-step, under, trailingZeros}
+use Rattle.rules.specs.Books.{bit}
+use Rattle.bits.specs.Bit.{bit-zero, bit-suc}
 
 -- the lowest bit is set, or it is not
 pub parity : (w : ℕ) → (w % 2 ≡ 1) ⊎ (w % 2 ≡ 0)
@@ -39,6 +41,28 @@ first-there (suc k) w h l = go (parity w) (first-there k (w / 2))
         → trailingZeros (suc k) w < suc k
     go (inl e) rest = omega (arith, first-odd k w e)
     go (inr e) rest = omega (arith, first-even k w e, rest (omega arith) (omega (arith, pow-suc 2 k)))
+
+-- below it none is set, and it is
+pub none-before : (k w j : ℕ) → j < trailingZeros k w → bit w j ≡ 0
+unfolding trailingZeros
+none-before zero w j h = absurd (not-suc-le-zero h)
+none-before (suc k) w j h = go (parity w) j h (none-before k (w / 2))
+  where
+    go : (w % 2 ≡ 1) ⊎ (w % 2 ≡ 0) → (j : ℕ) → j < trailingZeros (suc k) w
+        → ((i : ℕ) → i < trailingZeros k (w / 2) → bit (w / 2) i ≡ 0) → bit w j ≡ 0
+    go (inl e) j h rest = absurd (omega (arith, first-odd k w e))
+    go (inr e) zero h rest = bit-zero w ∙ e
+    go (inr e) (suc j) h rest = bit-suc w j ∙ rest j (omega (arith, first-even k w e))
+
+pub first-set : (k w : ℕ) → trailingZeros k w < k → bit w (trailingZeros k w) ≡ 1
+first-set zero w h = absurd (not-suc-le-zero h)
+first-set (suc k) w h = go (parity w) (first-set k (w / 2))
+  where
+    go : (w % 2 ≡ 1) ⊎ (w % 2 ≡ 0) → (trailingZeros k (w / 2) < k → bit (w / 2) (trailingZeros k (w / 2)) ≡ 1)
+        → bit w (trailingZeros (suc k) w) ≡ 1
+    go (inl e) rest = ap (bit w) (first-odd k w e) ∙ bit-zero w ∙ e
+    go (inr e) rest =
+        ap (bit w) (first-even k w e) ∙ bit-suc w (trailingZeros k (w / 2)) ∙ rest (omega (arith, first-even k w e))
 
 -- ---- `w & (w - 1)`, the word without its first set bit
 abbrev pub withoutFirst : ℕ → ℕ

@@ -29,6 +29,8 @@ pub const DOES_NOT_FIT: u32 = 7;
 
 pub const DEAD_BLOCK: u32 = 10;
 
+pub const UNEQUAL_SHAPE: u32 = 12;
+
 // So many arenas of so many pools make a heap.
 fn in_range(arenas: usize, pools: usize) -> bool
     ensures { λ r. ⌜ r ≡ inRange arenas pools ⌝ }

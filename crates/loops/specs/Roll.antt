@@ -1,22 +1,24 @@
 -- The roll, pool by pool, and how long it can be.
 -- Assumes nothing.
-use mathlib.Core.Path.{_≡_, refl, ap}
+use mathlib.Core.Path.{_≡_, refl}
 use mathlib.Core.Bool.{Bool, true, false}
 use mathlib.Core.List.{List, [], _∷_, _++_}
-use Prim.Native.Nat.{ℕ, zero, suc, _+_, _*_, _-_, _/_, _≤_, _<_}
+use mathlib.Core.Logic.{_⊎_, inl, inr}
+use Prim.Native.Nat.{ℕ, zero, suc, _+_, _*_, _-_, _/_, _%_, _≤_, _<_}
 use native.Mathlib.Nat.{mul-le-mul}
 use native.Mathlib.Omega.{arith}
 use lib.Dec.{leb}
 use lib.ListN.{length, length-append}
+use borrow.Author.Tests.{leb-true}
 use Rattle.rules.specs.Say.{if_then_else_}
 use Rattle.rules.specs.Books.{isSet, class, poolWord, pool, offsetOf}
-use Rattle.rules.specs.Blocks.{sizeOf, lastClass, startOf, capacity, classAt}
+use Rattle.rules.specs.Blocks.{sizeOf, lastClass, startOf, capacity}
 use Rattle.rules.specs.View.{rollBlocks, rollPool, rollPools}
 use Rattle.loops.specs.Left.{Parts, counted}
 use Rattle.bits.specs.Map.{noneSet, not-set}
 use Rattle.loops.specs.Word.{none-rolled}
 use Rattle.books.specs.Starts.{capacity-le}
-use Rattle.books.specs.Sizes.{Aligned, no-class, a-class}
+use Rattle.books.specs.Sizes.{Aligned, size-low, size-high}
 
 -- pool p has its record in the books of A arenas, and its words in the map
 pub record Stands (A p : ℕ) (b m : List ℕ) : Type 0 where
@@ -44,7 +46,7 @@ unfolding rollPools
 roll-parts al A b m = counted (rollPools al A b m) (λ p n. rollPool al A b m p) (λ p. refl) (λ p n. refl)
 
 -- a pool with no bit set has none, whatever its class
-pub no-bits : (al A : ℕ) (b m : List ℕ) (p : ℕ) → 8 ≤ al → noneSet m p ≡ true → rollPool al A b m p ≡ []
+no-bits : (al A : ℕ) (b m : List ℕ) (p : ℕ) → 8 ≤ al → noneSet m p ≡ true → rollPool al A b m p ≡ []
 unfolding rollPool
 no-bits al A b m p h e =
     let c = pool A b class p in
@@ -57,20 +59,69 @@ no-bits al A b m p h e =
     go true f = f
     go false f = refl
 
--- pool p, of whose class, read at its first byte, s is the size
-module _ {al : ℕ} (L : Aligned al) (A : ℕ) (b m : List ℕ) (p s : ℕ) (e : s ≡ sizeOf al (classAt A b (4096 * p))) where
-  its-class : pool A b class p ≡ classAt A b (4096 * p)
-  its-class = let f : p ≡ 4096 * p / 4096 = omega arith in ap (pool A b class) f
+-- a class's size is a multiple of 8
+pub eights : {al : ℕ} → Aligned al → (c : ℕ) → sizeOf al c % 8 ≡ 0
+eights {al} L c = go (L .is)
+  where
+    go : (al ≡ 8) ⊎ (al ≡ 16) → sizeOf al c % 8 ≡ 0
+    go (inl e) = rw e (omega arith)
+    go (inr e) = rw e (omega arith)
 
-  -- above the largest it has no blocks
-  pub no-size : 512 < s → rollPool al A b m p ≡ []
-  unfolding rollPool
-  no-size h = rw (its-class, no-class L (classAt A b (4096 * p)) (omega (arith, e)))
+-- the size of pool p's blocks, where a bit of it is set and it has a class, and otherwise 0
+unfoldable pub poolSize : ℕ → ℕ → List ℕ → List ℕ → ℕ → ℕ
+poolSize al A b m p =
+    if noneSet m p then 0
+    else if leb (pool A b class p) (lastClass al) then sizeOf al (pool A b class p)
+    else 0
 
-  -- otherwise it has those of that size
-  pub of-size : s ≤ 512 → rollPool al A b m p ≡ rollBlocks m p s 0 (capacity s)
+module _ {al : ℕ} (L : Aligned al) (A : ℕ) (b m : List ℕ) (p : ℕ) where
+  -- why it is 0; what it is otherwise
+  pub unsized : poolSize al A b m p ≡ 0 → (noneSet m p ≡ true) ⊎ (leb (pool A b class p) (lastClass al) ≡ false)
+  unfolding poolSize
+  unsized z = go (noneSet m p) refl (leb (pool A b class p) (lastClass al)) refl z
+    where
+      go : (t : Bool) → noneSet m p ≡ t → (u : Bool) → leb (pool A b class p) (lastClass al) ≡ u
+          → (if t then 0 else if u then sizeOf al (pool A b class p) else 0) ≡ 0
+          → (noneSet m p ≡ true) ⊎ (leb (pool A b class p) (lastClass al) ≡ false)
+      go true e u f z = inl e
+      go false e true f z = absurd (omega (arith, z, size-low L (pool A b class p) (leb-true _ _ f)))
+      go false e false f z = inr f
+
+  pub sized : (poolSize al A b m p ≡ 0 → ⊥)
+      → (leb (pool A b class p) (lastClass al) ≡ true) × (poolSize al A b m p ≡ sizeOf al (pool A b class p))
+  unfolding poolSize
+  sized d = go (noneSet m p) (leb (pool A b class p) (lastClass al)) refl d
+    where
+      go : (t u : Bool) → leb (pool A b class p) (lastClass al) ≡ u
+          → ((if t then 0 else if u then sizeOf al (pool A b class p) else 0) ≡ 0 → ⊥)
+          → (leb (pool A b class p) (lastClass al) ≡ true)
+          × ((if t then 0 else if u then sizeOf al (pool A b class p) else 0) ≡ sizeOf al (pool A b class p))
+      go true u f d = absurd (d refl)
+      go false true f d = (f, refl)
+      go false false f d = absurd (d refl)
+
+  -- then it is a block's size
+  pub size-fits : (poolSize al A b m p ≡ 0 → ⊥)
+      → let s = poolSize al A b m p in (8 ≤ s) × (s ≤ 512) × (s % 8 ≡ 0)
+  size-fits d =
+      let t = sized d in
+      let c = pool A b class p in
+      let l = leb-true c (lastClass al) (t .0) in
+      rw (t .1) (size-low L c l, size-high L c l, eights L c)
+
+  -- the roll by it: a pool where it is 0 has none, and any other the blocks of that size
+  pub no-size : poolSize al A b m p ≡ 0 → rollPool al A b m p ≡ []
   unfolding rollPool
-  of-size h = rw (its-class, a-class L (classAt A b (4096 * p)) (omega (arith, e)), e)
+  no-size z = go (unsized z)
+    where
+      go : (noneSet m p ≡ true) ⊎ (leb (pool A b class p) (lastClass al) ≡ false) → rollPool al A b m p ≡ []
+      go (inl e) = no-bits al A b m p (L .low) e
+      go (inr f) = rw f
+
+  pub of-size : (poolSize al A b m p ≡ 0 → ⊥)
+      → let s = poolSize al A b m p in rollPool al A b m p ≡ rollBlocks m p s 0 (capacity s)
+  unfolding rollPool
+  of-size d = let t = sized d in rw (t .0, t .1)
 
 -- ---- so the roll of n pools has 1,012 words for each of them at most
 module _ (al A : ℕ) (b m : List ℕ) (h : 8 ≤ al) where

@@ -1,4 +1,4 @@
--- The roll of a map word, its blocks from the lowest bit up, and a pool's roll as that of its words.
+-- The set bits of a word, from the lowest up; the roll of a map word, and a pool's roll as that of its words.
 -- Assumes nothing.
 use mathlib.Core.Path.{_≡_, refl, sym, ap, ap₂, _∙_}
 use mathlib.Core.Bool.{false}
@@ -16,6 +16,7 @@ use native.Mathlib.Nat.{
   le-div-iff-mul-le,
   div-lt-iff-lt-mul,
   add-mul-div-right,
+  add-mul,
 }
 use native.Mathlib.Numerals.{add-one}
 use native.Mathlib.Omega.{arith}
@@ -30,73 +31,90 @@ use Rattle.rules.specs.View.{rollBlocks}
 use Rattle.bits.specs.Halves.{parity, first-odd, first-even, withoutFirst, without-odd, without-even}
 use Rattle.loops.specs.Left.{Parts}
 
--- offset and size of each live block among the first n of a word, whose first block is at offset o; the blocks have
--- size s
-unfoldable pub rollWord : ℕ → ℕ → ℕ → ℕ → List ℕ
-rollWord w o s zero = []
-rollWord w o s (suc n) = (if eqb (w % 2) 1 then o ∷ s ∷ [] else []) ++ rollWord (w / 2) (o + s) s n
+-- ---- a word's set bits, from the lowest up: what is said of each among the first n, the lowest being bit j
+unfoldable pub eachBit : (ℕ → List ℕ) → ℕ → ℕ → ℕ → List ℕ
+eachBit said w j zero = []
+eachBit said w j (suc n) = (if eqb (w % 2) 1 then said j else []) ++ eachBit said (w / 2) (suc j) n
 
--- by the word's lowest bit
-module _ (w o s n : ℕ) where
-  odd : w % 2 ≡ 1 → rollWord w o s (suc n) ≡ o ∷ s ∷ rollWord (w / 2) (o + s) s n
-  unfolding rollWord
-  odd e = rw e
+module _ (said : ℕ → List ℕ) where
+  -- by the word's lowest bit
+  odd : (w j n : ℕ) → w % 2 ≡ 1 → eachBit said w j (suc n) ≡ said j ++ eachBit said (w / 2) (suc j) n
+  unfolding eachBit
+  odd w j n e = rw e
 
-  even : w % 2 ≡ 0 → rollWord w o s (suc n) ≡ rollWord (w / 2) (o + s) s n
-  unfolding rollWord
-  even e = rw e
+  even : (w j n : ℕ) → w % 2 ≡ 0 → eachBit said w j (suc n) ≡ eachBit said (w / 2) (suc j) n
+  unfolding eachBit
+  even w j n e = rw e
 
-  twice : {v : ℕ} → v ≡ w * 2 → rollWord v o s (suc n) ≡ rollWord w (o + s) s n
-  unfolding rollWord
-  twice {v} e =
+  twice : (w j n : ℕ) {v : ℕ} → v ≡ w * 2 → eachBit said v j (suc n) ≡ eachBit said w (suc j) n
+  unfolding eachBit
+  twice w j n {v} e =
       let low : v % 2 ≡ 0 = omega arith in
       let half : v / 2 ≡ w = omega arith in
       rw (low, half)
 
--- ---- from set bit to set bit: the first of a word of k bits
--- where it is not among the n blocks, none of them is live
-pub none-live : (k n w o s : ℕ) → n ≤ trailingZeros k w → rollWord w o s n ≡ []
-unfolding rollWord trailingZeros
-none-live k zero w o s h = refl
-none-live zero (suc n) w o s h = absurd (not-suc-le-zero h)
-none-live (suc k) (suc n) w o s h = go (parity w) (none-live k n (w / 2) (o + s) s)
-  where
-    go : (w % 2 ≡ 1) ⊎ (w % 2 ≡ 0) → (n ≤ trailingZeros k (w / 2) → rollWord (w / 2) (o + s) s n ≡ [])
-        → rollWord w o s (suc n) ≡ []
-    go (inl e) rest = absurd (omega (arith, first-odd k w e))
-    go (inr e) rest = even w o s n e ∙ rest (omega (arith, first-even k w e))
+  -- from set bit to set bit: where the first of a word of k bits is not among the n, none of them is set
+  none-from : (k n w j : ℕ) → n ≤ trailingZeros k w → eachBit said w j n ≡ []
+  unfolding eachBit trailingZeros
+  none-from k zero w j h = refl
+  none-from zero (suc n) w j h = absurd (not-suc-le-zero h)
+  none-from (suc k) (suc n) w j h = go (parity w) (none-from k n (w / 2) (suc j))
+    where
+      go : (w % 2 ≡ 1) ⊎ (w % 2 ≡ 0) → (n ≤ trailingZeros k (w / 2) → eachBit said (w / 2) (suc j) n ≡ [])
+          → eachBit said w j (suc n) ≡ []
+      go (inl e) rest = absurd (omega (arith, first-odd k w e))
+      go (inr e) rest = even w j n e ∙ rest (omega (arith, first-even k w e))
 
--- otherwise its block comes first, and then those of the word without it
-pub first-live : (k n w o s : ℕ) → n ≤ k → trailingZeros k w < n
-    → rollWord w o s n ≡ (o + trailingZeros k w * s) ∷ s ∷ rollWord (withoutFirst w) o s n
-first-live k zero w o s l h = absurd (not-suc-le-zero h)
-first-live zero (suc n) w o s l h = absurd (not-suc-le-zero l)
-first-live (suc k) (suc n) w o s l h = go (parity w) (first-live k n (w / 2) (o + s) s (le-of-suc-le-suc l))
-  where
-    go : (w % 2 ≡ 1) ⊎ (w % 2 ≡ 0)
-        → let t = trailingZeros k (w / 2) in
-        (t < n → rollWord (w / 2) (o + s) s n ≡ (o + s + t * s) ∷ s ∷ rollWord (withoutFirst (w / 2)) (o + s) s n)
-        → rollWord w o s (suc n) ≡ (o + trailingZeros (suc k) w * s) ∷ s ∷ rollWord (withoutFirst w) o s (suc n)
-    go (inl e) rest =
-        let place : o ≡ o + trailingZeros (suc k) w * s = rw (first-odd k w e) (omega arith) in
-        odd w o s n e ∙ ap₂ (λ (x : ℕ) (r : List ℕ). x ∷ s ∷ r) place (sym (twice (w / 2) o s n (without-odd w e)))
-    go (inr e) rest =
-        let t = trailingZeros k (w / 2) in
-        let place : o + s + t * s ≡ o + trailingZeros (suc k) w * s = rw (first-even k w e) (omega (arith, suc-mul t s)) in
-        even w o s n e
-        ∙ rest (omega (arith, first-even k w e))
-        ∙ ap₂ (λ (x : ℕ) (r : List ℕ). x ∷ s ∷ r) place (sym (twice (withoutFirst (w / 2)) o s n (without-even w e)))
+  -- otherwise it comes first, and then those of the word without it
+  first-from : (k n w j : ℕ) → n ≤ k → trailingZeros k w < n
+      → eachBit said w j n ≡ said (j + trailingZeros k w) ++ eachBit said (withoutFirst w) j n
+  first-from k zero w j l h = absurd (not-suc-le-zero h)
+  first-from zero (suc n) w j l h = absurd (not-suc-le-zero l)
+  first-from (suc k) (suc n) w j l h = go (parity w) (first-from k n (w / 2) (suc j) (le-of-suc-le-suc l))
+    where
+      go : (w % 2 ≡ 1) ⊎ (w % 2 ≡ 0)
+          → let t = trailingZeros k (w / 2) in
+          (t < n → eachBit said (w / 2) (suc j) n ≡ said (suc j + t) ++ eachBit said (withoutFirst (w / 2)) (suc j) n)
+          → eachBit said w j (suc n) ≡ said (j + trailingZeros (suc k) w) ++ eachBit said (withoutFirst w) j (suc n)
+      go (inl e) rest =
+          let place : j ≡ j + trailingZeros (suc k) w = rw (first-odd k w e) (omega arith) in
+          odd w j n e ∙ ap₂ (λ (x : ℕ) (r : List ℕ). said x ++ r) place (sym (twice (w / 2) j n (without-odd w e)))
+      go (inr e) rest =
+          let t = trailingZeros k (w / 2) in
+          let place : suc j + t ≡ j + trailingZeros (suc k) w = rw (first-even k w e) (omega arith) in
+          even w j n e
+          ∙ rest (omega (arith, first-even k w e))
+          ∙ ap₂ (λ (x : ℕ) (r : List ℕ). said x ++ r) place (sym (twice (withoutFirst (w / 2)) j n (without-even w e)))
+
+  -- both of a whole word, whose lowest bit is bit 0
+  pub none-live : (k n w : ℕ) → n ≤ trailingZeros k w → eachBit said w 0 n ≡ []
+  none-live k n w = none-from k n w 0
+
+  pub first-live : (k n w : ℕ) → n ≤ k → trailingZeros k w < n
+      → eachBit said w 0 n ≡ said (trailingZeros k w) ++ eachBit said (withoutFirst w) 0 n
+  first-live k n w l h = rw zero-add at (first-from k n w 0 l h)
+
+-- ---- a map word's blocks have size s, and the first is at offset o: offset and size of block j
+abbrev pub twoWords : ℕ → ℕ → ℕ → List ℕ
+twoWords o s j = (o + j * s) ∷ s ∷ []
+
+-- of each live block among the first n
+abbrev pub rollWord : ℕ → ℕ → ℕ → ℕ → List ℕ
+rollWord w o s n = eachBit (twoWords o s) w 0 n
 
 -- two roll words for each set bit
-pub length-word : (w o s n : ℕ) → length (rollWord w o s n) ≡ 2 * onesIn n w
-unfolding rollWord onesIn
-length-word w o s zero = refl
-length-word w o s (suc n) = go (parity w) (length-word (w / 2) (o + s) s n)
+length-from : (o s w j n : ℕ) → length (eachBit (twoWords o s) w j n) ≡ 2 * onesIn n w
+unfolding eachBit onesIn
+length-from o s w j zero = refl
+length-from o s w j (suc n) = go (parity w) (length-from o s (w / 2) (suc j) n)
   where
-    go : (w % 2 ≡ 1) ⊎ (w % 2 ≡ 0) → length (rollWord (w / 2) (o + s) s n) ≡ 2 * onesIn n (w / 2)
-        → length (rollWord w o s (suc n)) ≡ 2 * (w % 2 + onesIn n (w / 2))
-    go (inl e) rest = omega (arith, ap length (odd w o s n e))
-    go (inr e) rest = omega (arith, ap length (even w o s n e))
+    go : (w % 2 ≡ 1) ⊎ (w % 2 ≡ 0) → length (eachBit (twoWords o s) (w / 2) (suc j) n) ≡ 2 * onesIn n (w / 2)
+        → length (eachBit (twoWords o s) w j (suc n)) ≡ 2 * (w % 2 + onesIn n (w / 2))
+    go (inl e) rest = omega (arith, ap length (odd (twoWords o s) w j n e))
+    go (inr e) rest = omega (arith, ap length (even (twoWords o s) w j n e))
+
+pub length-word : (w o s n : ℕ) → length (rollWord w o s n) ≡ 2 * onesIn n w
+length-word w o s n = length-from o s w 0 n
 
 -- ---- where a word's blocks end: how many of its 64, of size s and the first at offset o, start at `last` or before it
 abbrev pub upTo : ℕ → ℕ → ℕ → ℕ
@@ -144,8 +162,9 @@ module _ (m : List ℕ) (p s : ℕ) where
 
   -- the n blocks of word i from its bit j on
   from-bit : (i j n : ℕ) → j + n ≤ 64
-      → rollBlocks m p s (64 * i + j) n ≡ rollWord (at m (8 * p + i) / 2 ^ j) (offsetOf p (startOf s (64 * i + j))) s n
-  unfolding rollBlocks rollWord bit
+      → rollBlocks m p s (64 * i + j) n
+      ≡ eachBit (twoWords (offsetOf p (startOf s (64 * i))) s) (at m (8 * p + i) / 2 ^ j) j n
+  unfolding rollBlocks eachBit bit
   from-bit i j zero h = refl
   from-bit i j (suc n) h =
       let w = at m (8 * p + i) in
@@ -154,7 +173,7 @@ module _ (m : List ℕ) (p s : ℕ) where
       let place : k % 64 ≡ j = omega arith in
       let next : suc k ≡ 64 * i + suc j = omega arith in
       let half : w / 2 ^ suc j ≡ w / 2 ^ j / 2 = rw add-one at (sym (shr-shr w j 1)) in
-      let start : offsetOf p (startOf s (64 * i + suc j)) ≡ offsetOf p (startOf s k) + s = rw (← next) (omega (arith, suc-mul k s)) in
+      let start : offsetOf p (startOf s k) ≡ offsetOf p (startOf s (64 * i)) + j * s = omega (arith, add-mul (64 * i) j s) in
       rw (word, place, next, from-bit i (suc j) n (omega arith), half, start)
 
   -- its first n blocks
@@ -166,7 +185,7 @@ module _ (m : List ℕ) (p s : ℕ) where
       rw (none, whole) at (from-bit i 0 n (omega arith))
 
   -- a run of blocks and the run after it
-  split : (k a b : ℕ) → rollBlocks m p s k (a + b) ≡ rollBlocks m p s k a ++ rollBlocks m p s (k + a) b
+  pub split : (k a b : ℕ) → rollBlocks m p s k (a + b) ≡ rollBlocks m p s k a ++ rollBlocks m p s (k + a) b
   unfolding rollBlocks
   split k zero b = rw (zero-add, add-zero)
   split k (suc a) b = rw (suc-add a b, add-suc k a, ← suc-add k a, split (suc k) a b, append-assoc)

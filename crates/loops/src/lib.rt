@@ -17,7 +17,7 @@ ghost use Rattle.rules.specs.View.{rollBlocks, rollPool, rollPools};
 ghost use Rattle.loops.specs.Left.{Stored};
 ghost use Rattle.loops.specs.Fresh.{nextOf};
 ghost use Rattle.loops.specs.Word.{inWord, upTo, rollWord};
-ghost use Rattle.loops.specs.Roll.{Stands};
+ghost use Rattle.loops.specs.Roll.{Stands, poolSize};
 ghost use Rattle.loops.specs.Copy.{Apart};
 
 // ---- format
@@ -115,7 +115,7 @@ pub fn copy_within(memory: &mut [u8], from: usize, to: usize, n: usize)
 
 // Two roll words for each of the most blocks that a pool can hold, 506 of 8 bytes. At sixteen 253 are the most; there
 // too the words that the header's macro says are so many.
-const MOST_WORDS: usize = 1012;
+pub const MOST_WORDS: usize = 1012;
 
 // How many of a pool's blocks have their bits in word i of its map.
 fn in_word(blocks: usize, i: usize) -> usize
@@ -142,16 +142,30 @@ fn count_blocks(map: &[u64], pool: usize, size: usize) -> usize
     words
 }
 
-// How many roll words the live blocks of the pool take.
-fn count_pool(books: &[u32], map: &[u64], arenas: usize, edition: usize, pool: usize) -> usize
+// The size of the pool's blocks, where any of its bits is set and it has a class: otherwise it has no live block, and
+// the answer is 0.
+pub fn pool_size(books: &[u32], map: &[u64], arenas: usize, edition: usize, pool: usize) -> usize
     requires { ⌜ Stands arenas pool (now books) (now map) ⌝ }
-    ensures { λ r. ⌜ r ≡ length (rollPool (alignmentOf edition) arenas (now (books .entry)) (now (map .entry)) pool) ⌝ }
+    ensures { λ r. ⌜ (r ≡ poolSize (alignmentOf edition) arenas (now (books .entry)) (now (map .entry)) pool)
+        × (r ≤ 512) ⌝ }
 {
     if bits::none_set(map, pool) {
         return 0;
     }
     let size = size_at(books, arenas, edition, 4096 * pool);
     if LARGEST < size {
+        return 0;
+    }
+    size
+}
+
+// How many roll words the live blocks of the pool take.
+pub fn count_pool(books: &[u32], map: &[u64], arenas: usize, edition: usize, pool: usize) -> usize
+    requires { ⌜ Stands arenas pool (now books) (now map) ⌝ }
+    ensures { λ r. ⌜ r ≡ length (rollPool (alignmentOf edition) arenas (now (books .entry)) (now (map .entry)) pool) ⌝ }
+{
+    let size = pool_size(books, map, arenas, edition, pool);
+    if size == 0 {
         return 0;
     }
     count_blocks(map, pool, size)
@@ -256,11 +270,8 @@ fn roll_pool(
         (rollPool (alignmentOf edition) arenas (now (books .entry)) (now (map .entry)) pool)
         (now (roll .exit)) r ⌝ }
 {
-    if bits::none_set(map, pool) {
-        return at;
-    }
-    let size = size_at(books, arenas, edition, 4096 * pool);
-    if LARGEST < size {
+    let size = pool_size(books, map, arenas, edition, pool);
+    if size == 0 {
         return at;
     }
     roll_blocks(map, pool, size, roll, at)

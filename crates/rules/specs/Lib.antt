@@ -1,4 +1,5 @@
--- 01 as definitions, in its order, what each call promises, and the five tables that the prover computes about them.
+-- 01 as definitions, in its order, with 02's audit and comparison; what each call promises; and the seven tables that
+-- the prover computes about them.
 pub mod Say
 pub mod Books
 pub mod Blocks
@@ -11,6 +12,7 @@ pub mod Resize
 pub mod View
 pub mod Numbers
 pub mod Audit
+pub mod Compare
 pub mod Promises
 pub mod Replay
 pub mod Whole
@@ -19,5 +21,6 @@ pub mod Cases
 pub mod Damaged
 pub mod Order
 pub mod Audits
+pub mod Compares
 pub mod Sixteen
 pub mod Replays

@@ -4,11 +4,32 @@ use mathlib.Core.Bool.{Bool, true, false, _&&_}
 use mathlib.Core.List.{List, [], _∷_}
 use Prim.Native.Nat.{ℕ, _%_}
 use lib.Dec.{eqb}
+use lib.IntN.{ℤ, pos, negsuc}
+use lib.ListN.{replicate}
 use Rattle.rules.specs.declared.Answer.{Answer}
 use Rattle.rules.specs.declared.Sized.{Sized}
 use Rattle.rules.specs.declared.Rolled.{Rolled}
-use Rattle.rules.specs.Say.{allBelow, howMany}
-use Rattle.rules.specs.Books.{Heap, at, inRange, exact, alignmentOf, bit, putBit, mapWord, putWord, carved}
+use Rattle.rules.specs.Say.{allBelow, howMany, total, listing}
+use Rattle.rules.specs.Books.{
+  Heap,
+  at,
+  inRange,
+  memoryLength,
+  booksLength,
+  mapLength,
+  exact,
+  alignmentOf,
+  onMap,
+  bit,
+  putBit,
+  putMapBit,
+  mapWord,
+  arenas,
+  class,
+  poolWord,
+  putWord,
+  carved,
+}
 use Rattle.rules.specs.Blocks.{isStart, linkAt, putLink, live, isBlock, liveNumber}
 use Rattle.rules.specs.Lists.{leaveBy, joinBy}
 use Rattle.rules.specs.Outcome.{heapOf}
@@ -79,6 +100,20 @@ use Rattle.rules.specs.Audit.{
   audit,
   numberOf,
 }
+use Rattle.rules.specs.Compare.{
+  kindAt,
+  liveInPool,
+  changeFrom,
+  changesFrom,
+  unequalNumber,
+  CompareOutcome,
+  compare,
+}
+
+-- a comparison of two heaps over the lent list w and changes c: it gives number k and n entries, and leaves v and d.
+-- Those of the same two heaps stand together, because the prover then computes once what differs
+pub data Comparison : Type 0 where
+  over : List ℕ → List ℤ → ℕ → ℕ → List ℕ → List ℤ → Comparison  -- w c k n v d
 
 -- a line of a case: a call with its answer, a look, or damage that is done
 pub data Line : Type 0 where
@@ -91,6 +126,7 @@ pub data Line : Type 0 where
   standsIn : ℕ → List ℕ → List ℕ → ℕ → ℕ → Line  -- o t bytes b i: t's stand-in is the bytes at (b, i)
   rolls : List ℕ → ℕ → ℕ → List ℕ → Line  -- w k n v: roll call over w gives k and count n, and leaves v
   audits : ℕ → Line  -- k: the audit gives k
+  compares : (Heap → Heap) → (Heap → Heap) → List Comparison → Line  -- f g cs: of f's heap and g's, each of cs
   has : (Heap → ℕ) → ℕ → Line  -- a number of the heap is as said
   spoil : (Heap → Heap) → Line  -- somebody changes the heap
 
@@ -113,6 +149,11 @@ word= i v = spoil (putWord i v)
 abbrev pub word? : ℕ → ℕ → Line
 word? i v = has (word i) v
 
+-- pool n's class becomes c, and the bits of blocks ks of that pool are set
+abbrev pub holding : ℕ → ℕ → List ℕ → Heap → Heap
+holding n c [] h = putWord (poolWord (arenas h) class n) c h
+holding n c (k ∷ ks) h = onMap (putMapBit n k 1) (holding n c ks h)
+
 -- ---- equal answers, equal lists
 abbrev answers : ℕ → ℕ → Answer → Bool
 answers k o r = eqb (r .number) k && eqb (r .offset) o
@@ -133,6 +174,31 @@ same [] (y ∷ ys) = false
 same (x ∷ xs) [] = false
 same (x ∷ xs) (y ∷ ys) = eqb x y && same xs ys
 
+-- equal changes, and what a comparison leaves
+abbrev isChange : ℤ → ℤ → Bool
+isChange (pos m) (pos n) = eqb m n
+isChange (negsuc m) (negsuc n) = eqb m n
+isChange (pos m) (negsuc n) = false
+isChange (negsuc m) (pos n) = false
+
+abbrev sameChanges : List ℤ → List ℤ → Bool
+sameChanges [] [] = true
+sameChanges [] (y ∷ ys) = false
+sameChanges (x ∷ xs) [] = false
+sameChanges (x ∷ xs) (y ∷ ys) = isChange x y && sameChanges xs ys
+
+abbrev comparedAs : ℕ → ℕ → List ℕ → List ℤ → CompareOutcome → Bool
+comparedAs k n v d r =
+    eqb (r .answer .number) k
+    && eqb (r .answer .entries) n
+    && same (r .listed) v
+    && sameChanges (r .changed) d
+
+abbrev comparesAs : Heap → Heap → List Comparison → Bool
+comparesAs first second [] = true
+comparesAs first second (over w c k n v d ∷ cs) =
+    comparedAs k n v d (compare first second w c) && comparesAs first second cs
+
 -- every line holds, each over the heap that those before it leave
 unfoldable pub runs : List Line → Heap → Bool
 unfolding inRange exact alignmentOf bit putBit carved isStart linkAt putLink live isBlock liveNumber leaveBy joinBy
@@ -143,7 +209,7 @@ unfolding inRange exact alignmentOf bit putBit carved isStart linkAt putLink liv
     format ask giveBack resize view viewSize standIn write rollCall
     allBelow howMany inUse blocksOf hasSpare bitsBelow rule1 arenaKeeps2 rule2 arenaKeeps3 arenaKeeps4 poolKeeps5
     leads meets poolKeeps6 arenaKeeps6 rule6 allElseZero isDead chained isDivided poolKeeps8 arenaKeeps9 auditBy
-    numberOf link bitIn
+    numberOf total listing kindAt liveInPool changeFrom changesFrom unequalNumber compare link bitIn
 runs [] h = true
 runs (formats A P e k ∷ ls) h = answers k 0 (format h A P e .answer) && runs ls (format h A P e .heap)
 runs (asks n k o ∷ ls) h = answers k o (ask h n .answer) && runs ls (ask h n .heap)
@@ -154,6 +220,7 @@ runs (views o k s t ∷ ls) h = sizedAs k s (viewSize h o) && same (view h o) t 
 runs (standsIn o t u b i ∷ ls) h = same (standIn h o t) u && placedAs b i (standInAt h o) && runs ls h
 runs (rolls w k n v ∷ ls) h = rolledAs k n (rollCall h w .answer) && same (rollCall h w .words) v && runs ls h
 runs (audits k ∷ ls) h = eqb (audit h) k && runs ls h
+runs (compares f g cs ∷ ls) h = comparesAs (f h) (g h) cs && runs ls h
 runs (has f v ∷ ls) h = eqb (f h) v && runs ls h
 runs (spoil f ∷ ls) h = runs ls (f h)
 
@@ -166,3 +233,14 @@ every (r ∷ rs) h = runs r h && every rs h
 -- the heap that format leaves of three lent buffers
 abbrev pub fresh : ℕ → ℕ → ℕ → List ℕ → List ℕ → List ℕ → Heap
 fresh A P e m b k = format (heapOf m b k) A P e .heap
+
+-- ---- for comparisons: another heap instead, fresh and of a shape of its own; a lent list of n words, and n changes
+abbrev pub shaped : ℕ → ℕ → ℕ → Heap → Heap
+shaped A P e h =
+    fresh A P e (replicate (memoryLength A P) 7) (replicate (booksLength A P) 7) (replicate (mapLength A P) 7)
+
+abbrev pub words : ℕ → List ℕ
+words n = replicate n 9
+
+abbrev pub room : ℕ → List ℤ
+room n = replicate n (pos 9)

@@ -5,10 +5,12 @@
 use mathlib.Core.Path.{_≡_}
 use mathlib.Core.List.{List}
 use Prim.Native.Nat.{ℕ, _+_}
+use lib.IntN.{ℤ}
 use Rattle.rules.specs.declared.Answer.{Answer}
 use Rattle.rules.specs.declared.Sized.{Sized}
 use Rattle.rules.specs.declared.Rolled.{Rolled}
 use Rattle.rules.specs.declared.Verdict.{Verdict}
+use Rattle.rules.specs.declared.Compared.{Compared}
 use Rattle.rules.specs.Books.{Heap}
 use Rattle.rules.specs.Outcome.{outcome}
 use Rattle.rules.specs.Numbers.{
@@ -26,6 +28,7 @@ use Rattle.rules.specs.Numbers.{
   rollCall,
 }
 use Rattle.rules.specs.Audit.{audit, numberOf}
+use Rattle.rules.specs.Compare.{compareOutcome, compare}
 
 -- what a call answers that is lent buffers to read alone, and the buffers
 infixr 12 _beside_
@@ -80,3 +83,10 @@ ViewPlace found offset memory part = (part .0 ≡ memory .0) × (part .1 ≡ vie
 -- and the stand-in lies where `standInAt` says, by where memory and the phrase are lent
 abbrev pub StandInPlace : Heap → ℕ → ℕ × ℕ → ℕ × ℕ → ℕ × ℕ → Type 0
 StandInPlace found offset memory lent part = part ≡ standInAt found offset memory lent
+
+-- compare: both heaps as it finds and as it leaves them, and so the lent list and changes
+module _ (first firstLeft second secondLeft : Heap) where
+  abbrev pub ComparePromise : List ℕ → List ℕ → List ℤ → List ℤ → Compared → Type 0
+  ComparePromise list listed changes changed answer =
+      compareOutcome (answer .number) (answer .entries) listed changed beside firstLeft beside secondLeft
+      ≡ compare first second list changes beside first beside second

@@ -5,8 +5,11 @@ use mathlib.Core.Path.{_≡_}
 use mathlib.Core.List.{List, [], _∷_, _++_}
 use Prim.Native.Nat.{ℕ, zero, suc, _+_}
 use lib.Dec.{T}
+use lib.IntN.{ℤ, pos, negsuc}
 use lib.ListN.{length, replicate}
+use Rattle.rules.specs.Say.{_▷_}
 use Rattle.rules.specs.Books.{
+  Heap,
   memoryLength,
   booksLength,
   mapLength,
@@ -23,6 +26,7 @@ use Rattle.rules.specs.Books.{
 }
 use Rattle.rules.specs.Blocks.{putLink}
 use Rattle.rules.specs.Lines.{
+  over,
   Line,
   asks,
   gives,
@@ -31,11 +35,16 @@ use Rattle.rules.specs.Lines.{
   views,
   rolls,
   audits,
+  compares,
   has,
   spoil,
   word,
+  holding,
   every,
   fresh,
+  shaped,
+  words,
+  room,
 }
 use Rattle.rules.specs.Whole.{tab, each-three}
 
@@ -47,6 +56,20 @@ pool0 w = poolWord 1 w 0
 abbrev sixteens : ℕ → ℕ → List Line
 sixteens zero o = []
 sixteens (suc n) o = asks 16 0 o ∷ sixteens n (o + 16)
+
+-- the two heaps of S18: bit 253 of blocks of 16 is at none, and class 32 has none
+abbrev oneSide : Heap → Heap
+oneSide h = h ▷ holding 0 0 (0 ∷ []) ▷ holding 1 31 (0 ∷ 6 ∷ [])
+
+abbrev otherSide : Heap → Heap
+otherSide h = h ▷ holding 0 0 (1 ∷ 252 ∷ 253 ∷ []) ▷ holding 1 32 (0 ∷ [])
+
+-- how they differ; in class 0 there is one block more, in class 31 there are two fewer
+abbrev listed : List ℕ
+listed = 48 ∷ 1 ∷ 64 ∷ 2 ∷ 4080 ∷ 2 ∷ 4144 ∷ 1 ∷ 7216 ∷ 1 ∷ []
+
+abbrev changed : List ℤ
+changed = pos 1 ∷ (replicate 30 (pos 0) ++ (negsuc 1 ∷ []))
 
 -- one arena, P = 16, edition sixteen
 abbrev pub cases : List (List Line)
@@ -102,6 +125,10 @@ cases =
     ∷ spoil (putWord (pool0 class) 32) ∷ spoil (putWord (pool0 maxnextoffset) 3568)
     ∷ spoil (putWord (pool0 nextoffset) 1104) ∷ spoil (onMemory (putLink 48 576))
     ∷ spoil (onMemory (putLink 576 0)) ∷ audits 8 ∷ [])
+    -- S18: W-212: 32 changes are enough, 31 are 7, and one past 32 stays; starts at multiples of 16; the last class 31
+    ∷ (spoil (shaped 1 2 1) ∷ compares oneSide otherSide
+    (over (words 10) (room 32) 0 5 listed changed ∷ over (words 10) (room 31) 7 0 (words 10) (room 31)
+    ∷ over (words 10) (room 33) 0 5 listed (changed ++ room 1) ∷ []) ∷ [])
     ∷ []
 
 -- the table holds of a fresh heap over these three buffers

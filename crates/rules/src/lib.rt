@@ -20,6 +20,12 @@ pub struct Rolled {
     pub count: u32,
 }
 
+// Compare: the number and, when done, how many offsets differ, otherwise 0.
+pub struct Compared {
+    pub number: u32,
+    pub entries: u32,
+}
+
 // The audit: yes, or the first broken rule, by what it is about, in the order of their numbers from 1 (`numberOf`).
 pub enum Verdict {
     Yes,

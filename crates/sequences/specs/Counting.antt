@@ -3,9 +3,10 @@
 -- Assumes nothing.
 use mathlib.Core.Path.{_≡_, refl, sym, ap, _∙_}
 use mathlib.Core.Logic.{_≢_}
-use mathlib.Core.Bool.{Bool, true, false, not, false≢true}
+use mathlib.Core.Bool.{Bool, true, false, not, _&&_, false≢true}
 use mathlib.Core.List.{List}
 use Prim.Native.Nat.{ℕ, zero, suc, _+_, _≤_, _<_}
+use native.Mathlib.Numerals.{add-one}
 use native.Mathlib.Decide.{ℕ-discrete}
 use native.Mathlib.Omega.{arith}
 use lib.Dec.{ltb}
@@ -81,6 +82,16 @@ unfolding howMany
 many-le f zero = omega arith
 many-le f (suc n) = omega (arith, one-le (f n), many-le f n)
 
+-- more numbers, no fewer that pass
+pub many-rises : (f : ℕ → Bool) (m n : ℕ) → m ≤ n → howMany f m ≤ howMany f n
+unfolding howMany
+many-rises f m zero l = let z : m ≡ 0 = omega arith in rw z (omega arith)
+many-rises f m (suc n) l = go (ℕ-discrete m (suc n)) (λ u. many-rises f m n u)
+  where
+    go : Dec (m ≡ suc n) → (m ≤ n → howMany f m ≤ howMany f n) → howMany f m ≤ howMany f (suc n)
+    go (yes q) t = rw q (omega arith)
+    go (no q) t = omega (arith, t (omega arith))
+
 -- those that pass and those that fail are all
 pub many-not : (f : ℕ → Bool) (n : ℕ) → howMany f n + howMany (λ k. not (f k)) n ≡ n
 unfolding howMany
@@ -121,6 +132,17 @@ many-has f (suc n) l = go (f n) refl (many-has f n)
     go false e h = up (h (omega (arith, ap one e)))
 
 -- ---- tests that every number below n passes
+-- from 0 up
+module _ (f : ℕ → Bool) where
+  pub all-none : allBelow f 0 ≡ true
+  unfolding allBelow
+  all-none = refl
+
+  pub all-more : (n : ℕ) → allBelow f (n + 1) ≡ f n && allBelow f n
+  unfolding allBelow
+  all-more n = rw add-one
+
+-- each passes, where all do, and the other way
 pub every-is : (f : ℕ → Bool) (n : ℕ) → allBelow f n ≡ true → (k : ℕ) → k < n → f k ≡ true
 unfolding allBelow
 every-is f zero e k l = absurd (omega arith)

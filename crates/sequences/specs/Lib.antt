@@ -8,3 +8,4 @@ pub mod Counting
 pub mod Linked
 pub mod Families
 pub mod Walks
+pub mod Listing

@@ -1,57 +1,46 @@
--- `loops::count_pool` counts the words of its live blocks where the pool has a bit set and a class, and none elsewhere.
+-- `loops::count_pool` counts the words of its live blocks where the pool has a size, and none elsewhere.
 -- Assumes nothing.
-use mathlib.Core.Path.{sym, _∙_}
+use mathlib.Core.Path.{sym, ap, _∙_}
+use Prim.Native.Nat.{ℕ}
+use native.Mathlib.Omega.{arith}
+use lib.ListN.{length}
 use borrow.Author.Needs.{needs}
-use Rattle.rules.specs.Books.{alignmentOf}
+use Rattle.rules.specs.Blocks.{capacity}
+use Rattle.rules.specs.View.{rollBlocks}
 use Rattle.books.specs.Sizes.{aligned}
-use Rattle.loops.specs.Roll.{no-bits, no-size, of-size}
+use Rattle.loops.specs.Roll.{no-size, size-fits, of-size}
 use Rattle.loops.proofs.count_pool.Statement.{statement}
 use Rattle.loops.proofs.count_pool.Tie as tie
 
--- the function's start, seen from its first test; an argument more shifts this line alone
-abbrev start : tie.After-none-set → tie.Start
+-- the function's start, seen from its first call; an argument more shifts this line alone
+abbrev start : tie.After-pool-size → tie.Start
 start c = c .before .before .before
 
-none-set-requires : tie.Need-none-set-requires
-none-set-requires c κs = search needs
+pool-size-requires : tie.Need-pool-size-requires
+pool-size-requires c κs = search needs
 
 returns : tie.Need-returns
 returns c =
     let a = start (c .before) .args in
-    let e = sym (c .before .none-set .ensures) ∙ c .if1 .taken in
-    rw (no-bits (alignmentOf (a .edition)) (a .arenas) (a .books .now) (a .map .now) (a .pool) (aligned (a .edition) .low) e)
+    let z = sym (c .before .pool-size .ensures .0) ∙ c .if1 .taken in
+    rw (no-size (aligned (a .edition)) (a .arenas) (a .books .now) (a .map .now) (a .pool) z)
 
-mul-size-at : tie.Need-mul-size-at
-mul-size-at c = search needs
-
-size-at-requires : tie.Need-size-at-requires
-size-at-requires c κs = search needs
+count-blocks-requires : tie.Need-count-blocks-requires
+count-blocks-requires c κs =
+    let at-size = c .before in
+    let a = start at-size .args in
+    let e = at-size .pool-size .ensures .0 in
+    let fits = size-fits (aligned (a .edition)) (a .arenas) (a .books .now) (a .map .now) (a .pool) (λ z. c .if1 .left (e ∙ z)) in
+    (omega arith, omega (arith, e, fits .0))
 
 returns-2 : tie.Need-returns-2
 returns-2 c =
-    let at-size = c .before in
-    let a = start (at-size .before .before) .args in
-    rw (no-size (aligned (a .edition)) (a .arenas) (a .books .now) (a .map .now) (a .pool) _ (at-size .size-at .ensures .0) (c .if2 .taken))
-
-count-blocks-requires : tie.Need-count-blocks-requires
-count-blocks-requires c κs = search needs
-
-returns-3 : tie.Need-returns-3
-returns-3 c =
-    let at-if2 = c .before in
-    let at-size = at-if2 .before in
-    let a = start (at-size .before .before) .args in
-    rw (of-size (aligned (a .edition)) (a .arenas) (a .books .now) (a .map .now) (a .pool) _ (at-size .size-at .ensures .0) (at-if2 .if2 .left))
-    (c .count-blocks .ensures)
+    let at-size = c .before .before in
+    let a = start at-size .args in
+    let e = at-size .pool-size .ensures .0 in
+    c .count-blocks .ensures
+    ∙ ap (λ (s : ℕ). length (rollBlocks (a .map .now) (a .pool) s 0 (capacity s))) e
+    ∙ sym (ap length (of-size (aligned (a .edition)) (a .arenas) (a .books .now) (a .map .now) (a .pool) (λ z. c .before .if1 .left (e ∙ z))))
 
 pub count-pool-spec : {M : Type 1} → statement M
-count-pool-spec =
-    tie.close
-    (tie.spec
-    none-set-requires
-    returns
-    mul-size-at
-    size-at-requires
-    returns-2
-    count-blocks-requires
-    returns-3)
+count-pool-spec = tie.close (tie.spec pool-size-requires returns count-blocks-requires returns-2)

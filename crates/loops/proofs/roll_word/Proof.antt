@@ -9,7 +9,7 @@ use lib.Count.{trailingZeros, trailing-le, trailing-of-zero}
 use lib.ListN.{length, length-set}
 use Rattle.bits.specs.Halves.{first-there, withoutFirst, without-less}
 use Rattle.loops.specs.Left.{Left, unstored, store, finish, two}
-use Rattle.loops.specs.Word.{rollWord, first-live, none-live, upTo, not-past, past}
+use Rattle.loops.specs.Word.{twoWords, rollWord, first-live, none-live, upTo, not-past, past}
 use Rattle.loops.proofs.roll_word.Statement.{statement}
 use Rattle.loops.proofs.roll_word.Tie as tie
 
@@ -48,7 +48,7 @@ returns c =
     let a = at-loop .before .args in
     let p = at-loop .loop in
     let k = trailingZeros 64 (p .left) in
-    finish (p .inv .0) (none-live 64 (upTo (a .first) (a .size) (a .last)) (p .left) (a .first) (a .size)
+    finish (p .inv .0) (none-live (twoWords (a .first) (a .size)) 64 (upTo (a .first) (a .size) (a .last)) (p .left)
     (past (a .first) (a .size) (a .last) k (omega arith) (omega arith) (omega (arith, c .if1 .taken))))
 
 -- where the code goes on, the first set bit is that of a live block, which comes first of what is left
@@ -63,7 +63,7 @@ live c =
     let a = at-loop .before .args in
     let w = at-loop .loop .left in
     let there = first-there 64 w (omega arith) (omega arith) in
-    first-live 64 (upTo (a .first) (a .size) (a .last)) w (a .first) (a .size) (omega arith)
+    first-live (twoWords (a .first) (a .size)) 64 (upTo (a .first) (a .size) (a .last)) w (omega arith)
     (not-past (a .first) (a .size) (a .last) (trailingZeros 64 w) (omega arith) there (c .if1 .left))
 
 -- and two roll words are left for it
@@ -115,7 +115,7 @@ returns-2 c =
     let a = c .before .before .args in
     let p = c .before .loop in
     let none : trailingZeros 64 (p .left) ≡ 64 = ap (trailingZeros 64) (c .loop-test .left) ∙ trailing-of-zero 64 in
-    finish (p .inv .0) (none-live 64 (upTo (a .first) (a .size) (a .last)) (p .left) (a .first) (a .size) (omega arith))
+    finish (p .inv .0) (none-live (twoWords (a .first) (a .size)) 64 (upTo (a .first) (a .size) (a .last)) (p .left) (omega arith))
 
 pub roll-word-spec : {M : Type 1} → statement M
 roll-word-spec =

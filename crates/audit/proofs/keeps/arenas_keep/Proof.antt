@@ -5,7 +5,7 @@ use mathlib.Core.Bool.{_&&_}
 use Prim.Native.Nat.{_-_, _≤_}
 use native.Mathlib.Omega.{arith}
 use Rattle.rules.specs.Say.{allBelow}
-use Rattle.audit.specs.Turns.{all-none, all-more}
+use Rattle.sequences.specs.Counting.{all-none, all-more}
 use Rattle.audit.specs.Keeps.{arenaKeeps}
 use Rattle.audit.proofs.keeps.arenas_keep.Statement.{statement}
 use Rattle.audit.proofs.keeps.arenas_keep.Tie as tie

@@ -6,7 +6,7 @@ use Prim.Native.Nat.{_-_, _≤_}
 use native.Mathlib.Omega.{arith}
 use Rattle.rules.specs.Say.{allBelow}
 use Rattle.rules.specs.Books.{freedHead, arenaWord}
-use Rattle.audit.specs.Turns.{all-none, all-more}
+use Rattle.sequences.specs.Counting.{all-none, all-more}
 use Rattle.audit.specs.Lists.{listHolds}
 use Rattle.audit.proofs.keeps.freed_lists.Statement.{statement}
 use Rattle.audit.proofs.keeps.freed_lists.Tie as tie
