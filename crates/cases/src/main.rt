@@ -1,5 +1,5 @@
-// Runs 01's "Cases on each side" and cases of 02's W-201, W-206, W-211 and W-214, a line for each: the calls of the
-// case in order, with what each answered.
+// Runs 01's "Cases on each side" and cases of 02's W-201, W-206, W-211, W-212 and W-214, a line for each: the calls of
+// the case in order, with what each answered.
 use books::words::CLASS;
 use books::words::EIGHT;
 use books::words::FREEBLOCK;
@@ -155,6 +155,49 @@ fn roll_call(memory: &[u8], books: &[u32], map: &[u64], words: &mut [u32]) {
     text(b" [");
     print_words(words);
     text(b" ]");
+}
+
+// The change of a class, where it is one block or none.
+fn changed(change: i32) {
+    if change == 1 {
+        text(b", one more");
+    } else if change == -1 {
+        text(b", one fewer");
+    } else if change == 0 {
+        text(b", as many");
+    }
+}
+
+// A comparison of two heaps over the words, all of them as it leaves them, and the change of the smallest blocks.
+fn compared(
+    memory: &[u8],
+    books: &[u32],
+    map: &[u64],
+    memory2: &[u8],
+    books2: &[u32],
+    map2: &[u64],
+    words: &mut [u32],
+) {
+    let mut changes: [i32; 64] = [0; 64];
+    let c = compare::compare(
+        memory,
+        books,
+        map,
+        memory2,
+        books2,
+        map2,
+        words,
+        &mut changes,
+    );
+    text(b"; compare into ");
+    number(words.len());
+    text(b" words");
+    answered(c.number, c.entries);
+    text(b" [");
+    print_words(words);
+    text(b" ]");
+    let change = changes[0];
+    changed(change);
 }
 
 // So many asks: how many of them were served.
@@ -441,6 +484,29 @@ fn audits(memory: &mut [u8; 8192], books: &mut [u32; 96], map: &mut [u64; 16], e
     text(b"\n");
 }
 
+// A block has other bytes in the second heap, and one is live there alone; the two exchanged; room for one word less;
+// and a heap beside itself.
+fn compares(edition: usize) {
+    let mut memory = [0u8; 8192];
+    let mut books = [0u32; 96];
+    let mut map = [0u64; 16];
+    let mut memory2 = [0u8; 8192];
+    let mut books2 = [0u32; 96];
+    let mut map2 = [0u64; 16];
+    format(b"Compares", &memory, &mut books, &mut map, 2, edition);
+    ask(&mut memory, &mut books, &mut map, 4);
+    write(&mut memory, &books, &map, 48, b"owed");
+    format(b"; beside", &memory2, &mut books2, &mut map2, 2, edition);
+    ask(&mut memory2, &mut books2, &mut map2, 4);
+    write(&mut memory2, &books2, &map2, 48, b"Moss");
+    ask(&mut memory2, &mut books2, &mut map2, 4);
+    compared(&memory, &books, &map, &memory2, &books2, &map2, &mut [9; 5]);
+    compared(&memory2, &books2, &map2, &memory, &books, &map, &mut [9; 5]);
+    compared(&memory, &books, &map, &memory2, &books2, &map2, &mut [9; 3]);
+    compared(&memory, &books, &map, &memory, &books, &map, &mut [9; 1]);
+    text(b"\n");
+}
+
 // There is no third edition.
 fn no_edition(memory: &mut Memory, books: &mut Books, map: &mut Map) {
     format(b"No edition", memory, books, map, 16, 2);
@@ -485,6 +551,8 @@ fn of_2_pools() {
     fill_by_smallest(&mut memory, &mut books, &mut map, b"Asks of 16", SIXTEEN);
     audits(&mut memory, &mut books, &mut map, EIGHT);
     audits(&mut memory, &mut books, &mut map, SIXTEEN);
+    compares(EIGHT);
+    compares(SIXTEEN);
 }
 
 fn main() {

@@ -1,10 +1,12 @@
--- The answer in the layout of C, read as crate heap's.
+-- The answer in the layout of C, read as that of crates heap and compare.
 -- Assumes nothing.
 use Rattle.rules.specs.declared.Answer.{Answer}
 use Rattle.rules.specs.declared.Sized.{Sized}
 use Rattle.rules.specs.declared.Rolled.{Rolled}
+use Rattle.rules.specs.declared.Compared.{Compared}
 use Rattle.rules.specs.Outcome.{answerOf}
 use Rattle.rules.specs.Numbers.{rolledOf, sizedOf}
+use Rattle.rules.specs.Compare.{comparedOf}
 use Rattle.heskavern.specs.declared.HeskavernAnswer.{HeskavernAnswer}
 
 -- of format, ask, give back, resize and write
@@ -18,3 +20,7 @@ sizedIn r = sizedOf (r .number) (r .value)
 -- of roll call
 abbrev pub rolledIn : HeskavernAnswer → Rolled
 rolledIn r = rolledOf (r .number) (r .value)
+
+-- of compare
+abbrev pub comparedIn : HeskavernAnswer → Compared
+comparedIn r = comparedOf (r .number) (r .value)

@@ -4,9 +4,11 @@
 use mathlib.Core.Path.{_≡_, ap}
 use mathlib.Core.List.{List}
 use Prim.Native.Nat.{ℕ}
+use lib.IntN.{ℤ}
 use Rattle.rules.specs.declared.Answer.{Answer}
 use Rattle.rules.specs.declared.Sized.{Sized}
 use Rattle.rules.specs.declared.Rolled.{Rolled}
+use Rattle.rules.specs.declared.Compared.{Compared}
 use Rattle.rules.specs.Books.{Heap}
 use Rattle.rules.specs.Promises.{
   FormatPromise,
@@ -17,11 +19,13 @@ use Rattle.rules.specs.Promises.{
   WritePromise,
   RollCallPromise,
   AuditNumberPromise,
+  ComparePromise,
 }
 use Rattle.heap.specs.Unique as H
 use Rattle.audit.specs.Unique as A
+use Rattle.compare.specs.Unique as C
 use Rattle.heskavern.specs.declared.HeskavernAnswer.{HeskavernAnswer}
-use Rattle.heskavern.specs.Answers.{answerIn, sizedIn, rolledIn}
+use Rattle.heskavern.specs.Answers.{answerIn, sizedIn, rolledIn, comparedIn}
 
 -- h is the heap that the call finds; g and k are what two runs of it leave, r and s what they answer
 module _ (h g k : Heap) (r s : HeskavernAnswer) where
@@ -68,3 +72,12 @@ module _ (h g k : Heap) (r s : HeskavernAnswer) where
 -- the audit answers a number alone
 pub audit-one : (h g k : Heap) (m n : ℕ) → AuditNumberPromise h g m → AuditNumberPromise h k n → (m ≡ n) × (g ≡ k)
 audit-one = A.audit-number-one
+
+-- compare leaves both heaps, and the lent list and changes
+pub compare-one : (first second f g s t : Heap) (list u v : List ℕ) (lent c d : List ℤ) (q r : HeskavernAnswer)
+    → ComparePromise first f second s list u lent c (comparedIn q)
+    → ComparePromise first g second t list v lent d (comparedIn r)
+    → (q ≡ r) × (u ≡ v) × (c ≡ d) × (f ≡ g) × (s ≡ t)
+compare-one first second f g s t list u v lent c d q r e h =
+    let p = C.compare-one first second f g s t list u v lent c d (comparedIn q) (comparedIn r) e h in
+    (ap (λ (x : Compared). record { number = x .number; value = x .entries }) (p .0), p .1, p .2, p .3, p .4)

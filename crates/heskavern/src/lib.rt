@@ -1,7 +1,7 @@
-// The calls of 01, and 02's audit, for C and Rust: the calls of crates heap and audit under names that the archive
-// exports, each with the promise of the call that it passes on. include/heskavern.h declares them. A slice is a pointer
-// and its length in elements there. View and the stand-in are made there from `heskavern_view_size`, since an exported
-// function cannot return a slice.
+// The calls of 01, and 02's audit and comparison, for C and Rust: the calls of crates heap, audit and compare under
+// names that the archive exports, each with the promise of the call that it passes on. include/heskavern.h declares
+// them. A slice is a pointer and its length in elements there. View and the stand-in are made there from
+// `heskavern_view_size`, since an exported function cannot return a slice.
 ghost use Rattle.rules.specs.Outcome.{heapOf};
 ghost use Rattle.rules.specs.Promises.{
   FormatPromise,
@@ -12,11 +12,12 @@ ghost use Rattle.rules.specs.Promises.{
   WritePromise,
   RollCallPromise,
   AuditNumberPromise,
+  ComparePromise,
 };
-ghost use Rattle.heskavern.specs.Answers.{answerIn, sizedIn, rolledIn};
+ghost use Rattle.heskavern.specs.Answers.{answerIn, sizedIn, rolledIn, comparedIn};
 
-// What each call answers: 01's number, and the offset, block size or count that stands beside it. The answers of crate
-// heap, in the layout of C.
+// What each call answers: 01's number, and the offset, block size or count that stands beside it. The answers of crates
+// heap and compare, in the layout of C.
 #[repr(C)]
 pub struct HeskavernAnswer {
     pub number: u32,
@@ -162,4 +163,29 @@ pub extern "C" fn heskavern_audit(memory: &[u8], books: &[u32], map: &[u64]) -> 
         (heapOf (now (memory .exit)) (now (books .exit)) (now (map .exit))) r ⌝ }
 {
     audit::number_of(audit::audit(memory, books, map))
+}
+
+// Compare: its number and, when done, how many offsets differ. What is the second heap's ends in 2.
+#[no_mangle]
+pub extern "C" fn heskavern_compare(
+    memory: &[u8],
+    books: &[u32],
+    map: &[u64],
+    memory2: &[u8],
+    books2: &[u32],
+    map2: &[u64],
+    list: &mut [u32],
+    changes: &mut [i32],
+) -> HeskavernAnswer
+    ensures { λ r. ⌜ ComparePromise (heapOf (now (memory .entry)) (now (books .entry)) (now (map .entry)))
+        (heapOf (now (memory .exit)) (now (books .exit)) (now (map .exit)))
+        (heapOf (now (memory2 .entry)) (now (books2 .entry)) (now (map2 .entry)))
+        (heapOf (now (memory2 .exit)) (now (books2 .exit)) (now (map2 .exit)))
+        (now (list .entry)) (now (list .exit)) (now (changes .entry)) (now (changes .exit)) (comparedIn r) ⌝ }
+{
+    let compared = compare::compare(memory, books, map, memory2, books2, map2, list, changes);
+    HeskavernAnswer {
+        number: compared.number,
+        value: compared.entries,
+    }
 }
