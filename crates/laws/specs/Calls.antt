@@ -15,7 +15,7 @@ use Rattle.rules.specs.declared.AskPlan.the-variants.{NoRoom}
 use Rattle.rules.specs.declared.BackPlan.{BackPlan}
 use Rattle.rules.specs.declared.BackPlan.the-variants.{Joins, Stays, Empties, Moves, Returns, Releases}
 use Rattle.rules.specs.Say.{if_then_else_}
-use Rattle.rules.specs.Books.{Heap}
+use Rattle.rules.specs.Books.{Heap, arenas, pools, alignment}
 use Rattle.rules.specs.Blocks.{
   classOf,
   sizeOf,
@@ -31,7 +31,18 @@ use Rattle.rules.specs.Outcome.{Outcome, outcome, refused, answerOf, passing}
 use Rattle.rules.specs.Ask.{askStep, askAnswer, afterAsk}
 use Rattle.rules.specs.GiveBack.{backStep, backAnswer, afterBack}
 use Rattle.rules.specs.View.{part}
-use Rattle.rules.specs.Numbers.{sizeNumber, inOrder, offsetTests, blockSize, sizedOf, ask, giveBack, view, viewSize}
+use Rattle.rules.specs.Numbers.{
+  shapeNumber,
+  sizeNumber,
+  inOrder,
+  offsetTests,
+  blockSize,
+  sizedOf,
+  ask,
+  giveBack,
+  view,
+  viewSize,
+}
 use Rattle.books.specs.Tests.{either}
 use Rattle.books.specs.Sizes.{Aligned, has-class}
 use Rattle.sequences.specs.Update.{to}
@@ -89,17 +100,27 @@ module _ (al A P : ℕ) (b : List ℕ) (o : ℕ) where
       go false false = refl
 
 -- ---- view hands back what is held
+-- of any heap whose shape passes: the tests of a call on an offset come to the live test
+module _ (h : Heap) (z : shapeNumber h ≡ 0) (o : ℕ) where
+  by-test : {X : Type 0} (refusal : ℕ → X) (rest : X)
+      → passing (offsetTests h o) refusal rest
+      ≡ (if live (alignment h) (arenas h) (pools h) (h .books) (h .map) o then rest
+      else refusal (deadNumber (alignment h) (arenas h) (pools h) (h .books) o))
+  by-test refusal rest = rw z (live-test (alignment h) (arenas h) (pools h) (h .books) o (h .map) refusal rest)
+
+  pub view-holds : view h o ≡ holding (alignment h) (arenas h) (pools h) h o
+  unfolding view holding
+  view-holds = by-test (λ k. []) (part o (blockSize h o) (h .memory))
+
 module _ {al A P : ℕ} {h : Heap} {r : Plain} (S : Sound al A P h r) (o : ℕ) where
-  -- the tests of a call on an offset come to the live test
   pub by-live : {X : Type 0} (refusal : ℕ → X) (rest : X)
       → passing (offsetTests h o) refusal rest
       ≡ (if live al A P (h .books) (h .map) o then rest else refusal (deadNumber al A P (h .books) o))
   by-live refusal rest =
-      rw (shape-zero (S .rule1), S .rule1 .alignment-is, S .rule1 .arenas-are, S .rule1 .pools-are) (live-test al A P (h .books) o (h .map) refusal rest)
+      by-test h (shape-zero (S .rule1)) o refusal rest ∙ rw (S .rule1 .alignment-is, S .rule1 .arenas-are, S .rule1 .pools-are)
 
   pub view-is : view h o ≡ holding al A P h o
-  unfolding view holding
-  view-is = by-live (λ k. []) (part o (blockSize h o) (h .memory)) ∙ rw (S .rule1 .alignment-is, S .rule1 .arenas-are)
+  view-is = view-holds h (shape-zero (S .rule1)) o ∙ rw (S .rule1 .alignment-is, S .rule1 .arenas-are, S .rule1 .pools-are)
 
   pub view-size-is : viewSize h o
       ≡ (if live al A P (h .books) (h .map) o then sizedOf 0 (sizeAt al A (h .books) o)

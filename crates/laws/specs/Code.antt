@@ -1,15 +1,17 @@
--- A run of the public functions of crates heap and audit, each call keeping its promise, is a history: its buffers and
--- numbers are those of the rules' run. So the theorems speak of the running code.
+-- A run of the public functions of crates heap, audit and compare, each call keeping its promise, is a history:
+-- its buffers and numbers are those of the rules' run. So the theorems speak of the running code.
 -- Assumes nothing.
 use mathlib.Core.Path.{_≡_, refl, sym, ap, ap₂, _∙_, subst}
 use mathlib.Core.Logic.{_≢_}
 use mathlib.Core.Bool.{Bool, true, false}
 use mathlib.Core.List.{List, [], _∷_, _++_}
-use Prim.Native.Nat.{ℕ, zero, suc, _+_, _≤_}
+use Prim.Native.Nat.{ℕ, zero, suc, _+_, _*_, _≤_}
+use lib.IntN.{ℤ}
 use lib.ListN.{length, drop}
 use Rattle.rules.specs.declared.Answer.{Answer}
 use Rattle.rules.specs.declared.Sized.{Sized}
 use Rattle.rules.specs.declared.Rolled.{Rolled}
+use Rattle.rules.specs.declared.Compared.{Compared}
 use Rattle.rules.specs.declared.Verdict.{Verdict}
 use Rattle.rules.specs.declared.Verdict.the-variants.{
   Yes,
@@ -23,7 +25,7 @@ use Rattle.rules.specs.declared.Verdict.the-variants.{
   Blocks,
   Order,
 }
-use Rattle.rules.specs.Books.{Heap, arenas, pools, alignment}
+use Rattle.rules.specs.Books.{Heap, at, memoryLength, arenas, pools, alignment}
 use Rattle.rules.specs.Say.{if_then_else_}
 use Rattle.rules.specs.Outcome.{Outcome, outcome, answerOf, refused}
 use Rattle.rules.specs.Numbers.{
@@ -54,6 +56,7 @@ use Rattle.rules.specs.Promises.{
   WritePromise,
   RollCallPromise,
   AuditPromise,
+  ComparePromise,
 }
 use Rattle.rules.specs.Audit.{
   rule1,
@@ -70,8 +73,12 @@ use Rattle.rules.specs.Audit.{
   audit,
   numberOf as ruleOf,
 }
+use Rattle.rules.specs.Compare.{kindAt, CompareOutcome, compare}
 use Rattle.books.specs.Tests.{either}
 use Rattle.books.specs.Verdicts.{verdictOf, of-number}
+use Rattle.sequences.specs.Listing.{heldBelow}
+use Rattle.laws.specs.Beside.{Told}
+use Rattle.laws.specs.Compared.{compare-lists}
 use Rattle.laws.specs.History.{
   Event,
   formats,
@@ -84,6 +91,7 @@ use Rattle.laws.specs.History.{
   writes,
   rolls,
   audits,
+  compares,
   pokes,
   State,
   Beginning,
@@ -106,6 +114,7 @@ use Rattle.laws.specs.Theorems.{
   entryCount,
   roll-with-room,
 }
+use Rattle.laws.specs.Points.{ends-told}
 
 -- the call of event e, over the buffers of the state x, answered number k and left the buffers of g: that it kept its
 -- promise, which has here the name that its contract uses. An audit answers a verdict, whose number `ruleOf` says, view
@@ -121,6 +130,12 @@ Kept x (standsIn o phrase) k g = (part same : List ℕ) × (0 ≡ k) × StandInP
 Kept x (writes o text) k g = (r : Answer) × (r .number ≡ k) × WritePromise (x .heap) g o text r
 Kept x (rolls words) k g = (r : Rolled) × (v : List ℕ) × (r .number ≡ k) × RollCallPromise (x .heap) g words v r
 Kept x audits k g = (r : Verdict) × (ruleOf r ≡ k) × AuditPromise (x .heap) g r
+Kept x (compares true other list lent) k g =
+    (r : Compared) × (left : Heap) × (listed : List ℕ) × (changed : List ℤ) × (r .number ≡ k)
+    × ComparePromise (x .heap) g other left list listed lent changed r
+Kept x (compares false other list lent) k g =
+    (r : Compared) × (left : Heap) × (listed : List ℕ) × (changed : List ℤ) × (r .number ≡ k)
+    × ComparePromise other left (x .heap) g list listed lent changed r
 Kept x (pokes o d v) k g = (0 ≡ k) × (g ≡ after x (pokes o d v) .heap)
 
 -- the state x, over the buffers of g
@@ -157,6 +172,14 @@ kept-is x (writes o text) k g t = answered (write (x .heap) o text) (t .0) g k (
 kept-is x (rolls words) k g t =
     (sym (t .2) ∙ ap (λ (y : RollOutcome × Heap). y .0 .answer .number) (t .3), sym (ap (λ (y : RollOutcome × Heap). y .1) (t .3)))
 kept-is x audits k g t = (sym (t .1) ∙ ap (λ (y : ℕ × Heap). y .0) (t .2), sym (ap (λ (y : ℕ × Heap). y .1) (t .2)))
+kept-is x (compares true other list lent) k g t = (
+  sym (t .4) ∙ ap (λ (y : CompareOutcome × (Heap × Heap)). y .0 .answer .number) (t .5),
+  sym (ap (λ (y : CompareOutcome × (Heap × Heap)). y .1 .0) (t .5)),
+)
+kept-is x (compares false other list lent) k g t = (
+  sym (t .4) ∙ ap (λ (y : CompareOutcome × (Heap × Heap)). y .0 .answer .number) (t .5),
+  sym (ap (λ (y : CompareOutcome × (Heap × Heap)). y .1 .1) (t .5)),
+)
 kept-is x (pokes o d v) k g t = (sym (t .0), sym (t .1))
 
 -- ---- the whole run
@@ -212,6 +235,12 @@ kept x audits =
     let h = x .heap in
     let v = verdict (alignment h) (arenas h) (pools h) h in
     (audit h, h, (v .0, v .1, ap (λ (k : ℕ). k beside h) (v .1)))
+kept x (compares true other list lent) =
+    let y = compare (x .heap) other list lent in
+    (y .answer .number, x .heap, (y .answer, other, y .listed, y .changed, refl, refl))
+kept x (compares false other list lent) =
+    let y = compare other (x .heap) list lent in
+    (y .answer .number, x .heap, (y .answer, other, y .listed, y .changed, refl, refl))
 kept x (pokes o d v) = (0, after x (pokes o d v) .heap, (refl, refl))
 
 abbrev pub Run : State → List Event → Type 0
@@ -289,3 +318,35 @@ module _ (start : Beginning) (ok : Begins start) (es : List Event)
       let q = kept .1 ∙ ap (λ (x : Heap). standInAt x o memory lent) (ran-is ran .0) in
       let t = stand-in-shows start ok es o phrase memory lent in
       (λ some. let u = t .0 some in (p ∙ u .0, q ∙ u .1), λ none. let u = t .1 none in (p ∙ u .0, q ∙ u .1))
+
+-- two runs, and then a compare of the buffers that they left
+module _ (start : Beginning) (ok : Begins start) (es : List Event)
+    {ks : List ℕ} {g : Heap} (ran : Ran (begun start) es ks g)
+    (start′ : Beginning) (ok′ : Begins start′) (es′ : List Event)
+    {ks′ : List ℕ} {g′ : Heap} (ran′ : Ran (begun start′) es′ ks′ g′) where
+  -- done, it lists each offset at which the ledgers of the two runs differ, after those below it, with the kind that
+  -- tells how; and no other
+  pub ran-compare : {left right : Heap} (list listed : List ℕ) (lent changed : List ℤ) (r : Compared)
+      → ComparePromise g left g′ right list listed lent changed r → r .number ≡ 0
+      → (r .entries ≡ heldBelow (kindAt g g′) (memoryLength (arenas g) (pools g)))
+      × ((o : ℕ) → end start ok es .ledger o ≢ end start′ ok′ es′ .ledger o
+      → let place = 2 * heldBelow (kindAt g g′) o in
+      (at listed place ≡ o)
+      × Told (at listed (place + 1)) (end start ok es .ledger o) (end start′ ok′ es′ .ledger o))
+  ran-compare list listed lent changed r kept done =
+      let is = ap (λ (x : CompareOutcome × (Heap × Heap)). x .0) kept in
+      let zero-is = sym (ap (λ (x : CompareOutcome). x .answer .number) is) ∙ done in
+      let lists = compare-lists g g′ list lent zero-is in
+      let list-is = ap (λ (x : CompareOutcome). x .listed) is in (
+        ap (λ (x : CompareOutcome). x .answer .entries) is ∙ lists .0,
+        λ o d.
+            let told = subst (λ (x : Heap). Told (kindAt g x o) (end start ok es .ledger o) (end start′ ok′ es′ .ledger o)) (sym (ran-is ran′ .0))
+            (subst (λ (x : Heap). Told (kindAt x (end start′ ok′ es′ .heap) o) (end start ok es .ledger o) (end start′ ok′ es′ .ledger o))
+            (sym (ran-is ran .0)) (ends-told start ok es start′ ok′ es′ o)) in
+            let place = 2 * heldBelow (kindAt g g′) o in
+            let t = lists .1 o (λ z. d (told .4 .0 z)) in (
+              ap (λ (l : List ℕ). at l place) list-is ∙ t .0,
+              subst (λ (k : ℕ). Told k (end start ok es .ledger o) (end start′ ok′ es′ .ledger o))
+                  (sym (ap (λ (l : List ℕ). at l (place + 1)) list-is ∙ t .1)) told,
+            ),
+      )

@@ -92,6 +92,7 @@ use Rattle.laws.specs.History.{
   writes,
   rolls,
   audits,
+  compares,
   pokes,
   State,
   poolClass,
@@ -377,6 +378,7 @@ module _ (m₀ : List ℕ) {x : State} (T : Tied m₀ x)
   event-stays (writes y text) = write-stays y text
   event-stays (rolls words) = here
   event-stays audits = here
+  event-stays (compares t other list lent) = here
   event-stays (pokes y d v) =
       either (λ (s : State). Stays o (x .heap) (s .heap)) (ltb d (length (x .ledger y))) _ _
       (λ _. memory-stays (set (x .heap .memory) (y + d) v)) (λ _. here)

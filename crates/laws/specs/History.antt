@@ -3,12 +3,13 @@
 -- Assumes nothing.
 use mathlib.Core.Logic.{_≢_}
 use mathlib.Core.Path.{_≡_}
-use mathlib.Core.Bool.{Bool, true, not, _&&_, _||_}
+use mathlib.Core.Bool.{Bool, true, false, not, _&&_, _||_}
 use mathlib.Core.List.{List, [], _∷_, _++_}
 use Prim.Native.Nat.{ℕ, zero, suc, _+_, _*_, _/_, _<_, min}
 use lib.Dec.{ltb, eqb}
+use lib.IntN.{ℤ}
 use lib.ListN.{length, set, take, drop}
-use Rattle.rules.specs.Say.{if_then_else_, howMany}
+use Rattle.rules.specs.Say.{if_then_else_}
 use Rattle.rules.specs.Books.{
   Heap,
   at,
@@ -32,6 +33,7 @@ use Rattle.rules.specs.Outcome.{heapOf}
 use Rattle.rules.specs.View.{part}
 use Rattle.rules.specs.Numbers.{format, ask, giveBack, resize, view, viewSize, write, rollCall}
 use Rattle.rules.specs.Audit.{audit}
+use Rattle.rules.specs.Compare.{compare}
 use Rattle.sequences.specs.Update.{to}
 
 -- ---- a history's events: the calls, with any arguments, and a holder's write of one byte of a block
@@ -46,6 +48,7 @@ pub data Event : Type 0 where
   writes : ℕ → List ℕ → Event  -- offset, text
   rolls : List ℕ → Event  -- the lent words
   audits : Event
+  compares : Bool → Heap → List ℕ → List ℤ → Event  -- whether first, the other heap, the lent list and changes
   pokes : ℕ → ℕ → ℕ → Event  -- the offset of a block, a place in it, the byte
 
 -- the ledger: at each offset the bytes of the block that is held there, none where none is
@@ -107,6 +110,8 @@ numberOf x (standsIn o phrase) = 0
 numberOf x (writes o text) = write (x .heap) o text .answer .number
 numberOf x (rolls words) = rollCall (x .heap) words .answer .number
 numberOf x audits = audit (x .heap)
+numberOf x (compares true other list lent) = compare (x .heap) other list lent .answer .number
+numberOf x (compares false other list lent) = compare other (x .heap) list lent .answer .number
 numberOf x (pokes o d v) = 0
 
 -- the size of the block that is handed out for n bytes in the edition e
@@ -151,6 +156,7 @@ after x (writes o text) =
     noted (y .answer .number) (y .heap) x (to o (text ++ drop (length text) (x .ledger o)) (x .ledger))
 after x (rolls words) = x
 after x audits = x
+after x (compares t other list lent) = x
 after x (pokes o d v) =
     if ltb d (length (x .ledger o))
     then record {
@@ -177,16 +183,6 @@ run x (e ∷ es) = run (after x e) es
 abbrev pub NoSix : State → List Event → Type 0
 NoSix x [] = Unit {0}
 NoSix x (e ∷ es) = (numberOf x e ≢ 6) × NoSix (after x e) es
-
--- ---- a ledger as a list: offset and size of what is held at the n offsets from o on, rising,
--- where g says the size held at each offset, 0 for none
-unfoldable pub listing : (ℕ → ℕ) → ℕ → ℕ → List ℕ
-listing g o zero = []
-listing g o (suc n) = (if eqb (g o) 0 then [] else (o ∷ g o ∷ [])) ++ listing g (suc o) n
-
--- how many of the offsets below o hold something
-abbrev pub heldBelow : (ℕ → ℕ) → ℕ → ℕ
-heldBelow g o = howMany (λ x. not (eqb (g x) 0)) o
 
 -- ---- the usable list, by the books alone
 -- the arenas that are met from a link on by next, at most so many

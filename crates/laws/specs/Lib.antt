@@ -1,6 +1,6 @@
 -- What holds after every history of calls, by way of the plain heap that crate sound has: the calls and what is held
--- (Holding to Usable), and the theorems, of any heap (Refused to StandIn, and Yes) and of every history (History to
--- Code). Letters mean what they mean in crate sound.
+-- (Holding to Usable), and the theorems, of any heap (Refused to StandIn, and Yes), of any two (Changes to Compared)
+-- and of every history (History to Code). Letters mean what they mean in crate sound.
 pub mod Holding
 pub mod Calls
 pub mod Written
@@ -12,10 +12,14 @@ pub mod Usable
 pub mod Refused
 pub mod First
 pub mod StandIn
+pub mod Changes
+pub mod Beside
+pub mod Compared
 pub mod History
 pub mod Tied
 pub mod Yes
 pub mod Dead
 pub mod Theorems
+pub mod Points
 pub mod Reached
 pub mod Code

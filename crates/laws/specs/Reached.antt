@@ -79,6 +79,7 @@ use Rattle.laws.specs.History.{
   writes,
   rolls,
   audits,
+  compares,
   pokes,
   State,
   formatted,
@@ -126,6 +127,7 @@ pathOf A P h (standsIn o phrase) = 0
 pathOf A P h (writes o text) = 0
 pathOf A P h (rolls words) = 0
 pathOf A P h audits = 0
+pathOf A P h (compares t other list lent) = 0
 pathOf A P h (pokes o d v) = 0
 
 -- an event and the path that it takes

@@ -4,11 +4,12 @@
 -- Assumes nothing.
 use mathlib.Core.Path.{_≡_, refl, sym, ap, _∙_}
 use mathlib.Core.Logic.{_≢_, _⊎_, inl, inr}
-use mathlib.Core.Bool.{Bool, true, false}
+use mathlib.Core.Bool.{Bool, true, false, _&&_}
 use mathlib.Core.List.{List}
 use Prim.Native.Nat.{ℕ, zero, suc, _/_, min}
 use native.Mathlib.Omega.{arith}
-use lib.Dec.{ltb}
+use lib.Dec.{ltb, eqb}
+use lib.IntN.{ℤ}
 use lib.ListN.{length}
 use Rattle.rules.specs.declared.Sized.{Sized}
 use Rattle.rules.specs.declared.AskPlan.{AskPlan}
@@ -47,6 +48,15 @@ use Rattle.rules.specs.Numbers.{
   viewSize,
   write,
   rollCall,
+}
+use Rattle.rules.specs.Compare.{
+  CompareOutcome,
+  differences,
+  classes,
+  unequalNumber,
+  compareOutcome,
+  compareTests,
+  compare,
 }
 use Rattle.books.specs.Tests.{either}
 
@@ -220,7 +230,22 @@ module _ (h : Heap) where
     unfolding resize
     resize-refused = by-tests (inOrder (shapeNumber h) (sizeNumber n) (offsetNumber h o) 0)
 
--- ---- format, view, write and roll call never give 6: none of their tests does, and they take no step
+-- compare leaves the lent list and changes
+pub compare-refused : (first second : Heap) (list : List ℕ) (lent : List ℤ)
+    → compare first second list lent .answer .number ≢ 0
+    → compare first second list lent ≡ compareOutcome (compare first second list lent .answer .number) 0 list lent
+unfolding compare
+compare-refused first second list lent = go (compareTests first second (length list) (length lent)) _ _ _
+  where
+    Q : CompareOutcome → Type 0
+    Q x = x .answer .number ≢ 0 → x ≡ compareOutcome (x .answer .number) 0 list lent
+
+    go : (k n : ℕ) (listed : List ℕ) (changed : List ℤ)
+        → Q (passing k (λ j. compareOutcome j 0 list lent) (compareOutcome 0 n listed changed))
+    go zero n listed changed d = absurd (d refl)
+    go (suc k) n listed changed d = refl
+
+-- ---- format, view, write, roll call and compare never give 6: none of their tests does, and they take no step
 not-six : (t : Bool) (x y : ℕ) → x ≢ 6 → y ≢ 6 → (if t then x else y) ≢ 6
 not-six t x y u v = either (λ (n : ℕ). n ≢ 6) t x y (λ _. u) (λ _. v)
 
@@ -294,3 +319,20 @@ module _ (h : Heap) where
   roll-six words =
       call-six (λ (x : RollOutcome). x .answer .number) (λ k. rollOutcome k 0 words) (λ k. refl) _ refl _
       (before-six (shapeNumber h) _ (shape-six h) (room-six (length (rollOf h)) (length words)))
+
+unequal-six : (first second : Heap) → unequalNumber first second ≢ 6
+unfolding unequalNumber
+unequal-six first second =
+    not-six (eqb (arenas first) (arenas second) && eqb (pools first) (pools second) && eqb (edition first) (edition second)) 0 12
+    (omega arith) (omega arith)
+
+pub compare-six : (first second : Heap) (list : List ℕ) (lent : List ℤ)
+    → compare first second list lent .answer .number ≢ 6
+unfolding compare
+compare-six first second list lent =
+    call-six (λ (x : CompareOutcome). x .answer .number) (λ k. compareOutcome k 0 list lent) (λ k. refl) _ refl _
+    (before-six (shapeNumber first) _ (shape-six first)
+    (before-six (shapeNumber second) _ (shape-six second)
+    (before-six (unequalNumber first second) _ (unequal-six first second)
+    (before-six (roomNumber (length (differences first second)) (length list)) _ (room-six (length (differences first second)) (length list))
+    (room-six (classes first) (length lent))))))

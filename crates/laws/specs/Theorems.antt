@@ -4,14 +4,14 @@
 -- Assumes nothing.
 use mathlib.Core.Path.{_≡_, refl, sym, ap, _∙_}
 use mathlib.Core.Logic.{_≢_, _⊎_}
-use mathlib.Core.Bool.{Bool, true, false}
+use mathlib.Core.Bool.{true, false}
 use mathlib.Core.List.{List, [], _++_}
 use Prim.Native.Nat.{ℕ, _+_, _*_, _-_, _%_, _≤_, _<_}
 use native.Mathlib.Omega.{arith}
 use lib.ListN.{length, drop}
 use borrow.Author.Tests.{le-ltb, lt-ltb}
 use Rattle.rules.specs.declared.Sized.{Sized}
-use Rattle.rules.specs.Say.{if_then_else_}
+use Rattle.rules.specs.Say.{if_then_else_, listing}
 use Rattle.rules.specs.Books.{
   at,
   arenas,
@@ -46,6 +46,7 @@ use Rattle.books.specs.Sizes.{Aligned, of-sixteen, aligned, size-low}
 use Rattle.sequences.specs.Update.{is-false}
 use Rattle.sequences.specs.Sequences.{In, Once}
 use Rattle.sequences.specs.Rising.{Rising}
+use Rattle.sequences.specs.Listing.{heldBelow, listing-same, listing-count, listing-place}
 use Rattle.sound.specs.Sound.{Shape}
 use Rattle.sound.specs.Grounds.{shape-zero}
 use Rattle.sound.specs.Audited.{sound-yes}
@@ -62,15 +63,14 @@ use Rattle.laws.specs.Holding.{
   holding-long,
   holding-more,
   holding-some,
-  dead-holding,
 }
 use Rattle.laws.specs.Written.{apart}
 use Rattle.laws.specs.Calls.{dead-some, view-is, view-size-is, back-dead, back-is}
 use Rattle.laws.specs.Free.{live-held, ask-free, ask-bytes, resize-free}
-use Rattle.laws.specs.Roll.{listing-same, listing-count, listing-place, sizeHeld, roll-is}
 use Rattle.laws.specs.NoRoom.{four-full, full-four}
 use Rattle.laws.specs.Usable.{list-rises, list-once, list-usable, usable-listed}
 use Rattle.laws.specs.StandIn.{stand-in-means}
+use Rattle.laws.specs.Beside.{roll-shown}
 use Rattle.laws.specs.History.{
   Event,
   State,
@@ -84,8 +84,6 @@ use Rattle.laws.specs.History.{
   ended,
   run,
   NoSix,
-  listing,
-  heldBelow,
   usableList,
   Usable,
   Full,
@@ -328,20 +326,13 @@ module _ (start : Beginning) (ok : Begins start) (es : List Event) where
   pub entries-long : length entries ≡ 2 * entryCount
   entries-long = listing-count sizeIn (length (end .heap .memory))
 
-  held-size : (o : ℕ) → sizeHeld L (T .A) (T .P) (end .heap .books) (end .heap .map) o ≡ length (end .ledger o)
-  unfolding sizeHeld
-  held-size o = go (live al (T .A) (T .P) (end .heap .books) (end .heap .map) o) refl
-    where
-      go : (b : Bool) → live al (T .A) (T .P) (end .heap .books) (end .heap .map) o ≡ b
-          → (if b then sizeAt al (T .A) (end .heap .books) o else 0) ≡ length (end .ledger o)
-      go false off = sym (ap length (T .tie o ∙ dead-holding al (T .A) (T .P) (end .heap) o off))
-      go true on = size-is o on
-
   roll-entries : rollOf (end .heap) ≡ entries
   roll-entries =
-      rw (shape .alignment-is, shape .arenas-are, shape .pools-are) (roll-is L (T .A) (T .P) (end .heap .books) (end .heap .map))
-      ∙ listing-same (sizeHeld L (T .A) (T .P) (end .heap .books) (end .heap .map)) sizeIn held-size 0 (memoryLength (T .A) (T .P))
-      ∙ ap (listing sizeIn 0) (sym (held (T .sound) .says .bytes))
+      let long : memoryLength (arenas (end .heap)) (pools (end .heap)) ≡ length (end .heap .memory) =
+      rw (shape .arenas-are, shape .pools-are) (sym (held (T .sound) .says .bytes)) in
+      roll-shown (end .heap) (shape-zero shape)
+      ∙ listing-same (λ o. length (view (end .heap) o)) sizeIn (λ o. ap length (view-shows o)) 0 _
+      ∙ ap (listing sizeIn 0) long
 
   -- roll call with room gives 0, the number of entries, and offset and size of each, and leaves the words after them
   pub roll-with-room : (words : List ℕ) → length entries ≤ length words

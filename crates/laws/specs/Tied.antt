@@ -49,7 +49,7 @@ use Rattle.laws.specs.Holding.{LiveAt, liveSize, holding, live-rows, cla
 use Rattle.laws.specs.Written.{written-leaves}
 use Rattle.laws.specs.Calls.{dead-some, view-is, ask-is, ask-leaves, ask-cases, back-dead, block-of, back-is, back-leaves}
 use Rattle.laws.specs.Resized.{resize-moves, differ, moved-leaves, resize-cases}
-use Rattle.laws.specs.Refused.{view-six, roll-six}
+use Rattle.laws.specs.Refused.{view-six, roll-six, compare-six}
 use Rattle.laws.specs.History.{
   Event,
   formats,
@@ -62,6 +62,7 @@ use Rattle.laws.specs.History.{
   writes,
   rolls,
   audits,
+  compares,
   pokes,
   Ledger,
   State,
@@ -407,6 +408,8 @@ step m₀ T (standsIn o phrase) = ((omega arith), T)
 step m₀ T (writes o text) = step-write m₀ T o text
 step m₀ {x} T (rolls words) = (roll-six (x .heap) words, T)
 step m₀ T audits = (λ six. absurd (omega (arith, six, sound-yes (aligned _) (T .sound))), T)
+step m₀ {x} T (compares true other list lent) = (compare-six (x .heap) other list lent, T)
+step m₀ {x} T (compares false other list lent) = (compare-six other (x .heap) list lent, T)
 step m₀ T (pokes o d v) = step-poke m₀ T o d v
 
 -- every history
