@@ -6,9 +6,11 @@ use std::{env, fs, process};
 #[path = "slips.rs"]
 mod slips;
 
-/// The two files of the paper: src/paper.rs, and the audit that is a module of it.
-fn read_paper() -> [String; 2] {
-    ["src/paper.rs", "src/paper/audit.rs"].map(|path| {
+use slips::{File, Slip};
+
+/// The files of the paper: src/paper.rs, and the audit and the compare that are modules of it.
+fn read_paper() -> [String; 3] {
+    ["src/paper.rs", "src/paper/audit.rs", "src/paper/beside.rs"].map(|path| {
         println!("cargo:rerun-if-changed={path}");
         fs::read_to_string(path).unwrap_or_else(|error| stop(&format!("{path}: {error}")))
     })
@@ -22,28 +24,60 @@ const OWN_AUDIT: &str = "impl super::Heap<'_> {
     }
 }";
 
-/// The paper with one slip, as a module that finds the crate's names where src/paper.rs finds them.
-fn with_slip(paper: &[String; 2], n: usize, slip: &slips::Slip) -> String {
-    let [mut text, mut audit] = paper.clone();
-    let slipped = if slip.audit { &mut audit } else { &mut text };
-    if slipped.matches(slip.old).count() != 1 {
+/// The same for the compare.
+const OWN_COMPARE: &str = "use super::{Answer, Calls, LentToRead, Refused};
+pub(super) fn compare(first: LentToRead, second: LentToRead, list: &mut [u32], changes: &mut [i32]) -> Refused<usize> {
+    match heskavern_paper::Paper::default().compare(first, second, list, changes) {
+        Answer { number: 0, value } => Ok(value as usize),
+        refusal => Err(refusal),
+    }
+}";
+
+/// The file of a slip with it.
+fn slipped(paper: &[String; 3], slip: &Slip) -> String {
+    let text = &paper[slip.file as usize];
+    if text.matches(slip.old).count() != 1 {
         stop(&format!("slips.rs, '{}': its old text must stand exactly once in its file", slip.name));
     }
-    *slipped = slipped.replace(slip.old, slip.new);
-    let audit = if slip.audit { &audit } else { OWN_AUDIT };
-    let text = text.replace("\nmod audit;\n", &format!("\nmod audit {{\n{audit}\n}}\n"));
-    format!("#[allow(warnings)]\nmod slip_{n} {{\nuse heskavern_paper::*;\npub mod paper {{\n{text}\n}}\n}}\n")
+    text.replace(slip.old, slip.new)
 }
 
+/// The paper as a module that finds the crate's names where src/paper.rs finds them, with more at its end.
+fn module(name: &str, paper: &str, audit: &str, more: &str) -> String {
+    let text = paper.replace("\nmod audit;\n", &format!("\nmod audit {{\n{audit}\n}}\n"));
+    let text = text.replace("\nmod beside;\n", &format!("\nmod beside {{\n{OWN_COMPARE}\n}}\n"));
+    format!("#[allow(warnings)]\nmod {name} {{\nuse heskavern_paper::*;\npub mod paper {{\n{text}\n{more}}}\n}}\n")
+}
+
+/// The compare with a slip, as a module of the paper and a function that is called in the paper's place.
+fn compare_with_slip(paper: &[String; 3], n: usize, slip: &Slip) -> String {
+    let text = slipped(paper, slip);
+    format!(
+        "mod slip_{n} {{\n{text}\n}}
+        pub fn compare_{n}(first: LentToRead, second: LentToRead, list: &mut [u32], changes: &mut [i32]) -> Answer {{
+            answer(slip_{n}::compare(first, second, list, changes))
+        }}\n"
+    )
+}
+
+/// A program for each slip. Those to the compare are the paper but for that call, and share one module.
 fn write_slips() {
     println!("cargo:rerun-if-changed=slips.rs");
     let paper = read_paper();
-    let mut modules = String::new();
-    let mut list = String::new();
+    let (mut modules, mut compares, mut list) = (String::new(), String::new(), String::new());
     for (n, slip) in slips::ALL.into_iter().flatten().enumerate() {
-        modules += &with_slip(&paper, n, slip);
-        list += &format!("Box::new(slip_{n}::paper::Paper::default()), ");
+        let (name, text) = (format!("slip_{n}"), || slipped(&paper, slip));
+        match slip.file {
+            File::Paper => modules += &module(&name, &text(), OWN_AUDIT, ""),
+            File::Audit => modules += &module(&name, &paper[0], &text(), ""),
+            File::Beside => compares += &compare_with_slip(&paper, n, slip),
+        }
+        list += &match slip.file {
+            File::Beside => format!("Box::new(ButForCompare::new(compares::paper::compare_{n})), "),
+            _ => format!("Box::new({name}::paper::Paper::default()), "),
+        };
     }
+    modules += &module("compares", &paper[0], OWN_AUDIT, &compares);
     modules += &format!("pub fn programs() -> Vec<Box<dyn heskavern_paper::Calls>> {{ vec![{list}] }}\n");
     let out = env::var("OUT_DIR").unwrap_or_else(|_| stop("cargo gave no OUT_DIR"));
     fs::write(Path::new(&out).join("broken.rs"), modules).unwrap_or_else(|error| stop(&format!("broken.rs: {error}")));

@@ -1,6 +1,14 @@
-// Small changes to src/paper.rs and its audit, one at a time: the slips that 01 names, the other reading of each place
-// that leaves room, the slips of a tired hand, and those of W-201, W-203, W-206, W-211 and W-214. The build makes a
-// program of each, and tests/broken.rs shows that it is found.
+// Small changes to src/paper.rs, its audit and its compare, one at a time: the slips that 01 names, the other reading
+// of each place that leaves room, the slips of a tired hand, and those of W-201, W-203, W-206, W-211, W-212 and W-214.
+// The build makes a program of each, and tests/broken.rs shows that it is found.
+
+/// The files of the paper that a slip can be to: src/paper.rs, src/paper/audit.rs and src/paper/beside.rs.
+#[derive(Clone, Copy, PartialEq, Eq)]
+pub enum File {
+    Paper,
+    Audit,
+    Beside,
+}
 
 // the build reads the texts, the tests the rest
 #[allow(dead_code)]
@@ -8,22 +16,26 @@ pub struct Slip {
     pub name: &'static str,
     /// How the name of a case begins that fails on it as well.
     pub case: Option<&'static str>,
-    /// Whether it is one to src/paper/audit.rs, and not to src/paper.rs.
-    pub audit: bool,
+    /// The file that it is to.
+    pub file: File,
     /// Stands in that file exactly once.
     pub old: &'static str,
     pub new: &'static str,
 }
 
 const fn slip(name: &'static str, case: Option<&'static str>, old: &'static str, new: &'static str) -> Slip {
-    Slip { name, case, audit: false, old, new }
+    Slip { name, case, file: File::Paper, old, new }
 }
 
 const fn in_audit(name: &'static str, case: Option<&'static str>, old: &'static str, new: &'static str) -> Slip {
-    Slip { name, case, audit: true, old, new }
+    Slip { name, case, file: File::Audit, old, new }
 }
 
-pub const ALL: [&[Slip]; 14] = [
+const fn in_compare(name: &'static str, case: Option<&'static str>, old: &'static str, new: &'static str) -> Slip {
+    Slip { name, case, file: File::Beside, old, new }
+}
+
+pub const ALL: [&[Slip]; 19] = [
     NAMED,
     READINGS,
     TIRED,
@@ -38,6 +50,11 @@ pub const ALL: [&[Slip]; 14] = [
     AUDIT_6,
     AUDIT_7_TO_9,
     AUDIT_READ,
+    COMPARE_LISTS,
+    COMPARE_CHANGES,
+    COMPARE_TESTS,
+    COMPARE_ROOMS,
+    COMPARE_LIVE,
 ];
 
 /// The slips that 01 names.
@@ -683,8 +700,8 @@ const SHAPE: &[Slip] = &[
         "word 68 is tested after the lengths",
         Some("W-211: the order"),
         "let edition = Edition::said_by(lent.books[EDITION] as usize)?;
-        exact(&lent, arenas, pools)?;",
-        "exact(&lent, arenas, pools)?;
+        exact(lent, arenas, pools)?;",
+        "exact(lent, arenas, pools)?;
         let edition = Edition::said_by(lent.books[EDITION] as usize)?;",
     ),
     slip(
@@ -787,8 +804,8 @@ const SHAPE: &[Slip] = &[
         "format tests its edition after the lengths",
         Some("W-211: format tests"),
         "Edition::said_by(edition)?;
-    exact(&lent, arenas, pools)?;",
-        "exact(&lent, arenas, pools)?;
+    exact(lent.to_read(), arenas, pools)?;",
+        "exact(lent.to_read(), arenas, pools)?;
     Edition::said_by(edition)?;",
     ),
     slip(
@@ -1002,13 +1019,11 @@ const EDITIONS: &[Slip] = &[
     slip(
         "a map of sixteen has four words for a pool",
         Some("W-211: the lengths"),
-        "exact(&lent, arenas, pools)?;
-        Ok(Heap",
-        "exact(&lent, arenas, pools)?;
+        "exact(lent, arenas, pools)?;",
+        "exact(lent, arenas, pools)?;
         if edition == Edition::Sixteen && lent.map.len() != 4 * arenas * pools {
             return refuse(2);
-        }
-        Ok(Heap",
+        }",
     ),
     slip(
         "an ask in sixteen counts its bit by 32 blocks a word",
@@ -2302,5 +2317,582 @@ const AUDIT_READ: &[Slip] = &[
         Some("W-201, read: a list kept"),
         "free(two[0]) <= free(two[1])",
         "free(two[0]) <= free(two[1]).max(2)",
+    ),
+];
+
+/// W-212: what is listed.
+const COMPARE_LISTS: &[Slip] = &[
+    in_compare(
+        "kinds 1 and 2 are exchanged",
+        Some("W-212: live in"),
+        "const IN_FIRST_ALONE: u32 = 1;
+const IN_SECOND_ALONE: u32 = 2;",
+        "const IN_FIRST_ALONE: u32 = 2;
+const IN_SECOND_ALONE: u32 = 1;",
+    ),
+    in_compare(
+        "kinds 3 and 4 are exchanged",
+        Some("W-212: another size"),
+        "const ANOTHER_SIZE: u32 = 3;
+const OTHER_BYTES: u32 = 4;",
+        "const ANOTHER_SIZE: u32 = 4;
+const OTHER_BYTES: u32 = 3;",
+    ),
+    in_compare(
+        "a block that is live in the first alone is not listed",
+        Some("W-212: as view tells"),
+        "(Some(_), None) => Some(IN_FIRST_ALONE),",
+        "(Some(_), None) => None,",
+    ),
+    in_compare(
+        "a block that is live in the second alone is not listed",
+        Some("W-212: calls, texts"),
+        "(None, Some(_)) => Some(IN_SECOND_ALONE),",
+        "(None, Some(_)) => None,",
+    ),
+    in_compare(
+        "another size is not listed",
+        Some("W-212: another size"),
+        "first.bytes.len() != second.bytes.len() => Some(ANOTHER_SIZE),",
+        "first.bytes.len() != second.bytes.len() => None,",
+    ),
+    in_compare(
+        "another size is listed as other bytes",
+        Some("W-212: another size"),
+        "=> Some(ANOTHER_SIZE),",
+        "=> Some(OTHER_BYTES),",
+    ),
+    in_compare(
+        "a block of another size is listed as live in the first alone",
+        Some("W-212: a pool of another"),
+        "=> Some(ANOTHER_SIZE),",
+        "=> Some(IN_FIRST_ALONE),",
+    ),
+    in_compare(
+        "other bytes are not listed",
+        Some("W-212: other bytes"),
+        "if first.bytes != second.bytes => Some(OTHER_BYTES),",
+        "if first.bytes != second.bytes => None,",
+    ),
+    in_compare(
+        "equal blocks are listed",
+        Some("W-212: equal heaps"),
+        "(Some(first), Some(second)) if first.bytes != second.bytes => Some(OTHER_BYTES),",
+        "(Some(_), Some(_)) => Some(OTHER_BYTES),",
+    ),
+    in_compare(
+        "bytes come before size",
+        Some("W-212: size before"),
+        "        (Some(first), Some(second)) if first.bytes.len()",
+        "        (Some(first), Some(second)) if first.bytes.iter().zip(second.bytes).any(|(a, b)| a != b) => {
+            Some(OTHER_BYTES)
+        }
+        (Some(first), Some(second)) if first.bytes.len()",
+    ),
+    in_compare(
+        "another size with other bytes is listed twice",
+        Some("W-212: size before"),
+        "offsets.into_iter().filter_map(entry).collect()",
+        "let both = |offset: usize| {
+        let (one, other) = (first.get(&offset)?.bytes, second.get(&offset)?.bytes);
+        let too = one.len() != other.len() && one.iter().zip(other).any(|(one, other)| one != other);
+        too.then_some([offset as u32, OTHER_BYTES])
+    };
+    offsets.into_iter().flat_map(|offset| [entry(offset), both(offset)]).flatten().collect()",
+    ),
+    in_compare(
+        "the first byte of a block alone is compared",
+        Some("W-212: other bytes"),
+        "if first.bytes != second.bytes =>",
+        "if first.bytes[0] != second.bytes[0] =>",
+    ),
+    in_compare(
+        "the last byte of a block is left out",
+        Some("W-212, read: other bytes"),
+        "if first.bytes != second.bytes =>",
+        "if first.bytes[..first.bytes.len() - 1] != second.bytes[..second.bytes.len() - 1] =>",
+    ),
+    in_compare(
+        "the bytes where a link would be are left out",
+        Some("W-212, read: other bytes"),
+        "if first.bytes != second.bytes =>",
+        "if first.bytes[4..] != second.bytes[4..] =>",
+    ),
+    in_compare(
+        "the first eight bytes of a block are compared",
+        Some("W-212, read: other bytes"),
+        "if first.bytes != second.bytes =>",
+        "if first.bytes[..8] != second.bytes[..8] =>",
+    ),
+    in_compare(
+        "the byte after a block is compared too",
+        Some("W-212, read: bytes of no"),
+        "&heap.memory[offset..offset + size]",
+        "&heap.memory[offset..(offset + size + 1).min(heap.memory.len())]",
+    ),
+    in_compare(
+        "the list falls",
+        Some("W-212: each once"),
+        "offsets.into_iter().filter_map(entry)",
+        "offsets.into_iter().rev().filter_map(entry)",
+    ),
+    in_compare(
+        "the first heap's blocks are listed first",
+        Some("W-212: each once"),
+        "let offsets: BTreeSet<usize> = first.keys().chain(second.keys()).copied().collect();",
+        "let more = second.keys().filter(|offset| !first.contains_key(offset));
+    let offsets: Vec<usize> = first.keys().chain(more).copied().collect();",
+    ),
+    in_compare(
+        "the list is by kind",
+        Some("W-212: each once"),
+        "offsets.into_iter().filter_map(entry).collect()",
+        "let mut entries: Vec<[u32; 2]> = offsets.into_iter().filter_map(entry).collect();
+    entries.sort_by_key(|entry| entry[1]);
+    entries",
+    ),
+    in_compare(
+        "an offset that is live in both is listed twice",
+        Some("W-212: each once"),
+        "let offsets: BTreeSet<usize> = first.keys().chain(second.keys()).copied().collect();",
+        "let mut offsets: Vec<usize> = first.keys().chain(second.keys()).copied().collect();
+    offsets.sort();",
+    ),
+    in_compare(
+        "the last entry is dropped",
+        Some("W-212: live in"),
+        "offsets.into_iter().filter_map(entry).collect()",
+        "let mut entries: Vec<[u32; 2]> = offsets.into_iter().filter_map(entry).collect();
+    entries.pop();
+    entries",
+    ),
+    in_compare(
+        "an entry's offset is the place in its pool",
+        Some("W-212, read: an entry"),
+        "Some([offset as u32, kind(",
+        "Some([(offset % POOL) as u32, kind(",
+    ),
+    in_compare(
+        "an entry is kind and offset",
+        Some("W-212, read: an entry"),
+        "words.copy_from_slice(entry);",
+        "words.copy_from_slice(&[entry[1], entry[0]]);",
+    ),
+];
+
+/// W-212: what is changed.
+const COMPARE_CHANGES: &[Slip] = &[
+    in_compare(
+        "the changes are first less second",
+        Some("W-212: the changes, second"),
+        "    second.values().for_each(|block| changes[block.class] += 1);
+    first.values().for_each(|block| changes[block.class] -= 1);",
+        "    second.values().for_each(|block| changes[block.class] -= 1);
+    first.values().for_each(|block| changes[block.class] += 1);",
+    ),
+    in_compare(
+        "the changes have no sign",
+        Some("W-212: the changes, second"),
+        "    first.values().for_each(|block| changes[block.class] -= 1);
+    changes",
+        "    first.values().for_each(|block| changes[block.class] -= 1);
+    changes.into_iter().map(i32::abs).collect()",
+    ),
+    in_compare(
+        "where the first heap has more the change is 0",
+        Some("W-212: the changes, second"),
+        "    first.values().for_each(|block| changes[block.class] -= 1);
+    changes",
+        "    first.values().for_each(|block| changes[block.class] -= 1);
+    changes.into_iter().map(|change: i32| change.max(0)).collect()",
+    ),
+    in_compare(
+        "a block is counted in the class after its own",
+        Some("W-212: the changes of each"),
+        "    second.values().for_each(|block| changes[block.class] += 1);
+    first.values().for_each(|block| changes[block.class] -= 1);",
+        "    second.values().for_each(|block| changes[(block.class + 1) % classes] += 1);
+    first.values().for_each(|block| changes[(block.class + 1) % classes] -= 1);",
+    ),
+    in_compare(
+        "the blocks of the last class are not counted",
+        Some("W-212: the changes of each"),
+        "    first.values().for_each(|block| changes[block.class] -= 1);
+    changes",
+        "    first.values().for_each(|block| changes[block.class] -= 1);
+    changes[classes - 1] = 0;
+    changes",
+    ),
+    in_compare(
+        "the first heap's blocks are not counted",
+        Some("W-212: the changes add up"),
+        "    first.values().for_each(|block| changes[block.class] -= 1);
+",
+        "",
+    ),
+    in_compare(
+        "a change is of 8 bits",
+        Some("W-212: the changes of each"),
+        "    first.values().for_each(|block| changes[block.class] -= 1);
+    changes",
+        "    first.values().for_each(|block| changes[block.class] -= 1);
+    changes.into_iter().map(|change: i32| i32::from(change as i8)).collect()",
+    ),
+    in_compare(
+        "a block of another size is no change",
+        Some("W-212: another size"),
+        "    second.values().for_each(|block| changes[block.class] += 1);
+    first.values().for_each(|block| changes[block.class] -= 1);",
+        "    let alone = |of: &Live, other: &Live| {
+        let classes = of.iter().filter(|(offset, _)| !other.contains_key(offset)).map(|(_, block)| block.class);
+        classes.collect::<Vec<usize>>()
+    };
+    alone(second, first).into_iter().for_each(|class| changes[class] += 1);
+    alone(first, second).into_iter().for_each(|class| changes[class] -= 1);",
+    ),
+    in_compare(
+        "other bytes are a change",
+        Some("W-212: other bytes"),
+        "    first.values().for_each(|block| changes[block.class] -= 1);",
+        "    let same = |(offset, block): &(&usize, &Block)| {
+        second.get(*offset).map_or(true, |other| other.class != block.class || other.bytes == block.bytes)
+    };
+    first.iter().filter(same).for_each(|(_, block)| changes[block.class] -= 1);",
+    ),
+    in_compare(
+        "the changes are of the pools' counts",
+        Some("W-212: the changes of each"),
+        "    let (first, second) = (live(first, shape), live(second, other));
+    let entries = entries(&first, &second);
+    let by_class = changes_by_class(&first, &second, shape.edition.last_class() + 1);",
+        "    let mut by_class = vec![0i32; shape.edition.last_class() + 1];
+    for (heap, second) in [(first, false), (second, true)] {
+        for pool in 0..shape.arenas * shape.pools {
+            let count = heap.books[ARENAS + RECORD * shape.arenas + RECORD * pool + super::COUNT] as i32;
+            if let Some(change) = by_class.get_mut(class_of(heap, shape, pool)) {
+                *change = if second { change.wrapping_add(count) } else { change.wrapping_sub(count) };
+            }
+        }
+    }
+    let (first, second) = (live(first, shape), live(second, other));
+    let entries = entries(&first, &second);",
+    ),
+];
+
+/// W-212: the tests but for 7, and the shape.
+const COMPARE_TESTS: &[Slip] = &[
+    in_compare(
+        "the second heap is tested first",
+        Some("W-212, read: the order"),
+        "    let shape = Shape::said_by(first)?;
+    let other = Shape::said_by(second)?;",
+        "    let other = Shape::said_by(second)?;
+    let shape = Shape::said_by(first)?;",
+    ),
+    in_compare(
+        "1 of either heap comes before 2",
+        Some("W-212, read: the order"),
+        "    let shape = Shape::said_by(first)?;",
+        "    for refusal in [first, second].into_iter().filter_map(|heap| Shape::said_by(heap).err()) {
+        if refusal.number == 1 {
+            return refuse(1);
+        }
+    }
+    let shape = Shape::said_by(first)?;",
+    ),
+    in_compare(
+        "12 comes before 2 of the second heap",
+        Some("W-212, read: the order"),
+        "    let other = Shape::said_by(second)?;",
+        "    let unequal = second.books.len() > super::EDITION && second.books[..2] != first.books[..2];
+    let other = match Shape::said_by(second) {
+        Err(refusal) if refusal.number == 2 && unequal => return refuse(12),
+        other => other?,
+    };",
+    ),
+    in_compare(
+        "12 comes before 1 of the second heap",
+        Some("W-212: 1 and 2"),
+        "    let other = Shape::said_by(second)?;",
+        "    let other = match Shape::said_by(second) {
+        Err(refusal) if refusal.number == 1 => return refuse(12),
+        other => other?,
+    };",
+    ),
+    in_compare(
+        "2 of the second heap is passed over where its memory is longer",
+        Some("W-212: 1 and 2"),
+        "    let other = Shape::said_by(second)?;",
+        "    let memory = &second.memory[..second.memory.len().min(first.memory.len())];
+    let other = Shape::said_by(LentToRead { memory, ..second })?;",
+    ),
+    in_compare(
+        "7 comes before 12",
+        Some("W-212, read: the order"),
+        "    if shape != other {",
+        "    if changes.len() <= shape.edition.last_class() {
+        return refuse(7);
+    }
+    if shape != other {",
+    ),
+    in_compare(
+        "A x P alone is compared",
+        Some("W-212: 12 for"),
+        "    if shape != other {",
+        "    let pools = |shape: Shape| (shape.arenas * shape.pools, shape.edition as u8);
+    if pools(shape) != pools(other) {",
+    ),
+    in_compare(
+        "A is not compared",
+        Some("W-212: 12 for"),
+        "    if shape != other {",
+        "    if (shape.pools, shape.edition as u8) != (other.pools, other.edition as u8) {",
+    ),
+    in_compare(
+        "P is not compared",
+        Some("W-212: 12 for"),
+        "    if shape != other {",
+        "    if (shape.arenas, shape.edition as u8) != (other.arenas, other.edition as u8) {",
+    ),
+    in_compare(
+        "the edition is not compared",
+        Some("W-212: 12 for"),
+        "    if shape != other {",
+        "    let other = Shape { edition: shape.edition, ..other };
+    if shape != other {",
+    ),
+    in_compare("an unequal shape is 2", Some("W-212: 12 for"), "return refuse(12);", "return refuse(2);"),
+    in_compare(
+        "heaps in the same buffers are refused",
+        Some("W-212: a heap beside"),
+        "    if shape != other {",
+        "    if shape != other || std::ptr::eq(first.memory, second.memory) {",
+    ),
+    in_compare(
+        "equal shape is equal heads too",
+        Some("W-212, read: equal shape"),
+        "    if shape != other {",
+        "    if shape != other || first.books[2..ARENAS] != second.books[2..ARENAS] {",
+    ),
+];
+
+/// W-212: the rooms, what is written where, and the value.
+const COMPARE_ROOMS: &[Slip] = &[
+    in_compare(
+        "a list of just enough words doesn't fit",
+        Some("W-212: 7 for a list"),
+        "list.len() < 2 * entries.len()",
+        "list.len() < 2 * entries.len() + 1",
+    ),
+    in_compare(
+        "a list that is one word short fits",
+        Some("W-212: 7 for a list"),
+        "list.len() < 2 * entries.len()",
+        "list.len() + 1 < 2 * entries.len()",
+    ),
+    in_compare(
+        "a list with one word for each entry fits",
+        Some("W-212: 7 for a list"),
+        "list.len() < 2 * entries.len()",
+        "list.len() < entries.len()",
+    ),
+    in_compare(
+        "a list needs room for all live blocks",
+        Some("W-212: other bytes"),
+        "list.len() < 2 * entries.len()",
+        "list.len() < 2 * first.len().max(second.len()).max(entries.len())",
+    ),
+    in_compare(
+        "a list with more room doesn't fit",
+        Some("W-212, read: words after"),
+        "list.len() < 2 * entries.len()",
+        "list.len() != 2 * entries.len()",
+    ),
+    in_compare(
+        "changes that are one short fit",
+        Some("W-212: 7 for changes"),
+        "    if list.len() < 2 * entries.len()",
+        "    let by_class = &by_class[..by_class.len() - usize::from(changes.len() + 1 == by_class.len())];
+    if list.len() < 2 * entries.len()",
+    ),
+    in_compare(
+        "changes always fit",
+        Some("W-212: 7 for changes"),
+        "    if list.len() < 2 * entries.len()",
+        "    let by_class = &by_class[..by_class.len().min(changes.len())];
+    if list.len() < 2 * entries.len()",
+    ),
+    in_compare(
+        "64 changes are needed in sixteen too",
+        Some("W-212, read: 64 changes"),
+        "changes.len() < by_class.len()",
+        "changes.len() < 64",
+    ),
+    in_compare(
+        "more changes than classes don't fit",
+        Some("W-212, read: 64 changes"),
+        "changes.len() < by_class.len()",
+        "changes.len() != by_class.len()",
+    ),
+    in_compare(
+        "just enough changes don't fit",
+        Some("W-212: 7 for changes"),
+        "changes.len() < by_class.len()",
+        "changes.len() <= by_class.len()",
+    ),
+    in_compare(
+        "changes past the classes become 0",
+        Some("W-212, read: changes past"),
+        "    changes[..by_class.len()].copy_from_slice(&by_class);",
+        "    changes[by_class.len()..].fill(0);
+    changes[..by_class.len()].copy_from_slice(&by_class);",
+    ),
+    in_compare(
+        "words after the list become 0",
+        Some("W-212, read: words after"),
+        "    changes[..by_class.len()].copy_from_slice(&by_class);",
+        "    list[2 * entries.len()..].fill(0);
+    changes[..by_class.len()].copy_from_slice(&by_class);",
+    ),
+    in_compare(
+        "the list ends with a 0 where there is room",
+        Some("W-212, read: words after"),
+        "    changes[..by_class.len()].copy_from_slice(&by_class);",
+        "    list.get_mut(2 * entries.len()).into_iter().for_each(|word| *word = 0);
+    changes[..by_class.len()].copy_from_slice(&by_class);",
+    ),
+    in_compare(
+        "the list is written before the changes are known to fit",
+        Some("W-212: either way"),
+        "    if list.len() < 2 * entries.len()",
+        "    if list.len() >= 2 * entries.len() {
+        list.chunks_exact_mut(2).zip(&entries).for_each(|(words, entry)| words.copy_from_slice(entry));
+    }
+    if list.len() < 2 * entries.len()",
+    ),
+    in_compare(
+        "the changes are written before the list is known to fit",
+        Some("W-212: either way"),
+        "    if list.len() < 2 * entries.len()",
+        "    if changes.len() >= by_class.len() {
+        changes[..by_class.len()].copy_from_slice(&by_class);
+    }
+    if list.len() < 2 * entries.len()",
+    ),
+    in_compare(
+        "as much of the list is written as fits",
+        Some("W-212: either way"),
+        "    if list.len() < 2 * entries.len()",
+        "    list.chunks_exact_mut(2).zip(&entries).for_each(|(words, entry)| words.copy_from_slice(entry));
+    if list.len() < 2 * entries.len()",
+    ),
+    in_compare(
+        "the changes are cleared before the tests",
+        Some("W-212: either way"),
+        "    let shape = Shape::said_by(first)?;",
+        "    changes.fill(0);
+    let shape = Shape::said_by(first)?;",
+    ),
+    in_compare(
+        "the changes are not written where nothing is listed",
+        Some("W-212: equal heaps"),
+        "    for (words, entry) in",
+        "    if entries.is_empty() {
+        return Ok(0);
+    }
+    for (words, entry) in",
+    ),
+    in_compare(
+        "the value is the words of the list",
+        Some("W-212, read: the value"),
+        "Ok(entries.len())",
+        "Ok(2 * entries.len())",
+    ),
+    in_compare(
+        "the value is the second heap's live blocks",
+        Some("W-212, read: the value"),
+        "Ok(entries.len())",
+        "Ok(second.len())",
+    ),
+    in_compare(
+        "7 has the entries as its value",
+        Some("W-212: 7 for a list"),
+        "return refuse(7);",
+        "return Err(super::Answer { number: 7, value: entries.len() as u32 });",
+    ),
+];
+
+/// W-212: what is live.
+const COMPARE_LIVE: &[Slip] = &[
+    in_compare(
+        "a bit past the last block is at a block",
+        Some("W-212, read: live is"),
+        "            if start <= POOL - size {
+                let offset = POOL * pool + start;
+                live.insert(offset, Block { class, bytes: &heap.memory[offset..offset + size] });",
+        "            if start < POOL {
+                let offset = POOL * pool + start;
+                let end = (offset + size).min(heap.memory.len());
+                live.insert(offset, Block { class, bytes: &heap.memory[offset..end] });",
+    ),
+    in_compare(
+        "a block that ends with its pool is none",
+        Some("W-212, read: live is"),
+        "if start <= POOL - size {",
+        "if start < POOL - size {",
+    ),
+    in_compare(
+        "the class after the last is taken for the last",
+        Some("W-212, read: live is"),
+        "        if class > shape.edition.last_class() {",
+        "        let class = if class == shape.edition.last_class() + 1 { class - 1 } else { class };
+        if class > shape.edition.last_class() {",
+    ),
+    in_compare(
+        "the last class has no blocks",
+        Some("W-212: another size"),
+        "if class > shape.edition.last_class() {",
+        "if class >= shape.edition.last_class() {",
+    ),
+    in_compare(
+        "a pool not carved has no live blocks",
+        Some("W-212, read: live is"),
+        "        if class > shape.edition.last_class() {",
+        "        let arena = ARENAS + RECORD * (pool / shape.pools);
+        if heap.books[arena] != 1 || pool % shape.pools >= heap.books[arena + 1] as usize {
+            continue;
+        }
+        if class > shape.edition.last_class() {",
+    ),
+    in_compare(
+        "a block from nextoffset on is not live",
+        Some("W-212, read: live is"),
+        "            if start <= POOL - size {",
+        "            let nextoffset = ARENAS + RECORD * shape.arenas + RECORD * pool + super::NEXTOFFSET;
+            if start <= POOL - size && start < heap.books[nextoffset] as usize {",
+    ),
+    in_compare(
+        "the bits of a pool's first map word alone are read",
+        Some("W-212: the changes of each"),
+        "for start in (0..BITS).filter(",
+        "for start in (0..64).filter(",
+    ),
+    in_compare(
+        "a pool's first bit is not read",
+        Some("W-212: live in"),
+        "for start in (0..BITS).filter(",
+        "for start in (1..BITS).filter(",
+    ),
+    in_compare(
+        "blocks of sixteen are as large as those of eight",
+        Some("W-212: as view tells"),
+        "let size = shape.edition.block_size(class);",
+        "let size = 8 * (class + 1);",
+    ),
+    in_compare(
+        "the class of a pool is read in the record before it",
+        Some("W-212: live in"),
+        "RECORD * shape.arenas + RECORD * pool + CLASS",
+        "RECORD * (shape.arenas - 1) + RECORD * pool + CLASS",
     ),
 ];

@@ -1,9 +1,10 @@
 //! Seeded sequences of steps: heaps reached by calls, heaps that are spoilt on the way, and heaps made up at random, of
 //! one edition or the other, with pools of few classes or with most pools of a class of their own. The audit goes along
-//! with them, and has sequences of its own on heaps that are made up whole.
+//! with them, and has sequences of its own on heaps that are made up whole. On the way heaps are compared.
 
 use std::collections::VecDeque;
 
+use crate::beside::Visits;
 use crate::look::Look;
 use crate::steps::{lengths, within, Buffers, Call, Phrase, Step};
 use crate::{spoils, whole, Answer};
@@ -86,6 +87,14 @@ enum Kind {
 /// In the sequences that are not the audit's own it comes after each so many calls.
 const AUDIT_EVERY: usize = 4;
 
+/// What goes along with a sequence and leaves its heap as it is.
+#[derive(Clone, Copy)]
+pub struct Along {
+    pub audits: bool,
+    /// Heaps are compared after one call in so many, or never if 0.
+    pub compares: usize,
+}
+
 /// The steps on one heap. They depend on its seed and on what the calls before them left.
 pub struct Source {
     rng: Rng,
@@ -116,11 +125,13 @@ pub struct Source {
     made: usize,
     /// Whether the audit goes along.
     audited: bool,
+    /// Where heaps are compared.
+    visits: Visits,
 }
 
 impl Source {
-    /// The steps of calls, with or without audits between them.
-    pub fn new(seed: u64, audited: bool) -> Source {
+    /// The steps of calls, with or without audits and compares between them.
+    pub fn new(seed: u64, along: Along) -> Source {
         let mut rng = Rng::new(seed);
         let large = rng.one_in(100);
         let kind = match rng.below(16) {
@@ -129,15 +140,21 @@ impl Source {
             _ => Kind::MadeUp,
         };
         let apart = kind != Kind::MadeUp && !large && rng.one_in(4);
-        Source { audited, ..Source::of(rng, kind, large, apart) }
+        let source = Source::of(rng, kind, large, apart);
+        Source { audited: along.audits, ..source }.visited(seed, along.compares)
     }
 
-    /// The audit's own steps, on a heap that is made up whole.
-    pub fn whole(seed: u64) -> Source {
+    /// The audit's own steps, on a heap that is made up whole, with compares after one call in so many.
+    pub fn whole(seed: u64, compares: usize) -> Source {
         let mut rng = Rng::new(!seed);
         let large = rng.one_in(200);
         let apart = !large && rng.one_in(3);
-        Source::of(rng, Kind::Whole, large, apart)
+        Source::of(rng, Kind::Whole, large, apart).visited(!seed, compares)
+    }
+
+    /// With visits along, after one call in so many.
+    fn visited(self, seed: u64, compares: usize) -> Source {
+        Source { visits: Visits::new(seed, compares, self.arenas, self.pools), ..self }
     }
 
     fn of(mut rng: Rng, kind: Kind, large: bool, apart: bool) -> Source {
@@ -166,6 +183,7 @@ impl Source {
             unless_whole,
             made,
             audited: true,
+            visits: Visits::none(),
         };
         source.begin();
         source
@@ -173,6 +191,9 @@ impl Source {
 
     /// The next step, if there is one more.
     pub fn next(&mut self, heap: &Buffers) -> Option<Step> {
+        if let Some(step) = self.visits.next(heap) {
+            return Some(step);
+        }
         if self.waiting.is_empty() {
             self.calls_left = self.calls_left.checked_sub(1)?;
             if self.kind == Kind::Whole {
@@ -192,8 +213,12 @@ impl Source {
         step
     }
 
-    /// What the next steps can know from an answer.
-    pub fn learn(&mut self, call: &Call, answer: Answer) {
+    /// What the next steps can know from a call's answer and the heap that it left.
+    pub fn learn(&mut self, call: &Call, answer: Answer, heap: &Buffers) {
+        match call {
+            Call::Compare { .. } => self.visits.learn(answer),
+            _ => self.visits.after_call(heap),
+        }
         if let Call::Ask { .. } | Call::GiveBack { .. } = call {
             self.stuck = if answer.number == 6 { self.stuck + 1 } else { 0 };
         }

@@ -7,10 +7,12 @@ use crate::Answer;
 /// The word of the books that says the edition.
 const EDITION: usize = 68;
 
-/// The edition that a call meets, as far as it is said: format is told it, the others read it.
+/// The edition that a call meets, as far as it is said: format is told it, the others read it, a compare in its first
+/// heap.
 pub fn edition_met(call: &Call, heap: &Buffers) -> usize {
     match *call {
         Call::Format { edition, .. } => edition,
+        Call::Compare { first, .. } => heap.to_read(first).books.get(EDITION).map_or(0, |word| *word as usize),
         _ => heap.books[EDITION] as usize,
     }
 }

@@ -1,10 +1,12 @@
-//! 01, and W-201, W-203, W-206, W-211 and W-214 of 02, read a second time: the calls as a trait, one program that keeps
-//! them, and what tells any other program from it.
+//! 01, and W-201, W-203, W-206, W-211, W-212 and W-214 of 02, read a second time: the calls as a trait, one program
+//! that keeps them, and what tells any other program from it.
 
 pub mod audited;
+pub mod beside;
 pub mod bounds;
 pub mod cases;
 pub mod compare;
+pub mod compared;
 pub mod damage;
 pub mod desk;
 pub mod editions;
@@ -12,6 +14,7 @@ pub mod editions;
 pub mod library;
 pub mod look;
 pub mod order;
+pub mod pairs;
 pub mod paper;
 pub mod readings;
 pub mod sides;
@@ -36,6 +39,21 @@ pub struct Lent<'a> {
     pub memory: &'a mut [u8],
     pub books: &'a mut [u32],
     pub map: &'a mut [u64],
+}
+
+impl Lent<'_> {
+    /// The same buffers, to read alone.
+    pub fn to_read(&self) -> LentToRead<'_> {
+        LentToRead { memory: self.memory, books: self.books, map: self.map }
+    }
+}
+
+/// The three buffers of a heap that a call is lent to read alone, so that two such heaps may be one.
+#[derive(Clone, Copy)]
+pub struct LentToRead<'a> {
+    pub memory: &'a [u8],
+    pub books: &'a [u32],
+    pub map: &'a [u64],
 }
 
 /// A phrase that is lent: a text of its own or, because it is only read, a part of memory by start and length. Like the
@@ -66,7 +84,8 @@ pub enum Place {
     Elsewhere,
 }
 
-/// 01's seven calls, view's companion and 02's stand-in and audit, over buffers of any length and with any contents.
+/// 01's seven calls, view's companion and 02's stand-in, audit and compare, over buffers of any length and with any
+/// contents.
 pub trait Calls {
     /// The edition is 0 for eight and 1 for sixteen.
     fn format(&mut self, lent: Lent, arenas: usize, pools: usize, edition: usize) -> Answer;
@@ -82,6 +101,9 @@ pub trait Calls {
     fn roll_call(&mut self, lent: Lent, roll: &mut [u32]) -> Answer;
     /// 0 for yes, or the number of the first broken rule.
     fn audit(&mut self, lent: Lent) -> u32;
+    /// An entry of the list is two words, offset and kind: 1 live in the first alone, 2 in the second alone, 3 another
+    /// size, 4 other bytes. The value is how many there are.
+    fn compare(&mut self, first: LentToRead, second: LentToRead, list: &mut [u32], changes: &mut [i32]) -> Answer;
 
     /// The paths, broken rule and clause of the last call, from a program that notes them.
     fn trail(&self) -> Option<&Trail> {

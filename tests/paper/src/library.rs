@@ -1,6 +1,6 @@
 //! The proved library behind the same calls, through the Rust crate.
 
-use crate::{Answer, Calls, Lent, LentPhrase, Place};
+use crate::{Answer, Calls, Lent, LentPhrase, LentToRead, Place};
 use heskavern::{calls, Heap};
 
 /// The proved library. It keeps nothing between calls.
@@ -74,5 +74,10 @@ impl Calls for Library {
 
     fn audit(&mut self, lent: Lent) -> u32 {
         calls::audit(lent.memory, lent.books, lent.map)
+    }
+
+    fn compare(&mut self, first: LentToRead, second: LentToRead, list: &mut [u32], changes: &mut [i32]) -> Answer {
+        let [first, second] = [first, second].map(|heap| (heap.memory, heap.books, heap.map));
+        calls::compare(first, second, list, changes).into()
     }
 }

@@ -1,14 +1,15 @@
 //! 01 as a program: its calls over lent buffers, in its order and its words, on any lengths and any contents. The split
 //! of 5 that W-206 of 02 makes stands at the live test, the two editions of W-211 where 01 says classes and blocks, the
 //! call of W-214 beside view, the order of the usable arenas of W-203 where a give-back frees a pool, and the audit of
-//! W-201 in a file of its own.
+//! W-201 and the two heaps of W-212 each in a file of its own.
 //!
 //! A step writes as it goes, in the order that 01 gives, and notes what stood there before. Where a used word breaks
 //! its rule, the notes are walked back and the answer is 6. So 01 can be laid beside this file sentence by sentence.
 
-use super::{Answer, Calls, Clause, Lent, LentPhrase, Path, Place, Rule, Trail};
+use super::{Answer, Calls, Clause, Lent, LentPhrase, LentToRead, Path, Place, Rule, Trail};
 
 mod audit;
+mod beside;
 
 // Memory, books, map
 
@@ -61,7 +62,7 @@ fn in_range(arenas: usize, pools: usize) -> Refused<()> {
 }
 
 /// A lent length that is not exact is 2. The lengths are the same in both editions.
-fn exact(lent: &Lent, arenas: usize, pools: usize) -> Refused<()> {
+fn exact(lent: LentToRead, arenas: usize, pools: usize) -> Refused<()> {
     let all = arenas * pools;
     let memory = lent.memory.len() == all * POOL;
     let books = lent.books.len() == ARENAS + RECORD * arenas + RECORD * all;
@@ -355,7 +356,7 @@ impl Heap<'_> {
 fn format(lent: Lent, arenas: usize, pools: usize, edition: usize) -> Refused<usize> {
     in_range(arenas, pools)?;
     Edition::said_by(edition)?;
-    exact(&lent, arenas, pools)?;
+    exact(lent.to_read(), arenas, pools)?;
     lent.map.fill(0);
     lent.books.fill(0);
     lent.books[0] = arenas as u32;
@@ -697,18 +698,25 @@ impl Heap<'_> {
 
 // Numbers a call can return
 
-/// 01's calls, 02's stand-in and 02's audit, over whatever is lent.
+/// 01's calls and 02's stand-in, audit and compare, over whatever is lent.
 #[derive(Default)]
 pub struct Paper {
     notes: Vec<Was>,
     trail: Trail,
 }
 
-impl Paper {
-    /// The heap that is lent: books under two words is 2; A or P 1; books that do not reach word 68 2; word 68 above 1
-    /// 1; lengths 2.
-    fn heap<'a>(&'a mut self, lent: Lent<'a>) -> Refused<Heap<'a>> {
-        self.trail.clear();
+/// A, P and the edition, as the books say them.
+#[derive(Clone, Copy, PartialEq, Eq)]
+struct Shape {
+    arenas: usize,
+    pools: usize,
+    edition: Edition,
+}
+
+impl Shape {
+    /// The shape of what is lent: books under two words is 2; A or P 1; books that do not reach word 68 2; word 68
+    /// above 1 1; lengths 2.
+    fn said_by(lent: LentToRead) -> Refused<Shape> {
         if lent.books.len() < 2 {
             return refuse(2);
         }
@@ -718,7 +726,16 @@ impl Paper {
             return refuse(2);
         }
         let edition = Edition::said_by(lent.books[EDITION] as usize)?;
-        exact(&lent, arenas, pools)?;
+        exact(lent, arenas, pools)?;
+        Ok(Shape { arenas, pools, edition })
+    }
+}
+
+impl Paper {
+    /// The heap that is lent.
+    fn heap<'a>(&'a mut self, lent: Lent<'a>) -> Refused<Heap<'a>> {
+        self.trail.clear();
+        let Shape { arenas, pools, edition } = Shape::said_by(lent.to_read())?;
         Ok(Heap { lent, arenas, pools, edition, notes: &mut self.notes, trail: &mut self.trail })
     }
 }
@@ -810,6 +827,12 @@ impl Calls for Paper {
                 1
             }
         }
+    }
+
+    /// **Two heaps side by side** (W-212).
+    fn compare(&mut self, first: LentToRead, second: LentToRead, list: &mut [u32], changes: &mut [i32]) -> Answer {
+        self.trail.clear();
+        answer(beside::compare(first, second, list, changes))
     }
 
     fn trail(&self) -> Option<&Trail> {

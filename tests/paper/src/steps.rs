@@ -2,22 +2,54 @@
 
 use std::fmt;
 
+use crate::beside::{Beside, Change, Which, BESIDE};
 use crate::damage::Rng;
 use crate::{Answer, Calls, Lent, LentPhrase, Place};
 
 /// A call with its arguments. A text is said by its length and first byte; a roll by how many words it has.
 #[derive(Clone, Copy, Debug, PartialEq, Eq)]
 pub enum Call {
-    Format { arenas: usize, pools: usize, edition: usize },
-    Ask { size: usize },
-    GiveBack { offset: usize },
-    Resize { offset: usize, size: usize },
-    View { offset: usize },
-    ViewSize { offset: usize },
-    Write { offset: usize, length: usize, first: u8 },
-    RollCall { words: usize },
-    StandIn { offset: usize, phrase: Phrase },
+    Format {
+        arenas: usize,
+        pools: usize,
+        edition: usize,
+    },
+    Ask {
+        size: usize,
+    },
+    GiveBack {
+        offset: usize,
+    },
+    Resize {
+        offset: usize,
+        size: usize,
+    },
+    View {
+        offset: usize,
+    },
+    ViewSize {
+        offset: usize,
+    },
+    Write {
+        offset: usize,
+        length: usize,
+        first: u8,
+    },
+    RollCall {
+        words: usize,
+    },
+    StandIn {
+        offset: usize,
+        phrase: Phrase,
+    },
     Audit,
+    /// Two heaps, how many words the list has, and how many changes there are.
+    Compare {
+        first: Which,
+        second: Which,
+        list: usize,
+        changes: usize,
+    },
 }
 
 /// A phrase to lend. Only a part of memory has no buffer of its own.
@@ -38,7 +70,7 @@ impl Call {
     /// The kinds of calls, each with the numbers that it can give. View gives none, its companion gives view's.
     /// Stand-in gives none either, but goes by view's, and is a kind of its own with each kind of phrase. The audit's
     /// are its rules.
-    pub const KINDS: [(&'static str, &'static [usize]); 15] = [
+    pub const KINDS: [(&'static str, &'static [usize]); 16] = [
         ("format", &[0, 1, 2]),
         ("ask", &[0, 1, 2, 3, 4, 6]),
         ("give back", &[0, 1, 2, 5, 6, 10]),
@@ -54,6 +86,7 @@ impl Call {
         ("stand-in: memory over the offset", VIEW),
         ("stand-in: other memory", VIEW),
         ("audit", &[0, 1, 2, 3, 4, 5, 6, 7, 8, 9]),
+        ("compare", &[0, 1, 2, 7, 12]),
     ];
 
     /// Which of the kinds it is.
@@ -76,6 +109,7 @@ impl Call {
                 Phrase::Part(..) => 13,
             },
             Call::Audit => 14,
+            Call::Compare { .. } => 15,
         }
     }
 
@@ -88,7 +122,8 @@ impl Call {
             | Call::ViewSize { offset }
             | Call::Write { offset, .. }
             | Call::StandIn { offset, .. } => Some(offset),
-            Call::Format { .. } | Call::Ask { .. } | Call::RollCall { .. } | Call::Audit => None,
+            Call::Format { .. } | Call::Ask { .. } | Call::RollCall { .. } => None,
+            Call::Audit | Call::Compare { .. } => None,
         }
     }
 }
@@ -114,6 +149,8 @@ pub enum Step {
     },
     /// How many elements of memory, books and map are lent.
     Lend([usize; 3]),
+    /// One of the heaps beside is changed.
+    Beside(usize, Change),
 }
 
 /// The exact lengths of memory, books and map for a heap of this many arenas and pools.
@@ -128,14 +165,24 @@ pub fn within(start: usize, length: usize, memory: usize) -> (usize, usize) {
     (start, length.min(memory - start))
 }
 
-/// One program's buffers, with one element of each beyond what a heap needs, its last roll and its last phrase.
-#[derive(Clone, PartialEq, Eq)]
+/// What stands in a roll, list or changes before a call, so that what it leaves is seen.
+pub const MARK: u32 = 0xA5A5_A5A5;
+
+/// How many marks stand on either side of a list and of changes, which are not lent.
+pub const MARGIN: usize = 2;
+
+/// One program's buffers, with one element of each beyond what a heap needs, its last roll and its last phrase; and the
+/// heaps beside it, with the last list and the last changes, each with its margins.
+#[derive(Clone)]
 pub struct Buffers {
     pub memory: Vec<u8>,
     pub books: Vec<u32>,
     pub map: Vec<u64>,
     pub roll: Vec<u32>,
     pub phrase: Vec<u8>,
+    pub beside: [Beside; BESIDE],
+    pub list: Vec<u32>,
+    pub changes: Vec<i32>,
     /// The A and P that they were made for.
     shape: [usize; 2],
     lent: [usize; 3],
@@ -155,7 +202,27 @@ impl Buffers {
         let lent = lengths(arenas, pools);
         let [memory, books, map] = lent.map(|length| length + 1);
         let (memory, books, map) = (vec![0; memory], vec![0; books], vec![0; map]);
-        Buffers { memory, books, map, roll: Vec::new(), phrase: Vec::new(), shape: [arenas, pools], lent }
+        let (roll, phrase, shape) = (Vec::new(), Vec::new(), [arenas, pools]);
+        let (beside, list, changes) = (Default::default(), Vec::new(), Vec::new());
+        Buffers { memory, books, map, roll, phrase, beside, list, changes, shape, lent }
+    }
+
+    /// Whether the other program's buffers are the same after a call. A compare alone is lent the heaps beside.
+    pub fn same_after(&self, call: &Call, other: &Buffers) -> bool {
+        let heap = self.memory == other.memory && self.books == other.books && self.map == other.map;
+        let rest = self.roll == other.roll && self.phrase == other.phrase;
+        let compared = || self.list == other.list && self.changes == other.changes && self.beside == other.beside;
+        heap && rest && (!matches!(call, Call::Compare { .. }) || compared())
+    }
+
+    /// The list of the last compare, as far as it was lent.
+    pub fn listed(&self) -> &[u32] {
+        &self.list[MARGIN..self.list.len() - MARGIN]
+    }
+
+    /// The changes of the last compare, as far as they were lent.
+    pub fn changed(&self) -> &[i32] {
+        &self.changes[MARGIN..self.changes.len() - MARGIN]
     }
 
     /// The A and P that they were made for.
@@ -184,6 +251,7 @@ impl Buffers {
             Step::Links(seed) => self.links(seed),
             Step::Whole { edition, seed } => self.whole(edition, seed),
             Step::Lend(lent) => self.lent = lent,
+            Step::Beside(n, change) => self.change_beside(n, change),
         }
         Outcome::default()
     }
@@ -201,15 +269,26 @@ impl Buffers {
             Call::Write { offset, length, first } => calls.write(self.lend(), offset, &text(length, first)),
             Call::RollCall { words } => {
                 // what a refused or short roll call leaves must be seen
-                let mut roll = vec![0xA5A5_A5A5; words];
+                let mut roll = vec![MARK; words];
                 let answer = calls.roll_call(self.lend(), &mut roll);
                 self.roll = roll;
                 answer
             }
             Call::StandIn { offset, phrase } => return self.stand_in(calls, offset, phrase),
             Call::Audit => Answer { number: calls.audit(self.lend()), value: 0 },
+            Call::Compare { first, second, list, changes } => self.compare(calls, [first, second], list, changes),
         };
         Outcome { answer, ..Outcome::default() }
+    }
+
+    /// Two heaps are compared, with marks in the list and the changes and on both sides of them.
+    fn compare(&mut self, calls: &mut dyn Calls, [first, second]: [Which; 2], words: usize, count: usize) -> Answer {
+        let mut list = vec![MARK; words + 2 * MARGIN];
+        let mut changes = vec![MARK as i32; count + 2 * MARGIN];
+        let (lent, room) = (&mut list[MARGIN..MARGIN + words], &mut changes[MARGIN..MARGIN + count]);
+        let answer = calls.compare(self.to_read(first), self.to_read(second), lent, room);
+        (self.list, self.changes) = (list, changes);
+        answer
     }
 
     /// The place of what stand-in hands back, and beside it what view's companion answers, which decides it.
@@ -296,6 +375,9 @@ impl fmt::Display for Call {
             Call::RollCall { words } => write!(f, "roll call with {words} words"),
             Call::StandIn { offset, phrase } => write!(f, "stand-in for {offset}, lent {phrase}"),
             Call::Audit => write!(f, "audit"),
+            Call::Compare { first, second, list, changes } => {
+                write!(f, "compare {first} with {second}, a list of {list} words and {changes} changes")
+            }
         }
     }
 }
@@ -334,5 +416,6 @@ pub fn in_words(step: &Step, arenas: usize) -> String {
         Step::Lend([memory, books, map]) => {
             format!("lent from here: {memory} bytes of memory, {books} words of books, {map} words of map")
         }
+        Step::Beside(n, change) => format!("{} {change}", Which::Beside(*n)),
     }
 }

@@ -3,10 +3,72 @@
 use std::panic::{self, AssertUnwindSafe};
 
 use heskavern_paper::compare::{compare, Of, Run, Tally};
-use heskavern_paper::{audited, cases, order, readings, Calls, Paper};
+use heskavern_paper::{audited, cases, compared, order, readings};
+use heskavern_paper::{Answer, Calls, Lent, LentPhrase, LentToRead, Paper, Place};
 
 #[path = "../slips.rs"]
 mod slips;
+
+/// A compare by itself.
+type Compare = fn(LentToRead, LentToRead, &mut [u32], &mut [i32]) -> Answer;
+
+/// The paper but for its compare.
+struct ButForCompare {
+    paper: Paper,
+    compare: Compare,
+}
+
+impl ButForCompare {
+    fn new(compare: Compare) -> ButForCompare {
+        ButForCompare { paper: Paper::default(), compare }
+    }
+}
+
+impl Calls for ButForCompare {
+    fn format(&mut self, lent: Lent, arenas: usize, pools: usize, edition: usize) -> Answer {
+        self.paper.format(lent, arenas, pools, edition)
+    }
+
+    fn ask(&mut self, lent: Lent, size: usize) -> Answer {
+        self.paper.ask(lent, size)
+    }
+
+    fn give_back(&mut self, lent: Lent, offset: usize) -> Answer {
+        self.paper.give_back(lent, offset)
+    }
+
+    fn resize(&mut self, lent: Lent, offset: usize, size: usize) -> Answer {
+        self.paper.resize(lent, offset, size)
+    }
+
+    fn view(&mut self, lent: Lent, offset: usize) -> (usize, usize) {
+        self.paper.view(lent, offset)
+    }
+
+    fn view_size(&mut self, lent: Lent, offset: usize) -> Answer {
+        self.paper.view_size(lent, offset)
+    }
+
+    fn stand_in(&mut self, lent: Lent, offset: usize, phrase: LentPhrase) -> Place {
+        self.paper.stand_in(lent, offset, phrase)
+    }
+
+    fn write(&mut self, lent: Lent, offset: usize, text: &[u8]) -> Answer {
+        self.paper.write(lent, offset, text)
+    }
+
+    fn roll_call(&mut self, lent: Lent, roll: &mut [u32]) -> Answer {
+        self.paper.roll_call(lent, roll)
+    }
+
+    fn audit(&mut self, lent: Lent) -> u32 {
+        self.paper.audit(lent)
+    }
+
+    fn compare(&mut self, first: LentToRead, second: LentToRead, list: &mut [u32], changes: &mut [i32]) -> Answer {
+        (self.compare)(first, second, list, changes)
+    }
+}
 
 include!(concat!(env!("OUT_DIR"), "/broken.rs"));
 
@@ -17,10 +79,16 @@ fn all_slips() -> impl Iterator<Item = &'static slips::Slip> {
     slips::ALL.into_iter().flatten()
 }
 
-/// The sequences that find a slip: the audit's own for one that is of the audit, and else those of the calls.
+/// The sequences that find a slip: the audit's own for one that is of the audit, those with compares for one that is of
+/// the compare, and else those of the calls.
 fn sequences(slip: &slips::Slip) -> Run {
-    let of_audit = slip.audit || slip.case.map_or(false, |case| case.starts_with("W-201"));
-    Run { seed: 1, calls: CALLS, of: if of_audit { Of::Audits } else { Of::Calls } }
+    let of = match slip.file {
+        slips::File::Audit => Of::Audits,
+        slips::File::Beside => Of::Compares,
+        slips::File::Paper if slip.case.map_or(false, |case| case.starts_with("W-201")) => Of::Audits,
+        slips::File::Paper => Of::Calls,
+    };
+    Run { seed: 1, calls: CALLS, of }
 }
 
 /// Where the comparison finds the slip and how it shows it, in words.
@@ -42,10 +110,11 @@ fn holds(begins: &str, program: &mut dyn Calls) -> bool {
     held
 }
 
-/// No reading's case is idle, and none of W-203's and W-201's: each has a slip, the other reading, that it fails on.
+/// No reading's case is idle, and none of W-203's, W-201's and W-212's: each has a slip, the other reading, that it
+/// fails on.
 fn every_reading_has_its_slip() {
     let with_slips = [readings::CASES, order::READINGS, order::CASES, audited::READINGS, audited::CASES].concat();
-    for (name, _) in with_slips {
+    for (name, _) in [&with_slips, compared::READINGS, compared::CASES].concat() {
         let told = all_slips().filter_map(|slip| slip.case).any(|begins| name.starts_with(begins));
         assert!(told, "no slip names the case '{name}'");
     }
@@ -68,13 +137,24 @@ const BREAK_THE_PROMISE: [&str; 12] = [
     "a freed pool may not have class 65,535",
 ];
 
-/// The promise is held to: such a program beside itself does not pass.
-fn the_promise_is_held_to() -> Vec<String> {
+/// Slips to the compare whose changes don't add up to the difference of the roll counts.
+const BREAK_THE_SUM: [&str; 6] = [
+    "the changes are first less second",
+    "the changes have no sign",
+    "the blocks of the last class are not counted",
+    "the first heap's blocks are not counted",
+    "other bytes are a change",
+    "the changes are of the pools' counts",
+];
+
+/// The promises are held to: such a program beside itself does not pass.
+fn the_promises_are_held_to() -> Vec<String> {
     let mut unseen = Vec::new();
-    for name in BREAK_THE_PROMISE {
+    let audits = BREAK_THE_PROMISE.into_iter().map(|name| (name, Of::Audits));
+    for (name, of) in audits.chain(BREAK_THE_SUM.into_iter().map(|name| (name, Of::Compares))) {
         let n = all_slips().position(|slip| slip.name == name).expect(name);
         let [mut left, mut right] = [(); 2].map(|_| programs().swap_remove(n));
-        let run = Run { seed: 1, calls: 10_000, of: Of::Audits };
+        let run = Run { seed: 1, calls: 10_000, of };
         if compare(left.as_mut(), right.as_mut(), run, &mut Tally::new()).is_ok() {
             unseen.push(format!("the promise is kept although {name}"));
         }
@@ -86,7 +166,7 @@ fn the_promise_is_held_to() -> Vec<String> {
 #[test]
 fn every_slip_is_found() {
     every_reading_has_its_slip();
-    let mut wrong = the_promise_is_held_to();
+    let mut wrong = the_promises_are_held_to();
     for (slip, mut program) in all_slips().zip(programs()) {
         match found(program.as_mut(), sequences(slip)) {
             Some(words) => println!("{words}: {}", slip.name),

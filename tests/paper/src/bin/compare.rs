@@ -8,10 +8,11 @@ use heskavern_paper::{Calls, Paper};
 
 const USAGE: &str = "usage: compare [--seed N] [--calls N] [--coverage [--least N]]
   --seed N      the seed of the first heap (1); a difference names the seed of its heap
-  --calls N     at least this many calls, audits not counted (3000000)
-  --coverage    make the calls of the paper alone and print how often each number, path, rule, side and clause was met
-  --least N     with --coverage: fail where a number that a call can give, a path, rule, side or clause was met less
-                often (0)";
+  --calls N     at least this many calls, audits and compares not counted (3000000)
+  --coverage    make the calls of the paper alone and print how often each number, path, rule, side, clause and kind was
+                met
+  --least N     with --coverage: fail where a number that a call can give, a path, rule, side, clause or kind was met
+                less often (0)";
 
 struct Wanted {
     run: Run,
@@ -49,7 +50,7 @@ fn library() -> Option<Box<dyn Calls>> {
     None
 }
 
-/// The calls of the paper alone, and how often each number, path, rule, side and clause was met.
+/// The calls of the paper alone, and how often each number, path, rule, side, clause and kind was met.
 fn coverage(wanted: &Wanted) -> ExitCode {
     let mut tally = Tally::new();
     let same = compare(&mut Paper::default(), &mut Paper::default(), wanted.run, &mut tally);
@@ -73,9 +74,9 @@ fn against(other: &mut dyn Calls, wanted: &Wanted) -> ExitCode {
         Ok(()) => {
             let seconds = begun.elapsed().as_secs_f32();
             println!(
-                "the library and the paper agree on {} calls and {} audits over {} heaps of edition eight and {} of \
-                 sixteen, and keep the audit's promise ({seconds:.0} s)",
-                tally.calls, tally.audits, tally.heaps[0], tally.heaps[1]
+                "the library and the paper agree on {} calls, {} audits and {} compares over {} heaps of edition eight \
+                 and {} of sixteen, and keep the audit's promise and the compare's sum ({seconds:.0} s)",
+                tally.calls, tally.audits, tally.compares, tally.heaps[0], tally.heaps[1]
             );
             ExitCode::SUCCESS
         }
