@@ -3,8 +3,9 @@ libheskavern.a.
 
 A heap has A arenas (1 to 16) of P pools (2 to 64); a pool is 4,096 bytes. Three buffers are lent to every call, each as
 a pointer and its length in elements: memory, which holds the blocks, books and map. Their lengths are exact: see the
-macros below; HESKAVERN_LENT makes all six arguments. A block is known by its offset in memory. A heap is of edition
-eight or sixteen: format is told which, and every other call reads it off the books.
+macros below; HESKAVERN_LENT makes all six arguments. (Compare is lent two heaps, and so six buffers.) A block is known
+by its offset in memory. A heap is of edition eight or sixteen: format is told which, and every other call reads it off
+the books.
 
 Every call answers a number and a value, but for view and the stand-in, which hand back a part, and the audit, which
 answers yes or the rule that is broken. The number is 0 when it is done, and otherwise says why it is refused. A refusal
@@ -16,10 +17,11 @@ makes a system call.
 What the caller owes, and no call can test:
 - Each pointer is valid for its length and aligned for its type. It is not null, even where the length is 0.
 - A buffer that a call may write, one whose pointer is not const, overlaps no other buffer of that call. That goes for
-  text and roll too.
+  text, roll, list and changes too.
 - During a call no other thread writes these buffers, or reads one that is not const.
-- There are 512 bytes of stack for the call, and 8,192 for the audit; and for format and the audit what memset takes
-  besides. (Where it is bound lazily, its first call is the dynamic linker's and takes some thousands.)
+- There are 512 bytes of stack for the call, 2,048 for compare and 8,192 for the audit; and for format and the audit
+  what memset takes besides. (Where it is bound lazily, its first call is the dynamic linker's and takes some
+  thousands.)
 Between calls, books and map are not yours to write, and of memory only the blocks that you hold. Keep to that from
 format on, and no block is handed out twice and no call gives 6. After any other write every call is still safe and
 still answers by its rules, but it may meet damage and give 6, or hand out what is in use.
@@ -33,17 +35,18 @@ What is good to know:
   block that is out; or until the last block of its arena comes back. That releases the arena, and the offset is 5, no
   block, at least until its pool is used anew. So a second give-back is 10, or 5 where the first one released the arena.
   The block that a pool has set ready for a later ask is 10 too, though it was never out.
-- Buffers of two heaps in one call, each with its own length, are refused with 2 where A x P differs. (HESKAVERN_LENT
-  makes the lengths from A and P: with a smaller heap's buffers it breaks the first rule above.) Where A x P is the same
-  no call can tell: it answers by the three buffers as they are lent and touches no others, but it may write into a
-  block that is held, and leave both heaps damaged.
+- Buffers of two heaps that are lent as one heap's, each with its own length, are refused with 2 where A x P differs.
+  (HESKAVERN_LENT makes the lengths from A and P: with a smaller heap's buffers it breaks the first rule above.) Where
+  A x P is the same no call can tell: it answers by the three buffers as they are lent and touches no others, but it may
+  write into a block that is held, and leave both heaps damaged.
 - Any thread may make the next call, a give-back too, if you order the calls on a heap, by a lock or by handing it over:
-  nothing is kept outside the three buffers. Two heaps need no order between them.
+  nothing is kept outside the three buffers. Two heaps need no order between them; a compare is a call on both.
 - In edition sixteen a block is aligned to 16 where memory is. In edition eight it is aligned to 8 where memory is; to
   16 where memory is and the block size is a multiple of 16, which it is for sizes 9 to 16, 25 to 32, 41 to 48 and so
   on. In neither to more. An array of uint8_t is aligned to 1 unless you say more.
 - A heap may be saved and loaded, at another address too: all three buffers together, as they are between two calls.
-  They hold offsets and no pointers; books and map are words of a little-endian machine.
+  They hold offsets and no pointers; books and map are words of a little-endian machine. Compare says what has changed
+  since.
 - How large: a text of n bytes takes a block of n rounded up to a multiple of 8, or of 16 in edition sixteen, and a pool
   has 4,048 / size of them, rounded down. For each block size divide the most texts that are live at one time by that,
   and round up: the sum is the pools that are always enough. (A resize that moves holds both blocks for a moment: count
@@ -98,18 +101,20 @@ enum {
 
 /* The numbers. Format tests its A and P, then its edition, and then the lengths. In every other call books of under two
    words are 2; then A and P are tested, 1; books that do not reach word 68 are 2; then come the edition, 1, and the
-   lengths, 2; then 3, then 5 or 10, then 7, and then the step, which gives 4 or 6. (8 and 9 are the replay program's
-   alone.) */
+   lengths, 2; then 3, then 5 or 10, then 7, and then the step, which gives 4 or 6. Compare tests the first heap so, 1
+   and 2, then the second, and then come 12 and 7. (8 and 9 are the replay program's alone.) */
 enum {
-    HESKAVERN_DONE = 0,         /* done */
-    HESKAVERN_OUT_OF_RANGE = 1, /* A, P or the edition out of range */
-    HESKAVERN_NOT_EXACT = 2,    /* a lent length is not exact */
-    HESKAVERN_BAD_SIZE = 3,     /* size 0 or above 512 */
-    HESKAVERN_NO_ROOM = 4,      /* no room */
-    HESKAVERN_NO_BLOCK = 5,     /* no block there */
-    HESKAVERN_DAMAGED = 6,      /* books damaged; see resize for its one answer with a value */
-    HESKAVERN_DOES_NOT_FIT = 7, /* text longer than its block, or fewer than two roll words for each live block */
-    HESKAVERN_DEAD_BLOCK = 10   /* a block that is not live: it was given back, or never handed out */
+    HESKAVERN_DONE = 0,          /* done */
+    HESKAVERN_OUT_OF_RANGE = 1,  /* A, P or the edition out of range */
+    HESKAVERN_NOT_EXACT = 2,     /* a lent length is not exact */
+    HESKAVERN_BAD_SIZE = 3,      /* size 0 or above 512 */
+    HESKAVERN_NO_ROOM = 4,       /* no room */
+    HESKAVERN_NO_BLOCK = 5,      /* no block there */
+    HESKAVERN_DAMAGED = 6,       /* books damaged; see resize for its one answer with a value */
+    HESKAVERN_DOES_NOT_FIT = 7,  /* text longer than its block; fewer than two roll words for each live block; fewer
+                                    than two list words for each difference, or fewer changes than classes */
+    HESKAVERN_DEAD_BLOCK = 10,   /* a block that is not live: it was given back, or never handed out */
+    HESKAVERN_UNEQUAL_SHAPE = 12 /* two heaps of unequal A, P or edition */
 };
 
 /* What the audit answers: yes, or the first rule that is broken. A carved pool lies below an open arena's mark; it is
@@ -128,6 +133,14 @@ enum {
                                    each block just one of live, on the freed chain and virgin, once, and on the chain
                                    two at least if it is freed, one unless it is full */
     HESKAVERN_AUDIT_ORDER = 9   /* the usable list rising by free pools */
+};
+
+/* The kinds: how an offset differs between the two heaps of compare. Where both size and bytes do, it is the size. */
+enum {
+    HESKAVERN_FIRST_ALONE = 1,  /* live in the first alone */
+    HESKAVERN_SECOND_ALONE = 2, /* live in the second alone */
+    HESKAVERN_OTHER_SIZE = 3,   /* live in both, with another block size */
+    HESKAVERN_OTHER_BYTES = 4   /* live in both, with the same block size and other bytes in the block */
 };
 
 /* The largest size that can be asked for. */
@@ -149,7 +162,14 @@ enum {
 #define HESKAVERN_MAP_WORDS(a, p) (8 * HESKAVERN_SIZE(a) * HESKAVERN_SIZE(p))
 #define HESKAVERN_ROLL_WORDS(a, p) (2 * 506 * HESKAVERN_SIZE(a) * HESKAVERN_SIZE(p))
 
-/* The six arguments that every call begins with: three buffers of those lengths. */
+/* List words that are always enough for compare. They are as many as roll words: an offset that differs is where a
+   block starts in one of the two heaps, and blocks of every size start where smallest ones do, at 506 places of a pool
+   (in edition sixteen at 253). And changes that are always enough: one for each class of edition eight (in edition
+   sixteen half of them are). */
+#define HESKAVERN_LIST_WORDS(a, p) HESKAVERN_ROLL_WORDS(a, p)
+#define HESKAVERN_CHANGES 64
+
+/* The six arguments that every call begins with, and compare twice: three buffers of those lengths. */
 #define HESKAVERN_LENT(memory, books, map, a, p) \
     (memory), HESKAVERN_MEMORY_BYTES(a, p), (books), HESKAVERN_BOOKS_WORDS(a, p), (map), HESKAVERN_MAP_WORDS(a, p)
 
@@ -247,6 +267,23 @@ HESKAVERN_MUST_USE heskavern_answer heskavern_roll_call(
 HESKAVERN_MUST_USE uint32_t heskavern_audit(
     const uint8_t *memory, size_t memory_bytes, const uint32_t *books, size_t books_words, const uint64_t *map,
     size_t map_words) HESKAVERN_NOEXCEPT;
+
+/* Compare: what differs between two heaps of equal A, P and edition, as one that was saved and the one that went on.
+   Writes an entry of two words to list, its offset and its kind, for each offset that is live in just one of the two,
+   or live in both with another block size or other bytes: each once, by rising offset. Leaves the words after them. The
+   bytes are those of the whole block, behind its text too. A text that has moved is at two offsets: it has gone from
+   one and come to another.
+   Writes to changes, at index c, how many more blocks of class c are live in the second heap than in the first, below 0
+   where fewer are: 64 of them, and in edition sixteen 32. Leaves what is after those. Class c has blocks of 8(c + 1)
+   bytes, in edition sixteen of 16(c + 1). The changes add up to the second heap's roll count less the first's.
+   Value: how many entries; at most 506 entries, 1,012 words, for each pool. Refuses with 1, 2, 12, 7: with 7 where list
+   or changes have less room than that takes. A refusal writes neither. The two heaps may be in the same buffers, all or
+   some. As roll call it goes by the maps and the pools' classes, and never gives 6. */
+HESKAVERN_MUST_USE heskavern_answer heskavern_compare(
+    const uint8_t *first_memory, size_t first_memory_bytes, const uint32_t *first_books, size_t first_books_words,
+    const uint64_t *first_map, size_t first_map_words, const uint8_t *second_memory, size_t second_memory_bytes,
+    const uint32_t *second_books, size_t second_books_words, const uint64_t *second_map, size_t second_map_words,
+    uint32_t *list, size_t list_words, int32_t *changes, size_t changes_count) HESKAVERN_NOEXCEPT;
 
 /* Stand-in: the live block's own part of memory, the whole block; where view_size refuses, the phrase itself, all of
    it. So, on a heap that is kept as said above, a block that is not out is never read out: its offset speaks the

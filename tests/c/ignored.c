@@ -9,7 +9,7 @@
 #define IGNORED
 #endif
 
-void ignores_all(uint8_t *memory, uint32_t *books, uint64_t *map, uint32_t *roll)
+void ignores_all(uint8_t *memory, uint32_t *books, uint64_t *map, uint32_t *roll, int32_t *changes)
 {
     IGNORED heskavern_format(HEAP, 1, 2, HESKAVERN_SIXTEEN);
     IGNORED heskavern_ask(HEAP, 4);
@@ -19,4 +19,5 @@ void ignores_all(uint8_t *memory, uint32_t *books, uint64_t *map, uint32_t *roll
     IGNORED heskavern_write(HEAP, 48, "owed", 4);
     IGNORED heskavern_roll_call(HEAP, roll, 2);
     IGNORED heskavern_audit(HEAP);
+    IGNORED heskavern_compare(HEAP, HEAP, roll, 2, changes, HESKAVERN_CHANGES);
 }

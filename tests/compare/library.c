@@ -1,22 +1,28 @@
 /* Replays 01's records through the C library, for a heap of any shape and edition: library A P EDITION < records
  * > replies. The records are whole and well made: bad ones are the replay program's own business. After every record,
- * or where the heap is large after some, the audit must say yes. */
+ * or where the heap is large after some, the audit must say yes; and after some the heap, beside itself before the
+ * record, must differ by what the reply says and by nothing else. */
 #include "../../include/heskavern.h"
 #include "../source/bytes.h"
 
 #include <stdio.h>
 #include <stdlib.h>
+#include <string.h>
 
-enum { RECORD = 16, ASK = 1, GIVE_BACK = 2 };
+enum { RECORD = 16, ASK = 1, GIVE_BACK = 2, RESIZE = 3 };
 enum { MOST = 16 * 64 };
 enum { SMALL = 16 };    /* pools; the time of an audit grows with them, and it is made as much more seldom */
+enum { SELDOM = 16 };   /* audits to a comparison, which reads every live byte */
 
-static uint8_t memory[HESKAVERN_MEMORY_BYTES(1, MOST)];
-static uint32_t books[HESKAVERN_BOOKS_WORDS(16, 64)];
-static uint64_t map[HESKAVERN_MAP_WORDS(1, MOST)];
+static struct heap {
+    uint8_t memory[HESKAVERN_MEMORY_BYTES(1, MOST)];
+    uint32_t books[HESKAVERN_BOOKS_WORDS(16, 64)];
+    uint64_t map[HESKAVERN_MAP_WORDS(1, MOST)];
+} now, before;
 static size_t arenas, pools;
 
-#define HEAP HESKAVERN_LENT(memory, books, map, arenas, pools)
+#define LENT(heap) HESKAVERN_LENT(heap.memory, heap.books, heap.map, arenas, pools)
+#define HEAP LENT(now)
 
 /* The reply to a record; live is the number of live blocks before it and after it. */
 static void answer(const unsigned char *record, unsigned char *reply, uint32_t *live)
@@ -47,6 +53,39 @@ static int broken(unsigned long records)
     return rule != HESKAVERN_AUDIT_YES;
 }
 
+/* Keeps the heap as it is before a record. */
+static void keep(void)
+{
+    memcpy(before.memory, now.memory, HESKAVERN_MEMORY_BYTES(arenas, pools));
+    memcpy(before.books, now.books, HESKAVERN_BOOKS_WORDS(arenas, pools) * sizeof *now.books);
+    memcpy(before.map, now.map, HESKAVERN_MAP_WORDS(arenas, pools) * sizeof *now.map);
+}
+
+/* Says that compare does not find just what a record with this reply has changed; whether so. What went from an offset
+ * was live before alone, and what came to one is live now alone; a resize that moves is both. */
+static int astray(const unsigned char *record, const unsigned char *reply, unsigned long records)
+{
+    static const int32_t none[HESKAVERN_CHANGES];
+    const uint32_t from = get32(record + 8), to = get32(reply + 4), smallest = now.books[68] ? 16 : 8;
+    const uint32_t gone[2] = {from, HESKAVERN_FIRST_ALONE}, come[2] = {to, HESKAVERN_SECOND_ALONE};
+    int moves = reply[1] == HESKAVERN_DONE && !(record[0] == RESIZE && from == to);
+    int went = moves && record[0] != ASK, came = moves && record[0] != GIVE_BACK;
+    uint32_t list[4] = {0, 0, 0, 0};
+    int32_t changes[HESKAVERN_CHANGES] = {0};
+    heskavern_answer a = heskavern_compare(LENT(before), LENT(now), list, 4, changes, HESKAVERN_CHANGES);
+    int right = a.number == HESKAVERN_DONE && a.value == (uint32_t)(went + came)
+        && (!went || memcmp(list + (came && to < from ? 2 : 0), gone, sizeof gone) == 0)
+        && (!came || memcmp(list + (went && from < to ? 2 : 0), come, sizeof come) == 0);
+    if (right && went) /* both are taken back, and then no change is left */
+        ++changes[heskavern_view_size(LENT(before), from).value / smallest - 1];
+    if (right && came)
+        --changes[heskavern_view_size(LENT(now), to).value / smallest - 1];
+    right = right && memcmp(changes, none, sizeof none) == 0;
+    if (!right)
+        fprintf(stderr, "compare does not find just what record %lu has changed\n", records);
+    return !right;
+}
+
 int main(int argc, char **argv)
 {
     unsigned char record[RECORD], reply[RECORD];
@@ -61,9 +100,12 @@ int main(int argc, char **argv)
     }
     size_t each = arenas * pools > SMALL ? arenas * pools / SMALL : 1;
     while (fread(record, 1, RECORD, stdin) == RECORD) {
+        int compared = ++records % (SELDOM * each) == 0;
+        if (compared)
+            keep();
         answer(record, reply, &live);
         fwrite(reply, 1, RECORD, stdout);
-        if (++records % each == 0 && broken(records))
+        if ((records % each == 0 && broken(records)) || (compared && astray(record, reply, records)))
             return 1;
     }
     return fflush(stdout) == 0 ? 0 : 1;

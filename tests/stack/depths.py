@@ -14,6 +14,7 @@ PREFIX = re.compile(r'(notrack|bnd|rep[nz]*|lock) +')
 SUFFIX = re.compile(r'(push|pop|call|ret|jmp)q\b')  # as older disassemblers write them
 POINTER = re.compile(r'%(rsp|esp|spl?)\b')
 PLACE = re.compile(r'(-?0x[0-9a-f]+|)\(%rsp(?:,%\w+,[1248])?\)')
+LOWEST = re.compile(r'%rsp,%(?:r[abcd]x|r[sd]i|r\d+)')  # not %rbp: that would keep a frame
 # what push and pop move as eight bytes: a whole register, a number, a place
 EIGHT = re.compile(r'%r(\d+|[a-d]x|[sd]i|bp)|\$0x[0-9a-f]+|.*\(.*\)')
 # what else moves the stack pointer or the flow
@@ -128,6 +129,8 @@ class Function:
         elif word in ('sub', 'add') and (by := re.fullmatch(r'\$0x([0-9a-f]+),%rsp', rest)):
             by = int(by[1], 16)
             depth += (by - 2**64 if by >> 63 else by) * (1 if word == 'sub' else -1)
+        elif word == 'mov' and LOWEST.fullmatch(rest):
+            pass  # the address of its lowest place, as `lea (%rsp)` would have it
         elif STRANGE.fullmatch(word) or POINTER.search(rest):
             self.fault(at, 'what this does to the stack is not understood')
         self.own = max(self.own, depth)

@@ -5,26 +5,27 @@
 
 #include <stdio.h>
 #include <stdlib.h>
+#include <string.h>
 
 enum { ARENAS = 4, POOLS = 5, MOST = ARENAS * POOLS, STEPS = 500, KEPT = 32 };
 
-static uint8_t memory[HESKAVERN_MEMORY_BYTES(1, MOST)];
-static uint32_t books[HESKAVERN_BOOKS_WORDS(ARENAS, POOLS)];
-static uint64_t map[HESKAVERN_MAP_WORDS(1, MOST)];
+static uint8_t memory[HESKAVERN_MEMORY_BYTES(1, MOST)], memory_then[sizeof memory];
+static uint32_t books[HESKAVERN_BOOKS_WORDS(ARENAS, POOLS)], books_then[sizeof books / sizeof *books];
+static uint64_t map[HESKAVERN_MAP_WORDS(1, MOST)], map_then[sizeof map / sizeof *map]; /* the heap, and as it was */
 static uint32_t roll[HESKAVERN_ROLL_WORDS(1, MOST)];
+static int32_t changes[HESKAVERN_CHANGES];
 static const uint8_t text[HESKAVERN_LARGEST + 1];
 static size_t arenas, pools;
 static uint32_t kept[KEPT]; /* offsets that asks and resizes answered */
 
 /* ---- the painted stack, in words */
-enum { DEPTH = 2048, ABOVE = 4 };
+enum { DEPTH = 2048, WORDS = 16, ABOVE = 10 };
 static const uint64_t PAINT = 0xa7b3c5d9e1f2968b;
 static uint64_t stack[DEPTH] __attribute__((aligned(16)));
 
-/* Calls a function with nine words, on the stack that ends at `end`. The last three words, and eight bytes that keep
- * the stack aligned, are the caller's own and stand ABOVE the call's stack. The library's memset is the one here: it
- * uses no stack but its return address. */
-heskavern_answer on_stack(const void *function, const uint64_t words[9], uint64_t *end);
+/* Calls a function with 16 words, on the stack that ends at `end`. The last ten words are the caller's own and stand
+ * ABOVE the call's stack. The library's memset is the one here: it uses no stack but its return address. */
+heskavern_answer on_stack(const void *function, const uint64_t words[WORDS], uint64_t *end);
 __asm__(".text\n"
         ".globl on_stack\n"
         "on_stack:\n"
@@ -32,7 +33,14 @@ __asm__(".text\n"
         "    mov %rsp, %rbx\n"
         "    mov %rdi, %rax\n"
         "    mov %rsi, %r10\n"
-        "    lea -8(%rdx), %rsp\n"
+        "    mov %rdx, %rsp\n"
+        "    push 120(%r10)\n"
+        "    push 112(%r10)\n"
+        "    push 104(%r10)\n"
+        "    push 96(%r10)\n"
+        "    push 88(%r10)\n"
+        "    push 80(%r10)\n"
+        "    push 72(%r10)\n"
         "    push 64(%r10)\n"
         "    push 56(%r10)\n"
         "    push 48(%r10)\n"
@@ -85,22 +93,42 @@ static struct call {
     {"heskavern_view_size", heskavern_view_size, 0},
     {"heskavern_roll_call", heskavern_roll_call, 0},
     {"heskavern_audit", heskavern_audit, 0},
+    {"heskavern_compare", heskavern_compare, 0},
 };
-enum { FORMAT, ASK, GIVE_BACK, RESIZE, WRITE, VIEW_SIZE, ROLL_CALL, AUDIT, CALLS };
+enum { FORMAT, ASK, GIVE_BACK, RESIZE, WRITE, VIEW_SIZE, ROLL_CALL, AUDIT, COMPARE, CALLS };
 
-static heskavern_answer call(int which, uint64_t seventh, uint64_t eighth, uint64_t ninth)
+/* The six words of the heap, and of the one as it was. */
+#define LENT(memory, books, map) (uintptr_t)(memory), HESKAVERN_MEMORY_BYTES(arenas, pools), \
+    (uintptr_t)(books), HESKAVERN_BOOKS_WORDS(arenas, pools), (uintptr_t)(map), HESKAVERN_MAP_WORDS(arenas, pools)
+#define NOW LENT(memory, books, map)
+#define THEN LENT(memory_then, books_then, map_then)
+
+static heskavern_answer call_with(int which, const uint64_t words[WORDS])
 {
-    const uint64_t words[9] = {
-        (uintptr_t)memory, HESKAVERN_MEMORY_BYTES(arenas, pools),
-        (uintptr_t)books, HESKAVERN_BOOKS_WORDS(arenas, pools),
-        (uintptr_t)map, HESKAVERN_MAP_WORDS(arenas, pools),
-        seventh, eighth, ninth,
-    };
     heskavern_answer answer = on_stack(calls[which].function, words, stack + DEPTH);
     size_t bytes = used();
     if (bytes > calls[which].seen)
         calls[which].seen = bytes;
     return answer;
+}
+
+static heskavern_answer call(int which, uint64_t seventh, uint64_t eighth, uint64_t ninth)
+{
+    const uint64_t words[WORDS] = {NOW, seventh, eighth, ninth};
+    return call_with(which, words);
+}
+
+/* Compares the heap as it was and as it is, mostly with room, and now and then keeps it as it is. */
+static void compare(void)
+{
+    const uint64_t room = below(4) ? sizeof roll / sizeof *roll : below(40);
+    const uint64_t words[WORDS] = {THEN, NOW, (uintptr_t)roll, room, (uintptr_t)changes, HESKAVERN_CHANGES};
+    call_with(COMPARE, words);
+    if (below(4) == 0) {
+        memcpy(memory_then, memory, sizeof memory);
+        memcpy(books_then, books, sizeof books);
+        memcpy(map_then, map, sizeof map);
+    }
 }
 
 /* A number that the books might hold: a link, an in-pool offset, or anything. */
@@ -133,7 +161,7 @@ static void damage(void)
 static void step(void)
 {
     static const int turns[] = {ASK,    ASK,   ASK,       ASK,       GIVE_BACK, GIVE_BACK, GIVE_BACK, RESIZE,
-                                RESIZE, WRITE, VIEW_SIZE, ROLL_CALL, AUDIT};
+                                RESIZE, WRITE, VIEW_SIZE, ROLL_CALL, AUDIT,     COMPARE};
     int which = turns[below(sizeof turns / sizeof *turns)];
     uint32_t *place = &kept[below(KEPT)], end = (uint32_t)HESKAVERN_MEMORY_BYTES(arenas, pools);
     uint32_t offset = below(16) ? *place : 8 * below(end / 8 + 2);
@@ -144,6 +172,7 @@ static void step(void)
     case RESIZE: answer = call(which, offset, size, 0); break;
     case WRITE: call(which, offset, (uintptr_t)text, below(sizeof text)); break;
     case ROLL_CALL: call(which, (uintptr_t)roll, below(4) ? sizeof roll / sizeof *roll : below(40), 0); break;
+    case COMPARE: compare(); break;
     default: call(which, offset, 0, 0);
     }
     if (answer.value != 0)

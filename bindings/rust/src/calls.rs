@@ -1,4 +1,4 @@
-//! The calls as the library has them, over any three slices: the number, and the value beside it.
+//! The calls as the library has them, over any three slices, [`compare`] over six: the number, and the value beside it.
 //! [`Heap`](crate::Heap) says the same with types.
 //!
 //! Each takes any lengths, any contents of the buffers and any arguments, and answers by its rules:
@@ -106,6 +106,24 @@ extern "C" {
         map: *const u64,
         map_words: usize,
     ) -> u32;
+    fn heskavern_compare(
+        first_memory: *const u8,
+        first_memory_bytes: usize,
+        first_books: *const u32,
+        first_books_words: usize,
+        first_map: *const u64,
+        first_map_words: usize,
+        second_memory: *const u8,
+        second_memory_bytes: usize,
+        second_books: *const u32,
+        second_books_words: usize,
+        second_map: *const u64,
+        second_map_words: usize,
+        list: *mut u32,
+        list_words: usize,
+        changes: *mut i32,
+        changes_count: usize,
+    ) -> Answer;
 }
 
 /// Format: a fresh heap of A arenas of P pools, of edition eight (0) or sixteen (1); another edition is refused with 1.
@@ -250,4 +268,45 @@ pub fn roll_call(memory: &[u8], books: &[u32], map: &[u64], roll: &mut [u32]) ->
 pub fn audit(memory: &[u8], books: &[u32], map: &[u64]) -> u32 {
     // SAFETY: see the module.
     unsafe { heskavern_audit(memory.as_ptr(), memory.len(), books.as_ptr(), books.len(), map.as_ptr(), map.len()) }
+}
+
+/// Compare: what differs between two heaps of equal A, P and edition, each lent as its memory, books and map; they may
+/// share buffers, or be one. For each offset that differs two words go to `list`, the offset and the number of its
+/// [`Kind`](crate::Kind), by rising offset; and to `changes`, for each class, the second heap's live blocks less the
+/// first's. What is after those stays. The value is how many offsets differ. Refused with 1 or 2 of the first heap, 1
+/// or 2 of the second, 12 where A, P or the edition differ, and 7 where list or changes are too short; then neither is
+/// written.
+///
+/// ```
+/// use heskavern::calls::{compare, Answer};
+/// let none = (&[][..], &[][..], &[][..]);
+/// assert_eq!(compare(none, none, &mut [], &mut []), Answer { number: 2, value: 0 });
+/// ```
+pub fn compare(
+    first: (&[u8], &[u32], &[u64]),
+    second: (&[u8], &[u32], &[u64]),
+    list: &mut [u32],
+    changes: &mut [i32],
+) -> Answer {
+    // SAFETY: see the module.
+    unsafe {
+        heskavern_compare(
+            first.0.as_ptr(),
+            first.0.len(),
+            first.1.as_ptr(),
+            first.1.len(),
+            first.2.as_ptr(),
+            first.2.len(),
+            second.0.as_ptr(),
+            second.0.len(),
+            second.1.as_ptr(),
+            second.1.len(),
+            second.2.as_ptr(),
+            second.2.len(),
+            list.as_mut_ptr(),
+            list.len(),
+            changes.as_mut_ptr(),
+            changes.len(),
+        )
+    }
 }

@@ -1,5 +1,7 @@
 //! The edition of a heap.
 
+use crate::LARGEST;
+
 /// The edition of a heap: what the sizes of its blocks are multiples of. [`Heap::format`](crate::Heap::format) is told
 /// it and writes it to the books, off which every other call reads it. There are these two: books with another word in
 /// its place are refused with 1.
@@ -7,6 +9,7 @@
 /// ```
 /// use heskavern::Edition;
 /// assert_eq!((Edition::Eight.alignment(), Edition::Sixteen.alignment()), (8, 16));
+/// assert_eq!((Edition::Eight.classes(), Edition::Sixteen.classes()), (64, 32));
 /// assert_eq!((Edition::Eight.word(), Edition::Sixteen.word()), (0, 1));
 /// ```
 #[derive(Clone, Copy, Debug, PartialEq, Eq, Hash)]
@@ -27,6 +30,13 @@ impl Edition {
             Edition::Eight => 8,
             Edition::Sixteen => 16,
         }
+    }
+
+    /// How many classes it has, each of one block size: 64 or 32. Class c, from 0, has blocks of (c + 1) ×
+    /// [`alignment`](Edition::alignment) bytes.
+    #[must_use]
+    pub const fn classes(self) -> usize {
+        LARGEST / self.alignment()
     }
 
     /// The word that says it in the books, and to [`calls::format`](crate::calls::format): 0 or 1.

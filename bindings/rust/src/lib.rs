@@ -51,7 +51,8 @@
 //!   41 to 48 and so on. To no more, in either. A `[u8]` is aligned to 1 unless you say more.
 //! - A heap may be saved and loaded, at another address too: all three buffers together, as they are between two calls,
 //!   and then [`Heap::open`]. They hold offsets and no pointers, and the edition; books and map are words of a
-//!   little-endian machine. A heap that was saved before there were editions is of edition eight.
+//!   little-endian machine. A heap that was saved before there were editions is of edition eight. What has changed
+//!   since, [`compare`](Heap::compare) says.
 //! - How large: a text of n bytes takes a block of n rounded up to a multiple of 8, in edition sixteen of 16, and a
 //!   pool has 4,048 / size of them, rounded down. For each block size divide the most texts that are live at one time
 //!   by that, and round up: the sum is the pools that are always enough. (A resize that moves holds both blocks for a
@@ -78,11 +79,13 @@ use core::fmt;
 
 #[allow(unsafe_code)]
 pub mod calls;
+mod comparison;
 mod edition;
 mod refusal;
 mod roll;
 mod verdict;
 
+pub use comparison::{Comparison, Difference, Differences, Kind};
 pub use edition::Edition;
 pub use refusal::Refusal;
 pub use roll::Roll;
@@ -118,6 +121,18 @@ pub const fn map_words(arenas: usize, pools: usize) -> usize {
 pub const fn roll_words(arenas: usize, pools: usize) -> usize {
     2 * 506 * arenas * pools
 }
+
+/// List words that are enough for every [`compare`](Heap::compare) of two heaps of A arenas of P pools, of either
+/// edition. They are as many as [`roll_words`]: an offset that differs is where a block starts in one of the two, and
+/// blocks of every size start where the smallest ones do, at most at 506 places of a pool.
+#[must_use]
+pub const fn list_words(arenas: usize, pools: usize) -> usize {
+    roll_words(arenas, pools)
+}
+
+/// Changes that are enough for every [`compare`](Heap::compare), of either edition: one for each class of edition
+/// eight.
+pub const CHANGES: usize = Edition::Eight.classes();
 
 /// A heap over three lent buffers.
 ///
@@ -371,6 +386,49 @@ impl<'a> Heap<'a> {
     /// ```
     pub fn audit(&self) -> Verdict {
         Verdict::from(calls::audit(self.memory, self.books, self.map))
+    }
+
+    /// Compare: what differs between this heap, the first, and a second one of equal A, P and edition, as between a
+    /// copy of yesterday's and today's. Each offset is listed that is live in just one of them, or live in both with
+    /// another block size or other bytes, of the whole block; and for each class there is the change in live blocks.
+    /// They are written to the lent list, two words for each offset, and to the lent changes, and what is after them
+    /// stays. Refused with 12 where A, P or the edition differ, and with 7 where list or changes are too short;
+    /// [`list_words`] and [`CHANGES`] are always enough. [`Comparison::of`] does the same of heaps that are only to be
+    /// read.
+    ///
+    /// ```
+    /// # use heskavern::{books_words, list_words, map_words, memory_bytes, Edition, Heap, Kind, Refusal, CHANGES};
+    /// # let (mut memory, mut books, mut map) =
+    /// #     ([0; memory_bytes(1, 2)], [0; books_words(1, 2)], [0; map_words(1, 2)]);
+    /// let mut heap = Heap::format(&mut memory, &mut books, &mut map, 1, 2, Edition::Eight)?;
+    /// let (owed, paid) = (heap.ask(4)?, heap.ask(4)?);
+    /// heap.write(paid, b"paid")?;
+    /// let (mut memory_then, mut books_then, mut map_then) = (memory, books, map); // copies
+    /// let yesterday = Heap::open(&mut memory_then, &mut books_then, &mut map_then)?;
+    ///
+    /// let mut today = Heap::open(&mut memory, &mut books, &mut map)?;
+    /// today.give_back(owed)?;
+    /// today.write(paid, b"owed")?;
+    /// let new = today.ask(100)?;
+    ///
+    /// let (mut list, mut changes) = ([0; list_words(1, 2)], [0; CHANGES]);
+    /// let compared = yesterday.compare(&today, &mut list, &mut changes)?;
+    /// assert!(compared.differences().map(|difference| (difference.offset, difference.kind)).eq([
+    ///     (owed, Kind::FirstAlone),
+    ///     (paid, Kind::OtherBytes),
+    ///     (new, Kind::SecondAlone),
+    /// ]));
+    /// assert_eq!((compared.changes()[0], compared.changes()[12]), (-1, 1)); // blocks of 8 bytes, and of 104
+    /// assert_eq!(compared.changes().iter().sum::<i32>(), 0); // two blocks were live, and two are
+    /// # Ok::<(), Refusal>(())
+    /// ```
+    pub fn compare<'r>(
+        &self,
+        second: &Heap<'_>,
+        list: &'r mut [u32],
+        changes: &'r mut [i32],
+    ) -> Result<Comparison<'r>, Refusal> {
+        Comparison::of((self.memory, self.books, self.map), (second.memory, second.books, second.map), list, changes)
     }
 
     /// The size of the live block at an offset.

@@ -32,10 +32,13 @@ pub enum Refusal {
     /// 6 of a resize that was half done: the text stands in the new block, at this offset, and the old block could
     /// not be given back.
     HalfDone(u32),
-    /// 7: text longer than its block, or fewer than two roll words for each live block.
+    /// 7: text longer than its block; fewer than two roll words for each live block; fewer than two list words for each
+    /// difference, or fewer changes than classes.
     DoesNotFit,
     /// 10: a dead block: given back, or never handed out.
     DeadBlock,
+    /// 12: two heaps of unequal A, P or edition.
+    UnequalShape,
     /// A number that this crate does not know.
     Unknown(u32),
 }
@@ -52,6 +55,7 @@ impl Refusal {
             Refusal::Damaged | Refusal::HalfDone(_) => 6,
             Refusal::DoesNotFit => 7,
             Refusal::DeadBlock => 10,
+            Refusal::UnequalShape => 12,
             Refusal::Unknown(number) => number,
         }
     }
@@ -69,6 +73,7 @@ impl Refusal {
             (6, offset) => Refusal::HalfDone(offset),
             (7, _) => Refusal::DoesNotFit,
             (10, _) => Refusal::DeadBlock,
+            (12, _) => Refusal::UnequalShape,
             (unknown, _) => Refusal::Unknown(unknown),
         }
     }
@@ -87,9 +92,10 @@ impl fmt::Display for Refusal {
                 write!(f, "books damaged: the text is now at {offset}, and its old block could not be given back")
             }
             Refusal::DoesNotFit => {
-                f.write_str("text longer than its block, or fewer than two roll words for each live block")
+                f.write_str("text longer than its block, or too little room for a roll, a list or changes")
             }
             Refusal::DeadBlock => f.write_str("a dead block: given back, or never handed out"),
+            Refusal::UnequalShape => f.write_str("two heaps of unequal A, P or edition"),
             Refusal::Unknown(number) => write!(f, "refused with the unknown number {number}"),
         }
     }
@@ -106,7 +112,7 @@ mod tests {
     fn each_number_has_its_refusal() {
         for number in 1..=100 {
             assert_eq!(Refusal::of(number, 0).number(), number);
-            let known = number <= 7 || number == 10; // 8 and 9 are the replay program's
+            let known = number <= 7 || number == 10 || number == 12; // 8 and 9 are the replay program's
             assert_eq!(matches!(Refusal::of(number, 0), Refusal::Unknown(_)), !known);
         }
         assert_eq!(Refusal::of(6, 48), Refusal::HalfDone(48));
