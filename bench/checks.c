@@ -1,7 +1,8 @@
 /* 01, and what has landed of 02, read once more, in C: every check at every call, each step decided before it is
  * written. Nothing is proved of it; bench/verify.c holds it to the library's answers. Its times say what the checks
- * themselves cost. Roll call is here twice, by the library's passes over the map and by a plain loop. Compiled with
- * CHECKS(name) for the names of its calls. */
+ * themselves cost. Roll call is here twice, by the library's passes over the map and by a plain loop; so is the
+ * comparison of two heaps, with memcmp and with loops in its place. Compiled with CHECKS(name) for the names of its
+ * calls. */
 #include "checks.h"
 
 #include <stdbool.h>
@@ -511,6 +512,17 @@ INLINE uint64_t live_word(const struct heap *h, uint32_t p, uint32_t w, uint32_t
     return blocks - 64 * w < 64 ? word & (((uint64_t)1 << (blocks - 64 * w)) - 1) : word;
 }
 
+/* Adds the live blocks of pool p, which has a class. */
+INLINE void add_live(const struct heap *h, uint32_t p, uint32_t *live)
+{
+    uint32_t blocks = (POOL_BYTES - FIRST_BLOCK) / size_of_pool(h, p);
+    for (uint32_t w = 0; 64 * w < blocks; w++) {
+        uint64_t word = live_word(h, p, w, blocks);
+        if (word != 0)
+            *live += (uint32_t)__builtin_popcountll(word);
+    }
+}
+
 /* How many blocks are live. Pools with no bit set are passed over where that is wanted. */
 INLINE uint32_t count_live(const struct heap *h, bool pass_over)
 {
@@ -518,12 +530,7 @@ INLINE uint32_t count_live(const struct heap *h, bool pass_over)
     for (uint32_t p = 0; p < h->all; p++) {
         if ((pass_over && none_set(h, p)) || !has_class(h, p))
             continue;
-        uint32_t blocks = (POOL_BYTES - FIRST_BLOCK) / size_of_pool(h, p);
-        for (uint32_t w = 0; 64 * w < blocks; w++) {
-            uint64_t word = live_word(h, p, w, blocks);
-            if (word != 0)
-                live += (uint32_t)__builtin_popcountll(word);
-        }
+        add_live(h, p, &live);
     }
     return live;
 }
@@ -791,6 +798,10 @@ INLINE uint32_t first_broken(const struct heap *h)
     return rising(h, &f) ? HESKAVERN_AUDIT_YES : HESKAVERN_AUDIT_ORDER;
 }
 
+/* ---- two heaps side by side */
+
+#include "differences.h"
+
 /* ---- the calls */
 
 heskavern_answer CHECKS(format)(const uint8_t *memory, size_t memory_bytes, uint32_t *books, size_t books_words,
@@ -942,4 +953,37 @@ uint32_t CHECKS(audit)(const uint8_t *memory, size_t memory_bytes, const uint32_
     if (open_heap(&h, memory, memory_bytes, books, books_words, map, map_words) != HESKAVERN_DONE)
         return HESKAVERN_AUDIT_SHAPE;
     return first_broken(&h);
+}
+
+heskavern_answer CHECKS(compare)(const uint8_t *memory, size_t memory_bytes, const uint32_t *books, size_t books_words,
+                                 const uint64_t *map, size_t map_words, const uint8_t *second_memory,
+                                 size_t second_memory_bytes, const uint32_t *second_books, size_t second_books_words,
+                                 const uint64_t *second_map, size_t second_map_words, uint32_t *list, size_t list_words,
+                                 int32_t *changes, size_t changes_count)
+{
+    struct heap first, second;
+    uint32_t number = open_heap(&first, memory, memory_bytes, books, books_words, map, map_words);
+    if (number == HESKAVERN_DONE)
+        number = open_heap(&second, second_memory, second_memory_bytes, second_books, second_books_words, second_map,
+                           second_map_words);
+    if (number != HESKAVERN_DONE)
+        return answer(number, 0);
+    return compare_step(&first, &second, list, list_words, changes, changes_count, false);
+}
+
+heskavern_answer CHECKS(grouped_compare)(const uint8_t *memory, size_t memory_bytes, const uint32_t *books,
+                                         size_t books_words, const uint64_t *map, size_t map_words,
+                                         const uint8_t *second_memory, size_t second_memory_bytes,
+                                         const uint32_t *second_books, size_t second_books_words,
+                                         const uint64_t *second_map, size_t second_map_words, uint32_t *list,
+                                         size_t list_words, int32_t *changes, size_t changes_count)
+{
+    struct heap first, second;
+    uint32_t number = open_heap(&first, memory, memory_bytes, books, books_words, map, map_words);
+    if (number == HESKAVERN_DONE)
+        number = open_heap(&second, second_memory, second_memory_bytes, second_books, second_books_words, second_map,
+                           second_map_words);
+    if (number != HESKAVERN_DONE)
+        return answer(number, 0);
+    return compare_step(&first, &second, list, list_words, changes, changes_count, true);
 }

@@ -237,7 +237,8 @@ static void measure_ratios(const char *title, size_t first, size_t end)
     }
 }
 
-/* A table of the times of each task and then one of all ratios; but of roll call and the audit the ratios alone. */
+/* A table of the times of each task and then one of all ratios; but of roll call, the audit and two heaps side by side
+ * the ratios alone. */
 static void measure_all(void)
 {
     for (size_t i = 0; i < FIRST_ROLL; i++) {
@@ -248,7 +249,8 @@ static void measure_all(void)
     for (size_t i = 0; i < FIRST_ROLL; i++)
         print_ratios(&tasks[i], &tasks[0], figures[i]);
     measure_ratios("roll call, in µs: library / it (in quiet rounds)", FIRST_ROLL, FIRST_AUDIT);
-    measure_ratios("audit, in ns a pool: library / it (in quiet rounds)", FIRST_AUDIT, TASKS);
+    measure_ratios("audit, in ns a pool: library / it (in quiet rounds)", FIRST_AUDIT, FIRST_PAIR);
+    measure_ratios("two heaps side by side, in µs: library / it (in quiet rounds)", FIRST_PAIR, TASKS);
 }
 
 /* ---- a second give-back */

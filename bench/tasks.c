@@ -22,12 +22,19 @@ static struct step full[IN_POOL * EMPTIED], others[(IN_POOL - 1) * EMPTIED], las
 static uint16_t runs[RUN_WINDOWS][RUNS];
 static uint8_t text[512];
 
-/* Of roll call, audit and format: the largest heap, and about the nanoseconds of a short visit, where a pool takes two
- * and a live block one; of the audit a pool takes some more, and a block on a freed chain about three. */
-enum { VISIT = 40000, AUDITED_POOL = 50, ON_CHAIN = 3 };
+/* Of roll call, audit, format and two heaps side by side: the largest heap, and about the nanoseconds of a short visit,
+ * where a pool takes two and a live block one; of the audit a pool takes some more, and a block on a freed chain about
+ * three; of two heaps a pool takes some more too, and a live block about ten. */
+enum { VISIT = 40000, AUDITED_POOL = 50, ON_CHAIN = 3, COMPARED_POOL = 10, COMPARED_BLOCK = 10 };
 static uint8_t heap_memory[HESKAVERN_MEMORY_BYTES(16, 64)];
 static uint32_t heap_books[HESKAVERN_BOOKS_WORDS(16, 64)], roll[HESKAVERN_ROLL_WORDS(16, 64)];
 static uint64_t heap_map[HESKAVERN_MAP_WORDS(16, 64)];
+/* Of two heaps side by side: the second one, and list and changes. */
+enum { CLASSES = 64 };
+static uint8_t second_memory[sizeof heap_memory];
+static uint32_t second_books[sizeof heap_books / sizeof *heap_books], list[sizeof roll / sizeof *roll];
+static uint64_t second_map[sizeof heap_map / sizeof *heap_map];
+static int32_t changes[CLASSES];
 
 void fail(const char *who, const char *what)
 {
@@ -289,15 +296,17 @@ static double visit_stand_in(const struct variant *v, size_t round)
     return (end - begin) / PAIRS;
 }
 
-/* ---- roll call, audit and format */
+/* ---- roll call, audit, format and two heaps side by side */
 
-/* The heap that these are about: one for all variants. */
+/* The heap that these are about, and the one beside it: the same for all variants. */
 static struct {
-    size_t arenas, pools, roll_words;
-    uint32_t live, calls, audits;   /* so many blocks are live, and so many calls of a visit are timed */
+    size_t arenas, pools, roll_words, list_words;
+    uint32_t live, entries;                 /* so many blocks are live, and so many differ */
+    uint32_t calls, audits, comparisons;    /* so many calls of a visit are timed */
 } heap;
 
 #define HEAP HESKAVERN_LENT(heap_memory, heap_books, heap_map, heap.arenas, heap.pools)
+#define SECOND HESKAVERN_LENT(second_memory, second_books, second_map, heap.arenas, heap.pools)
 
 static bool can_roll(const struct variant *v)
 {
@@ -312,6 +321,11 @@ static bool can_audit(const struct variant *v)
 static bool can_format(const struct variant *v)
 {
     return v->format != NULL;
+}
+
+static bool can_compare(const struct variant *v)
+{
+    return v->compare != NULL;
 }
 
 /* Asks for 1 to so many bytes until there is no room, and then until there is none for any size. */
@@ -374,6 +388,54 @@ static void make_heap(const struct wanted_heap *w)
     heap.roll_words = w->tight ? 2 * (size_t)heap.live : HESKAVERN_ROLL_WORDS(w->arenas, w->pools);
     heap.calls = 1 + VISIT / (2 * w->arenas * w->pools + heap.live);
     heap.audits = 1 + VISIT / (AUDITED_POOL * w->arenas * w->pools + ON_CHAIN * (blocks - heap.live));
+}
+
+/* The second heap becomes a copy of the heap. */
+static void copy_heap(void)
+{
+    memcpy(second_memory, heap_memory, sizeof heap_memory);
+    memcpy(second_books, heap_books, sizeof heap_books);
+    memcpy(second_map, heap_map, sizeof heap_map);
+}
+
+/* Takes any of the first so many blocks out of the roll: offset and size, which go to its end. */
+static const uint32_t *draw_block(uint32_t left)
+{
+    uint32_t *block = &roll[2 * below(left)], *last = &roll[2 * (left - 1)], offset = block[0], size = block[1];
+    block[0] = last[0], block[1] = last[1];
+    last[0] = offset, last[1] = size;
+    return last;
+}
+
+/* In the second heap about a tenth of as many blocks as are live differs, of three sorts, at least one of each: blocks
+ * that come, blocks in which a byte anywhere is another, and blocks that are given back. They come before any is given
+ * back, so that no pool is taken for another size. */
+static void change_second(void)
+{
+    uint32_t left = heskavern_roll_call(HEAP, roll, sizeof roll / sizeof *roll).value;
+    uint32_t each = left < 45 ? 1 : (left + 15) / 30;
+    for (uint32_t come = 0; come < each;)
+        come += heskavern_ask(SECOND, between(1, HESKAVERN_LARGEST)).number == HESKAVERN_DONE;
+    for (uint32_t i = 0; i < each; i++) {
+        const uint32_t *written = draw_block(left--);
+        second_memory[written[0] + below(written[1])] ^= 1;
+        if (heskavern_give_back(SECOND, draw_block(left--)[0]).number != HESKAVERN_DONE)
+            fail("this library", "a give-back was refused");
+    }
+}
+
+/* The heap that is wanted, the one beside it, the room of the list, and how long a visit is. */
+static void make_pair(const struct wanted_heap *w)
+{
+    make_heap(w);
+    copy_heap();
+    if (w->second == A_TENTH_DIFFERS)
+        change_second();
+    else if (w->second == FILLED_APART)
+        make_heap(w);
+    heap.entries = heskavern_compare(HEAP, SECOND, list, sizeof list / sizeof *list, changes, CLASSES).value;
+    heap.list_words = w->tight ? 2 * (size_t)heap.entries : HESKAVERN_ROLL_WORDS(w->arenas, w->pools);
+    heap.comparisons = 1 + VISIT / (COMPARED_POOL * w->arenas * w->pools + COMPARED_BLOCK * heap.live);
 }
 
 static void call_roll(const struct variant *v)
@@ -449,6 +511,41 @@ static double visit_format(const struct variant *v, size_t round)
     return (end - begin) / heap.calls / 1000;
 }
 
+static void call_compare(const struct variant *v)
+{
+    heskavern_answer a = v->compare(HEAP, SECOND, list, heap.list_words, changes, CLASSES);
+    if (a.number != HESKAVERN_DONE || a.value != heap.entries)
+        fail(v->name, "its comparison counts wrongly");
+}
+
+/* Every variant's list and changes are the library's, word by word. */
+static void prepare_compare(const struct variant *v)
+{
+    static uint32_t first[sizeof list / sizeof *list];
+    static int32_t first_changes[CLASSES];
+    size_t bytes = 2 * heap.entries * sizeof *list;
+    memset(list, 0, bytes);
+    memset(changes, 0x5a, sizeof changes);
+    call_compare(v);
+    if (v == variants[0]) {
+        memcpy(first, list, bytes);
+        memcpy(first_changes, changes, sizeof changes);
+    }
+    if (memcmp(first, list, bytes) != 0 || memcmp(first_changes, changes, sizeof changes) != 0)
+        fail(v->name, "its list or changes are not the library's");
+}
+
+static double visit_compare(const struct variant *v, size_t round)
+{
+    (void)round;
+    call_compare(v);
+    double begin = now();
+    for (uint32_t i = 0; i < heap.comparisons; i++)
+        call_compare(v);
+    double end = now();
+    return (end - begin) / heap.comparisons / 1000;
+}
+
 /* ---- all of them */
 
 void prepare(const struct task *t, const struct variant *v)
@@ -456,7 +553,7 @@ void prepare(const struct task *t, const struct variant *v)
     if (t->wanted.arenas == 0)
         v->fresh(t->edition);
     else if (v == variants[0])
-        make_heap(&t->wanted);
+        (t->wanted.second == NO_SECOND ? make_heap : make_pair)(&t->wanted);
     t->prepare(v);
 }
 
@@ -470,7 +567,7 @@ double visit(const struct task *t, const struct variant *v, size_t round)
 
 /* Roll call over one heap, with each share of its blocks live; and the same where the roll has just room enough. */
 #define ROLL(title, share, tight, ...) \
-    {title, can_roll, prepare_roll, .visit = visit_roll, .wanted = {__VA_ARGS__, share, tight, A_SHARE}}
+    {title, can_roll, prepare_roll, .visit = visit_roll, .wanted = {__VA_ARGS__, share, tight, A_SHARE, NO_SECOND}}
 #define ROLLS(title, ...) \
     ROLL(title ", 0 % live", 0, false, __VA_ARGS__), ROLL(title ", 0.1 % live", 1, false, __VA_ARGS__), \
         ROLL(title ", 1 % live", 10, false, __VA_ARGS__), ROLL(title ", 10 % live", 100, false, __VA_ARGS__), \
@@ -483,10 +580,17 @@ double visit(const struct task *t, const struct variant *v, size_t round)
 
 /* The audit of heaps of blocks of 8 bytes, of each number of pools, with these of the blocks live. */
 #define AUDIT(title, live, arenas, pools) \
-    {title, can_audit, prepare_audit, .visit = visit_audit, .wanted = {arenas, pools, 8, 1000, false, live}}
+    {title, can_audit, prepare_audit, .visit = visit_audit, .wanted = {arenas, pools, 8, 1000, false, live, NO_SECOND}}
 #define AUDITS(title, live) \
     AUDIT("16 pools, " title, live, 1, 16), AUDIT("256 pools, " title, live, 4, 64), \
         AUDIT("1,024 pools, " title, live, 16, 64)
+
+/* Two heaps of 1,024 pools and blocks of all sizes, of which this share is live in the first. */
+#define PAIR(title, share, tight, second) \
+    {"1,024 pools, " title, can_compare, prepare_compare, .visit = visit_compare, \
+     .wanted = {16, 64, HESKAVERN_LARGEST, share, tight, A_SHARE, second}}
+#define PAIRS(title, share) \
+    PAIR(title ", equal", share, false, A_COPY), PAIR(title ", a tenth differs", share, false, A_TENTH_DIFFERS)
 
 const struct task tasks[TASKS] = {
     {"ask + give back, mixed: ns a pair", can_ask, prepare_mixed, .visit = visit_mixed},
@@ -503,7 +607,7 @@ const struct task tasks[TASKS] = {
     {"view_size: ns", can_write, prepare_write, .visit = visit_view},
     {"stand-in, half of the blocks given back: ns", can_stand_in, prepare_stand_in, .visit = visit_stand_in},
     {"format (C: memset and a loop): µs", can_format, prepare_format, .visit = visit_format,
-     .wanted = {4, 64, 8, 0, false, A_SHARE}},
+     .wanted = {4, 64, 8, 0, false, A_SHARE, NO_SECOND}},
     ROLLS("16 pools, blocks of 8 bytes", 1, 16, 8),
     ROLLS("16 pools, blocks of all sizes", 1, 16, HESKAVERN_LARGEST),
     ROLLS("1,024 pools, blocks of 8 bytes", 16, 64, 8),
@@ -513,4 +617,9 @@ const struct task tasks[TASKS] = {
     AUDITS("all blocks of 8 bytes live", A_SHARE),
     AUDITS("one block live", ONE_ALONE),
     AUDITS("one block of each pool live, and 505 on its freed chain", ONE_A_POOL),
+    PAIRS("0.1 % live", 1),
+    PAIRS("10 % live", 100),
+    PAIRS("90 % live", 900),
+    PAIR("90 % live, a tenth differs, just room enough", 900, true, A_TENTH_DIFFERS),
+    PAIR("10 % live, filled apart", 100, false, FILLED_APART),
 };

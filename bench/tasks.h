@@ -4,19 +4,25 @@
 
 #include "variants.h"
 
-/* Those of roll call, and then those of the audit, are the last ones. */
-enum { FIRST_ROLL = 12, FIRST_AUDIT = FIRST_ROLL + 34, TASKS = FIRST_AUDIT + 9 };
+/* Those of roll call, then those of the audit, and then those of two heaps side by side are the last ones. */
+enum { FIRST_ROLL = 12, FIRST_AUDIT = FIRST_ROLL + 34, FIRST_PAIR = FIRST_AUDIT + 9, TASKS = FIRST_PAIR + 8 };
 
 /* The blocks of a heap that are live. */
 enum live { A_SHARE, ONE_A_POOL, ONE_ALONE };
 
+/* The heap beside it: none; a copy of it; one in which about a tenth of as many blocks as are live differs; or one that
+ * was filled and drained like it, but of other sizes and in another order. */
+enum second { NO_SECOND, A_COPY, A_TENTH_DIFFERS, FILLED_APART };
+
 /* A heap that was filled with blocks for 1 to so many bytes until there was room for none, of which this share, in
  * thousandths and to the nearest block, is still live, or one of each pool; or where one alone was asked for. The roll
- * has room for just these where it is tight, and otherwise for every block that a heap of so many pools could have. */
+ * has room for just these where it is tight, and otherwise for every block that a heap of so many pools could have; and
+ * where there is a second heap, the list for just the entries, or for all that there could be. */
 struct wanted_heap {
     uint32_t arenas, pools, largest, share;
     bool tight;
     enum live live;
+    enum second second;
 };
 
 /* A visit gives the time of one operation; it makes some of them untimed first. */
@@ -25,7 +31,7 @@ struct task {
     bool (*can)(const struct variant *v);
     void (*prepare)(const struct variant *v);
     double (*visit)(const struct variant *v, size_t round);
-    struct wanted_heap wanted;      /* of roll call, audit and format; 0 arenas where variants have their own heaps */
+    struct wanted_heap wanted;      /* of roll call, audit, format and pairs; 0 arenas where each has its own heap */
     size_t edition;                 /* of their own heaps */
 };
 

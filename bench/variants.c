@@ -29,12 +29,14 @@
 #include "checked.h"
 static const struct variant library = {
     "this library", CHECKED(library), STAND_IN_TRACE(library), .roll_call = heskavern_roll_call,
-    .format = heskavern_format, .audit = heskavern_audit
+    .format = heskavern_format, .audit = heskavern_audit, .compare = heskavern_compare
 };
+static const struct variant merged_rolls = {"two rolls, merged, in C over the library", .compare = two_rolls};
 
-/* The older archive is linked with before_ask for heskavern_ask and so on. One of before W-201 has no audit: it is not
- * measured of any. In one of before W-211 format takes no edition. It is given one all the same: on x86-64 that stands
- * on the stack after the arguments that it reads, and is its caller's to clear away. */
+/* The older archive is linked with before_ask for heskavern_ask and so on. One of before W-201 has no audit, and one of
+ * before W-212 does not compare: neither is measured of any. In one of before W-211 format takes no edition. It is
+ * given one all the same: on x86-64 that stands on the stack after the arguments that it reads, and is its caller's to
+ * clear away. */
 #ifdef BEFORE
 #define CHECKS(name) before_##name
 #include "checks.h"
@@ -56,7 +58,7 @@ static const struct variant archive_before = {
 #include "checked.h"
 static const struct variant by_gcc = {
     "the same checks in C, gcc -O2", CHECKED(by_gcc), STAND_IN_TRACE(by_gcc), .roll_call = gcc_roll_call,
-    .format = gcc_format, .audit = gcc_audit
+    .format = gcc_format, .audit = gcc_audit, .compare = gcc_compare
 };
 static const struct variant plain_by_gcc = {"a plain loop with ctz, gcc -O2", .roll_call = gcc_plain_roll_call};
 #undef CHECKS
@@ -69,9 +71,12 @@ static const struct variant plain_by_gcc = {"a plain loop with ctz, gcc -O2", .r
 #include "checked.h"
 static const struct variant by_clang = {
     "the same checks in C, clang -O3", CHECKED(by_clang), STAND_IN_TRACE(by_clang), .roll_call = clang_roll_call,
-    .format = clang_format, .audit = clang_audit
+    .format = clang_format, .audit = clang_audit, .compare = clang_compare
 };
 static const struct variant plain_by_clang = {"a plain loop with ctz, clang -O3", .roll_call = clang_plain_roll_call};
+static const struct variant grouped_by_clang = {
+    "the same with loops for memcmp, clang -O3", .compare = clang_grouped_compare
+};
 #undef CHECKS
 
 /* ---- the program written from the source, which trusts its caller: to write is to copy */
@@ -260,6 +265,8 @@ void find_variants(struct peer *peers, size_t n)
     add(true, &by_clang);
     add(true, &plain_by_gcc);
     add(true, &plain_by_clang);
+    add(true, &grouped_by_clang);
+    add(true, &merged_rolls);
     add(true, &source);
     add(true, find_own(&file));
     add(find_calls(&mimalloc_calls, "libmimalloc.so.2", "mi_malloc", "mi_free", "mi_realloc"), &mimalloc);

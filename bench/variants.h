@@ -6,7 +6,7 @@
 
 #include <stdbool.h>
 
-enum { ARENAS = 16, POOLS = 64, SLOTS = 2000, MOST_VARIANTS = 16 };
+enum { ARENAS = 16, POOLS = 64, SLOTS = 2000, MOST_VARIANTS = 18 };
 
 /* A slot holds a block of this variant. A trace is made of such steps, each for one slot. */
 struct step {
@@ -36,6 +36,7 @@ struct variant {
                                   uint32_t *, size_t);
     heskavern_answer (*format)(const uint8_t *, size_t, uint32_t *, size_t, uint64_t *, size_t, size_t, size_t, size_t);
     uint32_t (*audit)(const uint8_t *, size_t, const uint32_t *, size_t, const uint64_t *, size_t);
+    __typeof__(heskavern_compare) *compare;
 };
 
 /* All variants that this machine has; the library is the first. */
@@ -45,6 +46,9 @@ extern size_t variant_count;
 /* Takes what a call takes and does nothing. */
 heskavern_answer nothing(const uint8_t *memory, size_t memory_bytes, const uint32_t *books, size_t books_words,
                          const uint64_t *map, size_t map_words, size_t x);
+
+/* Compares two heaps by two roll calls of the library. */
+__typeof__(heskavern_compare) two_rolls;
 
 /* The process's own malloc, and the file that it is in. */
 const struct variant *find_own(const char **file);

@@ -1,15 +1,18 @@
 /* Holds bench/checks.c, by its names CHECKS(name), to the library: verify SEED CALLS. Both get the same random calls
  * over the same buffers, in both editions, on sound books and on damaged ones, and must give the same number and value,
  * or of a stand-in the same part, and leave the same memory, books, map and roll. The audit must say yes of a sound
- * heap, and of one that is spoilt in one place the rule that this breaks (spoils.h). Fails also where the calls never
- * met one of the tests of a shape that fails first, or in one of the editions a number, a half-done resize whose
- * give-back meets 5, 6 or 10, a stand-in that is the phrase or one that is the block's own part, one of the calls on an
- * offset with one of the reasons why that is a dead block or none, a give-back with one of the kinds of walk past the
- * arenas that follow in the usable list, one of the roll calls over one of the kinds of map with one of the kinds of
- * room, an audit that gives one of the rules, or one of the kinds of place that is spoilt. */
+ * heap, and of one that is spoilt in one place the rule that this breaks (spoils.h). Now and then two heaps are
+ * compared (pairs.h): list and changes must be the same. Fails also where the calls never met one of the tests of a
+ * shape that fails first, or in one of the editions a number, a half-done resize whose give-back meets 5, 6 or 10, a
+ * stand-in that is the phrase or one that is the block's own part, one of the calls on an offset with one of the
+ * reasons why that is a dead block or none, a give-back with one of the kinds of walk past the arenas that follow in
+ * the usable list, one of the roll calls over one of the kinds of map with one of the kinds of room, an audit that
+ * gives one of the rules, one of the kinds of place that is spoilt, or of two heaps one of the kinds of difference, of
+ * pools, of rooms, of refusals or of what is altered in one of them. */
 #include "checks.h"
 #include "random.h"
 #include "spoils.h"
+#include "pairs.h"
 
 #include <stdbool.h>
 #include <stdio.h>
@@ -655,6 +658,8 @@ static bool compare(unsigned long *calls)
         just_damaged = false;
         if (sound && below(8) == 0 && !compare_spoilt())
             return false;
+        if (below(16) == 0 && !hold_pair(keep(library.memory, library.books, library.map, arenas, pools, sound)))
+            return false;
         if (damaged && below(16) == 0)
             damage();
         if (damaged && below(1000) == 0)
@@ -748,6 +753,7 @@ static bool say_met(size_t edition)
     all &= say_reasons();
     all &= say_walks();
     all &= say_audits();
+    all &= say_pairs(edition);
     return say_rolls() && all;
 }
 
