@@ -484,8 +484,36 @@ fn audits(memory: &mut [u8; 8192], books: &mut [u32; 96], map: &mut [u64; 16], e
     text(b"\n");
 }
 
-// A block has other bytes in the second heap, and one is live there alone; the two exchanged; room for one word less;
-// and a heap beside itself.
+// A heap that holds one text.
+fn holds(
+    name: &[u8],
+    bytes: &[u8],
+    memory: &mut [u8],
+    books: &mut [u32],
+    map: &mut [u64],
+    edition: usize,
+) {
+    format(name, memory, books, map, 2, edition);
+    ask(memory, books, map, bytes.len());
+    write(memory, books, map, 48, bytes);
+}
+
+// The two heaps, exchanged, with room for one word less, and the first beside itself.
+fn side_by_side(
+    memory: &[u8],
+    books: &[u32],
+    map: &[u64],
+    memory2: &[u8],
+    books2: &[u32],
+    map2: &[u64],
+) {
+    compared(memory, books, map, memory2, books2, map2, &mut [9; 5]);
+    compared(memory2, books2, map2, memory, books, map, &mut [9; 5]);
+    compared(memory, books, map, memory2, books2, map2, &mut [9; 3]);
+    compared(memory, books, map, memory, books, map, &mut [9; 1]);
+}
+
+// A block has other bytes in the second heap, and one is live there alone.
 fn compares(edition: usize) {
     let mut memory = [0u8; 8192];
     let mut books = [0u32; 96];
@@ -493,17 +521,24 @@ fn compares(edition: usize) {
     let mut memory2 = [0u8; 8192];
     let mut books2 = [0u32; 96];
     let mut map2 = [0u64; 16];
-    format(b"Compares", &memory, &mut books, &mut map, 2, edition);
-    ask(&mut memory, &mut books, &mut map, 4);
-    write(&mut memory, &books, &map, 48, b"owed");
-    format(b"; beside", &memory2, &mut books2, &mut map2, 2, edition);
+    holds(
+        b"Compares",
+        b"owed",
+        &mut memory,
+        &mut books,
+        &mut map,
+        edition,
+    );
+    holds(
+        b"; beside",
+        b"Moss",
+        &mut memory2,
+        &mut books2,
+        &mut map2,
+        edition,
+    );
     ask(&mut memory2, &mut books2, &mut map2, 4);
-    write(&mut memory2, &books2, &map2, 48, b"Moss");
-    ask(&mut memory2, &mut books2, &mut map2, 4);
-    compared(&memory, &books, &map, &memory2, &books2, &map2, &mut [9; 5]);
-    compared(&memory2, &books2, &map2, &memory, &books, &map, &mut [9; 5]);
-    compared(&memory, &books, &map, &memory2, &books2, &map2, &mut [9; 3]);
-    compared(&memory, &books, &map, &memory, &books, &map, &mut [9; 1]);
+    side_by_side(&memory, &books, &map, &memory2, &books2, &map2);
     text(b"\n");
 }
 

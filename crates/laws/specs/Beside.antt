@@ -146,7 +146,8 @@ module _ (first second : Heap) where
   module _ (z : shapeNumber first ≡ 0) (w : shapeNumber second ≡ 0) (o : ℕ) where
     -- of two live blocks of one size, the test of the bytes passes exactly if view shows the same
     module _ (on : isLive first o ≡ true) (also : isLive second o ≡ true) (size : blockSize first o ≡ blockSize second o) where
-      same-shown : sameBytes (first .memory) (second .memory) o (blockSize first o) ≡ true → view first o ≡ view second o
+      same-shown : sameBytes (first .memory) (second .memory) o (blockSize first o) ≡ true
+          → view first o ≡ view second o
       same-shown e =
           let S = shown first z o on in
           let U = shown second w o also in
@@ -154,7 +155,8 @@ module _ (first second : Heap) where
           (λ i l. let u : i < blockSize first o = rw (S .long) at l in
           S .byte i u ∙ eqb-true _ _ (every-is _ (blockSize first o) e i u) ∙ sym (U .byte i (rw size at u)))
 
-      shown-same : view first o ≡ view second o → sameBytes (first .memory) (second .memory) o (blockSize first o) ≡ true
+      shown-same : view first o ≡ view second o
+          → sameBytes (first .memory) (second .memory) o (blockSize first o) ≡ true
       shown-same e =
           let S = shown first z o on in
           let U = shown second w o also in
@@ -177,14 +179,17 @@ module _ (first second : Heap) where
     said = go (isLive first o) (isLive second o) refl refl
       where
         same : isLive first o ≡ true → isLive second o ≡ true → blockSize first o ≡ blockSize second o
-            → (t : Bool) → sameBytes (first .memory) (second .memory) o (blockSize first o) ≡ t → Said (if not t then 4 else 0)
+            → (t : Bool) → sameBytes (first .memory) (second .memory) o (blockSize first o) ≡ t
+            → Said (if not t then 4 else 0)
         same on also size true e = inr (on, also, size, same-shown on also size e)
         same on also size false e = (on, also, size, λ q. true≢false (sym (shown-same on also size q) ∙ e))
 
         sized : isLive first o ≡ true → isLive second o ≡ true
             → (t : Bool) → eqb (blockSize first o) (blockSize second o) ≡ t
-            → Said (if not t then 3 else if not (sameBytes (first .memory) (second .memory) o (blockSize first o)) then 4 else 0)
-        sized on also true e = same on also (eqb-true (blockSize first o) (blockSize second o) e) (sameBytes (first .memory) (second .memory) o (blockSize first o)) refl
+            → Said (if not t then 3
+            else if not (sameBytes (first .memory) (second .memory) o (blockSize first o)) then 4
+            else 0)
+        sized on also true e = same on also (eqb-true (blockSize first o) (blockSize second o) e) _ refl
         sized on also false e = (on, also, eqb-false (blockSize first o) (blockSize second o) e)
 
         go : (t u : Bool) → isLive first o ≡ t → isLive second o ≡ u
@@ -412,7 +417,8 @@ eqb-turned m n = go (ℕ-discrete m n)
     go (yes q) = eq-eqb m n q ∙ sym (eq-eqb n m (sym q))
     go (no q) = ne-eqb m n q ∙ sym (ne-eqb n m (λ e. q (sym e)))
 
-bytes-turned : (first second : Heap) (o n : ℕ) → sameBytes (second .memory) (first .memory) o n ≡ sameBytes (first .memory) (second .memory) o n
+bytes-turned : (first second : Heap) (o n : ℕ)
+    → sameBytes (second .memory) (first .memory) o n ≡ sameBytes (first .memory) (second .memory) o n
 unfolding allBelow
 bytes-turned first second o zero = refl
 bytes-turned first second o (suc n) =
@@ -435,8 +441,12 @@ swapped first second equal =
   where
     -- where the sizes are equal the same bytes are compared
     sized : (o : ℕ) (t : Bool) → eqb (blockSize first o) (blockSize second o) ≡ t
-        → (if not t then 3 else if not (sameBytes (second .memory) (first .memory) o (blockSize second o)) then 4 else 0)
-        ≡ exchanged (if not t then 3 else if not (sameBytes (first .memory) (second .memory) o (blockSize first o)) then 4 else 0)
+        → (if not t then 3
+        else if not (sameBytes (second .memory) (first .memory) o (blockSize second o)) then 4
+        else 0)
+        ≡ exchanged (if not t then 3
+        else if not (sameBytes (first .memory) (second .memory) o (blockSize first o)) then 4
+        else 0)
     sized o false e = refl
     sized o true e =
         ap (λ (b : Bool). if not b then 4 else 0)
