@@ -41,6 +41,7 @@ use Rattle.sequences.specs.Listing.{
   listing-none,
   listing-count,
   listing-place,
+  listing-entry,
   listing-only,
 }
 use Rattle.sound.specs.Grounds.{zero-shape}
@@ -131,10 +132,21 @@ module _ (first second : Heap) where
   difference-listed equal o some =
       listing-place (kindAt first second) o (memoryLength (arenas first) (pools first)) (differ-inside equal o some) some
 
-  -- the list has two words for each, and so nothing else
+  -- the list has two words for each
   pub differences-long : length (differences first second)
       ≡ 2 * heldBelow (kindAt first second) (memoryLength (arenas first) (pools first))
   differences-long = listing-count (kindAt first second) (memoryLength (arenas first) (pools first))
+
+  -- entry i is of the offset o exactly if o differs, and i offsets below it do: each is listed once, they rise, and
+  -- nothing else is listed
+  pub listed-means : unequalNumber first second ≡ 0 → (o i : ℕ)
+      → ((2 * i < length (differences first second)) × (at (differences first second) (2 * i) ≡ o)
+      ↔ (kindAt first second o ≢ 0) × (heldBelow (kindAt first second) o ≡ i))
+  listed-means equal o i =
+      let t = listing-entry (kindAt first second) (memoryLength (arenas first) (pools first)) o i in (
+        λ x. let y = t .0 (omega (arith, x .0, differences-long), x .1) in (y .1, y .2),
+        λ x. let y = t .1 (differ-inside equal o (x .0), x .0, x .1) in (omega (arith, y .0, differences-long), y .1),
+      )
 
   -- the offset o is live in neither, or in both, of one size, and view shows the same
   abbrev Same : ℕ → Type 0

@@ -11,7 +11,7 @@ use lib.Dec.{ltb, eqb}
 use lib.IntN.{ℤ}
 use lib.ListN.{length, drop, List·getD-append}
 use borrow.Author.Tests.{ne-eqb, lt-ltb, le-ltb}
-use Rattle.rules.specs.Say.{if_then_else_, howMany}
+use Rattle.rules.specs.Say.{if_then_else_}
 use Rattle.rules.specs.Books.{
   Heap,
   at,
@@ -46,9 +46,8 @@ use Rattle.rules.specs.Compare.{
 }
 use Rattle.books.specs.Tests.{either}
 use Rattle.books.specs.Passing.{passed}
-use Rattle.sequences.specs.Counting.{many-rises}
 use Rattle.sequences.specs.Listing.{heldBelow}
-use Rattle.laws.specs.Beside.{Alike, differ-inside, difference-listed, differences-long}
+use Rattle.laws.specs.Beside.{Alike, difference-listed, differences-long, listed-means}
 
 -- ---- the tests
 -- 1 or 2, of a heap
@@ -231,7 +230,6 @@ module _ (first second : Heap) (list : List ℕ) (lent : List ℤ) where
       × ((o : ℕ) → kindAt first second o ≢ 0
       → let place = 2 * heldBelow (kindAt first second) o in
       (at (x .listed) place ≡ o) × (at (x .listed) (place + 1) ≡ kindAt first second o))
-  unfolding howMany
   compare-lists z =
       let D = differences first second in
       let equal = compare-means .2 .0 z .0 .2 in
@@ -239,13 +237,10 @@ module _ (first second : Heap) (list : List ℕ) (lent : List ℤ) where
         omega (arith, differences-long first second),
         λ o some.
             let t = difference-listed first second equal o some in
-            let n = memoryLength (arenas first) (pools first) in
-            let more = many-rises (λ x. not (eqb (kindAt first second x) 0)) (suc o) n (differ-inside first second equal o some) in
-            let one : heldBelow (kindAt first second) (suc o) ≡ suc (heldBelow (kindAt first second) o) =
-            rw (ne-eqb (kindAt first second o) 0 some) (omega arith) in
+            let low = listed-means first second equal o _ .1 (some, refl) .0 in
             let rest = drop (length D) list in
             let place = 2 * heldBelow (kindAt first second) o in (
-              List·getD-append D rest 0 place (omega (arith, more, one, differences-long first second)) ∙ t .0,
-              List·getD-append D rest 0 (place + 1) (omega (arith, more, one, differences-long first second)) ∙ t .1,
+              List·getD-append D rest 0 place low ∙ t .0,
+              List·getD-append D rest 0 (place + 1) (omega (arith, low, differences-long first second)) ∙ t .1,
             ),
       )

@@ -1,8 +1,8 @@
 -- The laws of a listing: what is held at each number, 0 where nothing is, as a list by rising number. And of one where
 -- only every s-th number can hold something, as in a pool, whose blocks start s bytes apart.
 -- Assumes nothing.
-use mathlib.Core.Path.{_≡_, refl, sym, ap, ap₂, _∙_}
-use mathlib.Core.Logic.{_≢_}
+use mathlib.Core.Path.{_≡_, refl, sym, ap, ap₂, _∙_, subst}
+use mathlib.Core.Logic.{_≢_, _↔_}
 use mathlib.Core.Bool.{Bool, true, false, not, and-false}
 use mathlib.Core.List.{List, [], _∷_, _++_, append-assoc, append-nil}
 use Prim.Native.Nat.{ℕ, zero, suc, _+_, _*_, _-_, _/_, _%_, _≤_, _<_}
@@ -24,6 +24,7 @@ use borrow.Author.Tests.{eq-eqb, ne-eqb, lt-leb}
 use Rattle.rules.specs.Say.{if_then_else_, howMany, listing}
 use Rattle.rules.specs.Books.{at}
 use Rattle.rules.specs.Blocks.{lastStart, isStart, capacity}
+use Rattle.sequences.specs.Counting.{many-rises}
 
 -- how many of the numbers below o hold something
 abbrev pub heldBelow : (ℕ → ℕ) → ℕ → ℕ
@@ -102,6 +103,45 @@ listing-place g o n l some =
       getD-append-seam (listing g 0 o) o (g o ∷ listing g (suc o) (n - suc o)) 0,
       getD-append-add (listing g 0 o) (o ∷ g o ∷ listing g (suc o) (n - suc o)) 1 0,
     )
+
+-- of as many numbers as hold something, each is behind as many others
+nth-held : (g : ℕ → ℕ) (n i : ℕ) → i < heldBelow g n → (o : ℕ) × (o < n) × (g o ≢ 0) × (heldBelow g o ≡ i)
+unfolding howMany
+nth-held g zero i l = absurd (omega (arith, l))
+nth-held g (suc n) i l = go (ℕ-discrete (g n) 0) (ℕ-discrete i (heldBelow g n)) (nth-held g n i)
+  where
+    go : Dec (g n ≡ 0) → Dec (i ≡ heldBelow g n)
+        → (i < heldBelow g n → (o : ℕ) × (o < n) × (g o ≢ 0) × (heldBelow g o ≡ i))
+        → (o : ℕ) × (o < suc n) × (g o ≢ 0) × (heldBelow g o ≡ i)
+    go (yes q) d more =
+        let u : i < 0 + heldBelow g n = rw q at l in
+        let t = more (omega (arith, u)) in (t .0, omega (arith, t .1), t .2, t .3)
+    go (no q) (yes e) more = (n, omega arith, q, sym e)
+    go (no q) (no e) more =
+        let u : i < 1 + heldBelow g n = rw (ne-eqb (g n) 0 q) at l in
+        let t = more (omega (arith, u, e)) in (t .0, omega (arith, t .1), t .2, t .3)
+
+-- so the i-th entry is of o exactly if o holds something, and i numbers below it do
+pub listing-entry : (g : ℕ → ℕ) (n o i : ℕ)
+    → ((i < heldBelow g n) × (at (listing g 0 n) (2 * i) ≡ o) ↔ (o < n) × (g o ≢ 0) × (heldBelow g o ≡ i))
+unfolding howMany
+listing-entry g n o i = (there, back)
+  where
+    there : (i < heldBelow g n) × (at (listing g 0 n) (2 * i) ≡ o) → (o < n) × (g o ≢ 0) × (heldBelow g o ≡ i)
+    there t =
+        let x = nth-held g n i (t .0) in
+        let q : x .0 ≡ o = sym (listing-place g (x .0) n (x .1) (x .2) .0)
+        ∙ ap (λ (k : ℕ). at (listing g 0 n) (2 * k)) (x .3)
+        ∙ t .1 in
+        subst (λ (y : ℕ). (y < n) × (g y ≢ 0) × (heldBelow g y ≡ i)) q (x .1, x .2, x .3)
+
+    back : (o < n) × (g o ≢ 0) × (heldBelow g o ≡ i) → (i < heldBelow g n) × (at (listing g 0 n) (2 * i) ≡ o)
+    back t =
+        let more = many-rises (λ x. not (eqb (g x) 0)) (suc o) n (t .0) in
+        let one : heldBelow g (suc o) ≡ suc (heldBelow g o) = rw (ne-eqb (g o) 0 (t .1)) (omega arith) in (
+          omega (arith, more, one, t .2),
+          ap (λ (k : ℕ). at (listing g 0 n) (2 * k)) (sym (t .2)) ∙ listing-place g o n (t .0) (t .1) .0,
+        )
 
 -- what is listed first is the first number or a later one
 first-listed : (g : ℕ → ℕ) (o n x : ℕ) (l : List ℕ) → listing g o n ≡ x ∷ l → o ≤ x
