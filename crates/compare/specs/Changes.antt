@@ -219,7 +219,8 @@ changes-end xs ys c n l = let e : n - c ≡ 0 = omega arith in ap (changesOf xs 
 abbrev pub amongFrom : ℕ → ℕ → ℕ → List ℕ → List ℕ → List ℕ → List ℕ → ℕ → ℕ → List ℤ
 amongFrom al A n b map b′ map′ c zero = []
 amongFrom al A n b map b′ map′ c (suc k) =
-    changeFrom (total (liveAmong al A b map c) n) (total (liveAmong al A b′ map′ c) n) ∷ amongFrom al A n b map b′ map′ (suc c) k
+    changeFrom (total (liveAmong al A b map c) n) (total (liveAmong al A b′ map′ c) n)
+    ∷ amongFrom al A n b map b′ map′ (suc c) k
 
 -- of all classes
 abbrev pub changesAmong : ℕ → ℕ → ℕ → List ℕ → List ℕ → List ℕ → List ℕ → List ℤ

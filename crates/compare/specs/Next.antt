@@ -105,7 +105,8 @@ pub record NextLive (s : ℕ) (map : List ℕ) (p x r : ℕ) : Type 0 where
 
 -- block k is the first that starts at x or after it, and r is the next set bit from there on: no block that starts
 -- before block r does, from x on, is live
-module _ (s : ℕ) (map : List ℕ) (p x k r : ℕ) (low : 8 ≤ s) (first : (j : ℕ) → j < k → startOf s j < x) (N : NextSet map p k r) where
+module _ (s : ℕ) (map : List ℕ) (p x k r : ℕ) (low : 8 ≤ s)
+    (first : (j : ℕ) → j < k → startOf s j < x) (N : NextSet map p k r) where
   none-till : (y : ℕ) → x ≤ y → y < startOf s r → liveIn s map p y ≡ false
   unfolding liveIn
   none-till y u v = go (isStart s y) refl

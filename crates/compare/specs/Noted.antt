@@ -87,11 +87,3 @@ module _ {writing : Bool} {x₀ all x left : List ℕ} {at j : ℕ} (n : Noting 
 pub begin : {all : List ℕ} {n : ℕ} {rest part : ℕ → List ℕ} → Parts all n rest part
     → (writing : Bool) (x : List ℕ) (at : ℕ) → Noting writing x at all x at (rest 0)
 begin {all} parts writing x at = rw (parts .first) (unnoted writing x at all)
-
--- the list that is noted keeps its length
-pub noted-long : {writing : Bool} {x₀ all x : List ℕ} {at j : ℕ} → Noted writing x₀ at all x j → length x ≡ length x₀
-noted-long {writing} {x₀} {all} {x} {at} n = go writing (n .same)
-  where
-    go : (w : Bool) → x ≡ (if w then sets x₀ at all else x₀) → length x ≡ length x₀
-    go true e = ap length e ∙ length-sets x₀ at all
-    go false e = ap length e

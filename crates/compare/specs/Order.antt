@@ -123,7 +123,9 @@ changes-are {s} {first} {second} B =
     from 0 (classes first) ∙ ap (λ (t : Shape). among 0 (lastClass (alignmentOf (t .edition)) + 1)) (B .first-is)
   where
     among : ℕ → ℕ → List ℤ
-    among = amongFrom (alignmentOf (s .edition)) (s .arenas) (s .arenas * s .pools) (first .books) (first .map) (second .books) (second .map)
+    among =
+        amongFrom (alignmentOf (s .edition)) (s .arenas) (s .arenas * s .pools)
+        (first .books) (first .map) (second .books) (second .map)
 
     from : (c n : ℕ) → changesFrom first second c n ≡ among c n
     from c zero = refl

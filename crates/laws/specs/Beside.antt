@@ -157,7 +157,8 @@ module _ (first second : Heap) where
 
   module _ (z : shapeNumber first ≡ 0) (w : shapeNumber second ≡ 0) (o : ℕ) where
     -- of two live blocks of one size, the test of the bytes passes exactly if view shows the same
-    module _ (on : isLive first o ≡ true) (also : isLive second o ≡ true) (size : blockSize first o ≡ blockSize second o) where
+    module _ (on : isLive first o ≡ true) (also : isLive second o ≡ true)
+        (size : blockSize first o ≡ blockSize second o) where
       same-shown : sameBytes (first .memory) (second .memory) o (blockSize first o) ≡ true
           → view first o ≡ view second o
       same-shown e =
@@ -180,7 +181,8 @@ module _ (first second : Heap) where
     Said k =
         if eqb k 1 then (isLive first o ≡ true) × (isLive second o ≡ false)
         else if eqb k 2 then (isLive first o ≡ false) × (isLive second o ≡ true)
-        else if eqb k 3 then (isLive first o ≡ true) × (isLive second o ≡ true) × (blockSize first o ≢ blockSize second o)
+        else if eqb k 3 then (isLive first o ≡ true) × (isLive second o ≡ true)
+        × (blockSize first o ≢ blockSize second o)
         else if eqb k 4 then (isLive first o ≡ true) × (isLive second o ≡ true)
         × (blockSize first o ≡ blockSize second o) × (view first o ≢ view second o)
         else Same o

@@ -15,7 +15,16 @@ use Rattle.rules.specs.Blocks.{sizeOf, lastClass, startOf, isStart, blockNo, ca
 use Rattle.rules.specs.View.{rollBlocks, rollPool, rollPools, roll}
 use Rattle.books.specs.Starts.{start-is, number-is}
 use Rattle.books.specs.Sizes.{Aligned, size-low}
-use Rattle.sequences.specs.Listing.{entry, entry-none, listing-none, listing-add, atSteps, InBlocks, pool-is, starts-only}
+use Rattle.sequences.specs.Listing.{
+  entry,
+  entry-none,
+  listing-none,
+  listing-add,
+  atSteps,
+  InBlocks,
+  pool-is,
+  starts-only,
+}
 
 -- ---- what a pool of blocks of the size s holds: at its block starts s where the bit is set, and nothing elsewhere
 record Holds (g : ℕ → ℕ) (p s : ℕ) (set : ℕ → Bool) : Type 0 where
