@@ -1,5 +1,6 @@
 /* A variant with the calls of include/heskavern.h, over buffers of its own. Included once for each, with THIS(name) for
- * its own names and CALL(name) for the calls; with STANDS_IN where it has the stand-in. */
+ * its own names and CALL(name) for the calls; with STANDS_IN where it has the stand-in, and with ASKS_ALL where it asks
+ * for a row in one call. */
 
 static _Alignas(4096) uint8_t THIS(memory)[HESKAVERN_MEMORY_BYTES(ARENAS, POOLS)];
 static _Alignas(64) uint32_t THIS(books)[HESKAVERN_BOOKS_WORDS(ARENAS, POOLS)];
@@ -46,6 +47,13 @@ static inline uint32_t THIS(view_size)(BLOCK block, unsigned *refused)
 {
     return THIS(value)(CALL(view_size)(LENT, block), refused);
 }
+
+#ifdef ASKS_ALL
+static inline void THIS(ask_all)(heskavern_request *row, size_t n, unsigned *refused)
+{
+    THIS(value)(CALL(ask_all)(LENT, row, n), refused);
+}
+#endif
 
 #ifdef STANDS_IN
 static inline heskavern_part THIS(stand_in)(BLOCK block, const uint8_t *phrase, size_t bytes)

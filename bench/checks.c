@@ -380,6 +380,14 @@ INLINE heskavern_answer ask_step(const struct heap *h, size_t n)
     return ask_listed(h, class, size, front - 1);
 }
 
+/* An ask, but for the tests of the shape. */
+INLINE heskavern_answer ask_sized(const struct heap *h, size_t size)
+{
+    if (size < 1 || size > LARGEST)
+        return answer(HESKAVERN_BAD_SIZE, 0);
+    return ask_step(h, size);
+}
+
 /* ---- give back */
 
 /* The block at this place goes to the front of its pool's freed blocks. */
@@ -836,9 +844,24 @@ heskavern_answer CHECKS(ask)(uint8_t *memory, size_t memory_bytes, uint32_t *boo
     uint32_t number = open_heap(&h, memory, memory_bytes, books, books_words, map, map_words);
     if (number != HESKAVERN_DONE)
         return answer(number, 0);
-    if (size < 1 || size > LARGEST)
-        return answer(HESKAVERN_BAD_SIZE, 0);
-    return ask_step(&h, size);
+    return ask_sized(&h, size);
+}
+
+heskavern_answer CHECKS(ask_all)(uint8_t *memory, size_t memory_bytes, uint32_t *books, size_t books_words,
+                                 uint64_t *map, size_t map_words, heskavern_request *requests, size_t entries)
+{
+    struct heap h;
+    uint32_t number = open_heap(&h, memory, memory_bytes, books, books_words, map, map_words);
+    if (number != HESKAVERN_DONE)
+        return answer(number, 0);
+    if (entries > HESKAVERN_MOST_REQUESTS)
+        return answer(HESKAVERN_DOES_NOT_FIT, 0);
+    for (size_t i = 0; i < entries; i++) {
+        heskavern_answer asked = ask_sized(&h, requests[i].size);
+        requests[i].number = asked.number;
+        requests[i].offset = asked.value;
+    }
+    return answer(HESKAVERN_DONE, 0);
 }
 
 heskavern_answer CHECKS(give_back)(uint8_t *memory, size_t memory_bytes, uint32_t *books, size_t books_words,

@@ -7,6 +7,8 @@ heskavern_answer CHECKS(format)(const uint8_t *memory, size_t memory_bytes, uint
                                 uint64_t *map, size_t map_words, size_t arenas, size_t pools, size_t edition);
 heskavern_answer CHECKS(ask)(uint8_t *memory, size_t memory_bytes, uint32_t *books, size_t books_words, uint64_t *map,
                              size_t map_words, size_t size);
+heskavern_answer CHECKS(ask_all)(uint8_t *memory, size_t memory_bytes, uint32_t *books, size_t books_words,
+                                 uint64_t *map, size_t map_words, heskavern_request *requests, size_t entries);
 heskavern_answer CHECKS(give_back)(uint8_t *memory, size_t memory_bytes, uint32_t *books, size_t books_words,
                                    uint64_t *map, size_t map_words, size_t offset);
 heskavern_answer CHECKS(resize)(uint8_t *memory, size_t memory_bytes, uint32_t *books, size_t books_words,

@@ -4,8 +4,8 @@
  * in a process of its own, which the COMMAND starts and which makes its visits in the same rounds.
  *
  * measure peer LIBRARY: such a process, whose malloc must come from a file of that name.
- * measure count EDITION [LIBRARY]: runs both traces once over each variant that has this edition, or over the process's
- * own malloc, for callgrind. */
+ * measure count EDITION [LIBRARY]: runs both traces once, and the statement's asks in rows, over each variant that has
+ * this edition, or over the process's own malloc, for callgrind. */
 #define _DEFAULT_SOURCE
 #include "peers.h"
 #include "random.h"
@@ -237,8 +237,8 @@ static void measure_ratios(const char *title, size_t first, size_t end)
     }
 }
 
-/* A table of the times of each task and then one of all ratios; but of roll call, the audit and two heaps side by side
- * the ratios alone. */
+/* A table of the times of each task and then one of all ratios; but of roll call, the audit, two heaps side by side and
+ * a statement in one call the ratios alone. */
 static void measure_all(void)
 {
     for (size_t i = 0; i < FIRST_ROLL; i++) {
@@ -250,7 +250,8 @@ static void measure_all(void)
         print_ratios(&tasks[i], &tasks[0], figures[i]);
     measure_ratios("roll call, in µs: library / it (in quiet rounds)", FIRST_ROLL, FIRST_AUDIT);
     measure_ratios("audit, in ns a pool: library / it (in quiet rounds)", FIRST_AUDIT, FIRST_PAIR);
-    measure_ratios("two heaps side by side, in µs: library / it (in quiet rounds)", FIRST_PAIR, TASKS);
+    measure_ratios("two heaps side by side, in µs: library / it (in quiet rounds)", FIRST_PAIR, FIRST_ROW);
+    measure_ratios("a statement in one call, in ns an ask: library / it (in quiet rounds)", FIRST_ROW, TASKS);
 }
 
 /* ---- a second give-back */
@@ -312,11 +313,15 @@ static void print_again(void)
 
 static void count_variant(const struct variant *v, size_t edition)
 {
-    printf("mixed\t%s_mixed_trace\t%zu\t%s\n", v->stem, run_mixed(v, edition), v->name);
-    printf("statement\t%s_statement_trace\t%zu\t%s\n", v->stem, run_statement(v, edition), v->name);
+    if (has_edition(v, edition)) {
+        printf("mixed\t%s_mixed_trace\t%zu\t%s\n", v->stem, run_mixed(v, edition), v->name);
+        printf("statement\t%s_statement_trace\t%zu\t%s\n", v->stem, run_statement(v, edition), v->name);
+    }
+    if (has_rows(v, edition))
+        printf("ask\t%s\t%zu\t%s\n", v->row_trace, run_rows(v, edition), v->name);
 }
 
-/* Says of each trace by which function it ran, and how many pairs it has. */
+/* Says of each trace by which function it ran, and how many pairs it has, or of rows how many asks. */
 static int count(size_t edition, const char *library)
 {
     if (library == NULL)
@@ -327,8 +332,7 @@ static int count(size_t edition, const char *library)
         return 1;
     make_traces();
     for (size_t i = 0; i < variant_count; i++)
-        if (has_edition(variants[i], edition))
-            count_variant(variants[i], edition);
+        count_variant(variants[i], edition);
     return 0;
 }
 

@@ -56,6 +56,15 @@ static double now(void)
     return (double)t.tv_sec * 1e9 + (double)t.tv_nsec;
 }
 
+/* The time that passes. Reading it takes some 20 ns, and the processor's time some 500, which is as much as a short run
+ * of asks: so it is this where the clock stands between runs. What else the machine does then falls on few rounds. */
+static double passing(void)
+{
+    struct timespec t;
+    clock_gettime(CLOCK_MONOTONIC, &t);
+    return (double)t.tv_sec * 1e9 + (double)t.tv_nsec;
+}
+
 /* The last block of a pool is given back in each arena in turn, there and back: so most of these give-backs are in the
  * first usable arena, which then has more free pools than those that follow. */
 static void make_full(void)
@@ -99,7 +108,7 @@ void make_traces(void)
 
 bool has_edition(const struct variant *v, size_t edition)
 {
-    return v->fill != NULL && (edition == HESKAVERN_EIGHT || !v->older);
+    return v->mixed != NULL && (edition == HESKAVERN_EIGHT || !v->older);
 }
 
 static bool can_ask(const struct variant *v)
@@ -136,17 +145,24 @@ static void prepare_empty(const struct variant *v)
     must(v->drain(start, SLOTS), v);
 }
 
+/* How many texts the runs of a window have. */
+static size_t texts_in(size_t w)
+{
+    size_t sum = 0;
+    for (size_t i = 0; i < RUNS; i++)
+        sum += runs[w][i];
+    return sum;
+}
+
 static double visit_statement(const struct variant *v, size_t round)
 {
-    size_t w = round % RUN_WINDOWS, pairs = 0;
-    for (size_t i = 0; i < RUNS; i++)
-        pairs += runs[w][i];
+    size_t w = round % RUN_WINDOWS;
     must(v->statement(texts[w], runs[w], RUNS / 4), v);
     double begin = now();
     unsigned refused = v->statement(texts[w], runs[w], RUNS);
     double end = now();
     must(refused, v);
-    return (end - begin) / (double)pairs;
+    return (end - begin) / (double)texts_in(w);
 }
 
 static double visit_emptied(const struct variant *v, size_t round)
@@ -176,10 +192,66 @@ size_t run_statement(const struct variant *v, size_t edition)
     prepare_empty(v);
     for (size_t w = 0; w < RUN_WINDOWS; w++) {
         must(v->statement(texts[w], runs[w], RUNS), v);
-        for (size_t i = 0; i < RUNS; i++)
-            pairs += runs[w][i];
+        pairs += texts_in(w);
     }
     return pairs;
+}
+
+/* ---- a statement in one call */
+
+bool has_rows(const struct variant *v, size_t edition)
+{
+    return v->ask_row != NULL && (edition == HESKAVERN_EIGHT || !v->older);
+}
+
+static bool can_ask_row(const struct variant *v)
+{
+    return has_rows(v, HESKAVERN_EIGHT);
+}
+
+static bool can_ask_row_sixteen(const struct variant *v)
+{
+    return has_rows(v, HESKAVERN_SIXTEEN);
+}
+
+/* Asks for the texts of the first so many runs of a window, each as a row, and gives them back. The time of the asks:
+ * the row is made, and given back, while the clock stands. */
+static double ask_rows(const struct variant *v, size_t w, size_t n)
+{
+    static heskavern_request row[LONGEST_RUN];
+    const struct step *text_of = texts[w];
+    double time = 0;
+    for (size_t r = 0; r < n; r++) {
+        for (size_t i = 0; i < runs[w][r]; i++)
+            row[i] = (heskavern_request){text_of[i].size, HESKAVERN_DAMAGED, 0};
+        double begin = passing();
+        unsigned refused = v->ask_row(row, runs[w][r]);
+        double end = passing();
+        must(refused, v);
+        must(v->back_row(row, runs[w][r]), v);
+        time += end - begin;
+        text_of += runs[w][r];
+    }
+    return time;
+}
+
+static double visit_rows(const struct variant *v, size_t round)
+{
+    size_t w = round % RUN_WINDOWS;
+    ask_rows(v, w, RUNS / 4);
+    return ask_rows(v, w, RUNS) / (double)texts_in(w);
+}
+
+size_t run_rows(const struct variant *v, size_t edition)
+{
+    size_t asks = 0;
+    v->fresh(edition);
+    prepare_empty(v);
+    for (size_t w = 0; w < RUN_WINDOWS; w++) {
+        ask_rows(v, w, RUNS);
+        asks += texts_in(w);
+    }
+    return asks;
 }
 
 /* ---- resize */
@@ -622,4 +694,7 @@ const struct task tasks[TASKS] = {
     PAIRS("90 % live", 900),
     PAIR("90 % live, a tenth differs, just room enough", 900, true, A_TENTH_DIFFERS),
     PAIR("10 % live, filled apart", 100, false, FILLED_APART),
+    {"50 to 400 texts of 1 to 40 bytes", can_ask_row, prepare_empty, .visit = visit_rows},
+    {"50 to 400 texts of 1 to 40 bytes, edition sixteen", can_ask_row_sixteen, prepare_empty, .visit = visit_rows,
+     .edition = HESKAVERN_SIXTEEN},
 };

@@ -4,8 +4,10 @@
 
 #include "variants.h"
 
-/* Those of roll call, then those of the audit, and then those of two heaps side by side are the last ones. */
-enum { FIRST_ROLL = 12, FIRST_AUDIT = FIRST_ROLL + 34, FIRST_PAIR = FIRST_AUDIT + 9, TASKS = FIRST_PAIR + 8 };
+/* Those of roll call, then those of the audit, then those of two heaps side by side, and then those of a statement in
+ * one call are the last ones. */
+enum { FIRST_ROLL = 12, FIRST_AUDIT = FIRST_ROLL + 34, FIRST_PAIR = FIRST_AUDIT + 9, FIRST_ROW = FIRST_PAIR + 8 };
+enum { TASKS = FIRST_ROW + 2 };
 
 /* The blocks of a heap that are live. */
 enum live { A_SHARE, ONE_A_POOL, ONE_ALONE };
@@ -50,11 +52,14 @@ void prepare(const struct task *t, const struct variant *v);
  * not decide the run. */
 double visit(const struct task *t, const struct variant *v, size_t round);
 
-/* Prepares and runs a whole trace once, for the instructions to be counted; how many pairs it has. */
+/* Prepares and runs a whole trace once, for the instructions to be counted; how many pairs it has, or of rows how many
+ * asks. */
 size_t run_mixed(const struct variant *v, size_t edition);
 size_t run_statement(const struct variant *v, size_t edition);
+size_t run_rows(const struct variant *v, size_t edition);
 
-/* Whether a variant can run the traces in this edition. */
+/* Whether a variant can run the traces in this edition, and those of rows. */
 bool has_edition(const struct variant *v, size_t edition);
+bool has_rows(const struct variant *v, size_t edition);
 
 #endif

@@ -48,6 +48,24 @@ static unsigned THIS(statement_trace)(const struct step *steps, const uint16_t *
     return refused;
 }
 
+/* The texts of a row, asked for one by one; and given back in reverse. */
+static unsigned THIS(ask_each_trace)(heskavern_request *row, size_t n)
+{
+    unsigned refused = 0;
+    for (size_t i = 0; i < n; i++)
+        THIS(slots)[i] = THIS(ask)(row[i].size, &refused);
+    return refused;
+}
+
+static unsigned THIS(back_each_trace)(const heskavern_request *row, size_t n)
+{
+    unsigned refused = 0;
+    (void)row;
+    for (size_t i = n; i-- > 0;)
+        THIS(give_back)(THIS(slots)[i], &refused);
+    return refused;
+}
+
 static unsigned THIS(resize_trace)(const struct step *steps, size_t n)
 {
     unsigned refused = 0;
@@ -85,6 +103,27 @@ static unsigned THIS(view_trace)(const struct step *steps, size_t n, uint64_t *s
 }
 #endif
 
+#ifdef ASKS_ALL
+/* Also with  static inline void THIS(ask_all)(heskavern_request *row, size_t n, unsigned *refused). A row in one call,
+ * and a look at each request's number; its offsets go to the slots before they are given back. */
+
+static unsigned THIS(ask_all_trace)(heskavern_request *row, size_t n)
+{
+    unsigned refused = 0;
+    THIS(ask_all)(row, n, &refused);
+    for (size_t i = 0; i < n; i++)
+        refused |= row[i].number;
+    return refused;
+}
+
+static unsigned THIS(back_all_trace)(const heskavern_request *row, size_t n)
+{
+    for (size_t i = 0; i < n; i++)
+        THIS(slots)[i] = row[i].offset;
+    return THIS(back_each_trace)(row, n);
+}
+#endif
+
 #ifdef STANDS_IN
 /* Also with  static inline heskavern_part THIS(stand_in)(BLOCK block, const uint8_t *phrase, size_t bytes) */
 
@@ -109,5 +148,6 @@ static uint32_t THIS(place_of_slot)(size_t slot)
 #undef THIS
 #undef BLOCK
 #undef WRITES
+#undef ASKS_ALL
 #undef STANDS_IN
 #undef PLACES

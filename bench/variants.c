@@ -14,6 +14,8 @@
 #define TRACES(v) \
     .stem = #v, .fill = v##_fill_trace, .drain = v##_drain_trace, .mixed = v##_mixed_trace, \
     .statement = v##_statement_trace, .resize = v##_resize_trace
+#define ROW(v, way) \
+    .ask_row = v##_ask_##way##_trace, .back_row = v##_back_##way##_trace, .row_trace = #v "_ask_" #way "_trace"
 #define WITH_BLOCKS(v) .same = v##_same_block
 #define WRITE_TRACES(v) .write = v##_write_trace, .view_size = v##_view_trace
 #define STAND_IN_TRACE(v) .stand_in = v##_stand_in_trace
@@ -22,21 +24,25 @@
 /* ---- this library, an older archive of it, and the same checks in C by two compilers */
 
 #define CHECKED(v) .fresh = v##_fresh, TRACES(v), WITH_BLOCKS(v), WRITE_TRACES(v), WITH_PLACES(v)
+/* The row one by one alone, with the same heap and slots as in one call. */
+#define ONE_BY_ONE(v) .fresh = v##_fresh, .fill = v##_fill_trace, .drain = v##_drain_trace, ROW(v, each)
 
 #define THIS(name) library_##name
 #define CALL(name) heskavern_##name
 #define STANDS_IN
+#define ASKS_ALL
 #include "checked.h"
 static const struct variant library = {
-    "this library", CHECKED(library), STAND_IN_TRACE(library), .roll_call = heskavern_roll_call,
+    "this library", CHECKED(library), ROW(library, all), STAND_IN_TRACE(library), .roll_call = heskavern_roll_call,
     .format = heskavern_format, .audit = heskavern_audit, .compare = heskavern_compare
 };
+static const struct variant library_each = {"this library, one by one", ONE_BY_ONE(library)};
 static const struct variant merged_rolls = {"two rolls, merged, in C over the library", .compare = two_rolls};
 
 /* The older archive is linked with before_ask for heskavern_ask and so on. One of before W-201 has no audit, and one of
- * before W-212 does not compare: neither is measured of any. In one of before W-211 format takes no edition. It is
- * given one all the same: on x86-64 that stands on the stack after the arguments that it reads, and is its caller's to
- * clear away. */
+ * before W-212 does not compare: neither is measured of any. One of before W-204 has no call for a row: any asks for it
+ * one by one. In one of before W-211 format takes no edition. It is given one all the same: on x86-64 that stands on
+ * the stack after the arguments that it reads, and is its caller's to clear away. */
 #ifdef BEFORE
 #define CHECKS(name) before_##name
 #include "checks.h"
@@ -44,8 +50,8 @@ static const struct variant merged_rolls = {"two rolls, merged, in C over the li
 #define CALL(name) CHECKS(name)
 #include "checked.h"
 static const struct variant archive_before = {
-    "this library, before", .older = true, CHECKED(archive_before), .roll_call = before_roll_call,
-    .format = before_format
+    "this library, before", .older = true, CHECKED(archive_before), ROW(archive_before, each),
+    .roll_call = before_roll_call, .format = before_format
 };
 #undef CHECKS
 #endif
@@ -55,11 +61,13 @@ static const struct variant archive_before = {
 #define THIS(name) by_gcc_##name
 #define CALL(name) CHECKS(name)
 #define STANDS_IN
+#define ASKS_ALL
 #include "checked.h"
 static const struct variant by_gcc = {
-    "the same checks in C, gcc -O2", CHECKED(by_gcc), STAND_IN_TRACE(by_gcc), .roll_call = gcc_roll_call,
-    .format = gcc_format, .audit = gcc_audit, .compare = gcc_compare
+    "the same checks in C, gcc -O2", CHECKED(by_gcc), ROW(by_gcc, all), STAND_IN_TRACE(by_gcc),
+    .roll_call = gcc_roll_call, .format = gcc_format, .audit = gcc_audit, .compare = gcc_compare
 };
+static const struct variant by_gcc_each = {"the same checks one by one, gcc -O2", ONE_BY_ONE(by_gcc)};
 static const struct variant plain_by_gcc = {"a plain loop with ctz, gcc -O2", .roll_call = gcc_plain_roll_call};
 #undef CHECKS
 
@@ -68,11 +76,13 @@ static const struct variant plain_by_gcc = {"a plain loop with ctz, gcc -O2", .r
 #define THIS(name) by_clang_##name
 #define CALL(name) CHECKS(name)
 #define STANDS_IN
+#define ASKS_ALL
 #include "checked.h"
 static const struct variant by_clang = {
-    "the same checks in C, clang -O3", CHECKED(by_clang), STAND_IN_TRACE(by_clang), .roll_call = clang_roll_call,
-    .format = clang_format, .audit = clang_audit, .compare = clang_compare
+    "the same checks in C, clang -O3", CHECKED(by_clang), ROW(by_clang, all), STAND_IN_TRACE(by_clang),
+    .roll_call = clang_roll_call, .format = clang_format, .audit = clang_audit, .compare = clang_compare
 };
+static const struct variant by_clang_each = {"the same checks one by one, clang -O3", ONE_BY_ONE(by_clang)};
 static const struct variant plain_by_clang = {"a plain loop with ctz, clang -O3", .roll_call = clang_plain_roll_call};
 static const struct variant grouped_by_clang = {
     "the same with loops for memcmp, clang -O3", .compare = clang_grouped_compare
@@ -133,8 +143,8 @@ static inline uint32_t source_place(BLOCK p)
 
 #include "traces.h"
 static const struct variant source = {
-    "the program from the source", .fresh = source_fresh, TRACES(source), WITH_BLOCKS(source), WRITE_TRACES(source),
-    WITH_PLACES(source)
+    "the program from the source", .fresh = source_fresh, TRACES(source), ROW(source, each), WITH_BLOCKS(source),
+    WRITE_TRACES(source), WITH_PLACES(source)
 };
 
 /* ---- the system's allocators */
@@ -150,7 +160,7 @@ static void no_heap(size_t edition)
     (void)edition;
 }
 
-#define SYSTEM(v) .fresh = no_heap, TRACES(v), WITH_BLOCKS(v)
+#define SYSTEM(v) .fresh = no_heap, TRACES(v), ROW(v, each), WITH_BLOCKS(v)
 
 #define THIS(name) glibc_##name
 #include "system.h"
@@ -218,7 +228,7 @@ static inline heskavern_part loop_stand_in(BLOCK block, const uint8_t *phrase, s
 
 #include "traces.h"
 static const struct variant loop = {
-    "the loop alone", .fresh = no_heap, TRACES(loop), WRITE_TRACES(loop), STAND_IN_TRACE(loop)
+    "the loop alone", .fresh = no_heap, TRACES(loop), ROW(loop, each), WRITE_TRACES(loop), STAND_IN_TRACE(loop)
 };
 
 /* ---- all of them */
@@ -258,11 +268,14 @@ void find_variants(struct peer *peers, size_t n)
 {
     const char *file;
     add(true, &library);
+    add(true, &library_each);
 #ifdef BEFORE
     add(true, &archive_before);
 #endif
     add(true, &by_gcc);
     add(true, &by_clang);
+    add(true, &by_gcc_each);
+    add(true, &by_clang_each);
     add(true, &plain_by_gcc);
     add(true, &plain_by_clang);
     add(true, &grouped_by_clang);

@@ -6,7 +6,7 @@
 
 #include <stdbool.h>
 
-enum { ARENAS = 16, POOLS = 64, SLOTS = 2000, MOST_VARIANTS = 18 };
+enum { ARENAS = 16, POOLS = 64, SLOTS = 2000, MOST_VARIANTS = 21 };
 
 /* A slot holds a block of this variant. A trace is made of such steps, each for one slot. */
 struct step {
@@ -25,6 +25,10 @@ struct variant {
     unsigned (*mixed)(const struct step *steps, size_t n);  /* gives back what the slot holds, then asks */
     /* asks in runs, gives each run back in reverse */
     unsigned (*statement)(const struct step *steps, const uint16_t *runs, size_t n);
+    /* asks for a row of texts, in one call or one by one, and looks at each number; gives the row back in reverse */
+    unsigned (*ask_row)(heskavern_request *row, size_t n);
+    unsigned (*back_row)(const heskavern_request *row, size_t n);
+    const char *row_trace;          /* the name of the function that asks for a row */
     unsigned (*resize)(const struct step *steps, size_t n);
     unsigned (*write)(const struct step *steps, size_t n, const uint8_t *text, size_t bytes);
     unsigned (*view_size)(const struct step *steps, size_t n, uint64_t *sum);   /* adds up the sizes */

@@ -2,17 +2,19 @@
  * over the same buffers, in both editions, on sound books and on damaged ones, and must give the same number and value,
  * or of a stand-in the same part, and leave the same memory, books, map and roll. The audit must say yes of a sound
  * heap, and of one that is spoilt in one place the rule that this breaks (spoils.h). Now and then two heaps are
- * compared (pairs.h): list and changes must be the same. Fails also where the calls never met one of the tests of a
- * shape that fails first, or in one of the editions a number, a half-done resize whose give-back meets 5, 6 or 10, a
- * stand-in that is the phrase or one that is the block's own part, one of the calls on an offset with one of the
- * reasons why that is a dead block or none, a give-back with one of the kinds of walk past the arenas that follow in
- * the usable list, one of the roll calls over one of the kinds of map with one of the kinds of room, an audit that
- * gives one of the rules, one of the kinds of place that is spoilt, or of two heaps one of the kinds of difference, of
- * pools, of rooms, of refusals or of what is altered in one of them. */
+ * compared (pairs.h): list and changes must be the same. A row of requests must be left the same, every word of it, and
+ * as by as many asks (rows.h). Fails also where the calls never met one of the tests of a shape that fails first, or in
+ * one of the editions a number, a half-done resize whose give-back meets 5, 6 or 10, a stand-in that is the phrase or
+ * one that is the block's own part, one of the calls on an offset with one of the reasons why that is a dead block or
+ * none, a give-back with one of the kinds of walk past the arenas that follow in the usable list, one of the roll calls
+ * over one of the kinds of map with one of the kinds of room, an audit that gives one of the rules, one of the kinds of
+ * place that is spoilt, of two heaps one of the kinds of difference, of pools, of rooms, of refusals or of what is
+ * altered in one of them, or of rows one of the numbers, of the lengths or of the numbers of their requests. */
 #include "checks.h"
 #include "random.h"
 #include "spoils.h"
 #include "pairs.h"
+#include "rows.h"
 
 #include <stdbool.h>
 #include <stdio.h>
@@ -20,7 +22,7 @@
 #include <string.h>
 
 enum { MOST_POOLS = 64, MOST_HELD = 4096, GONE = 64, EDITION = 68, EDITIONS = 2 };
-enum { FORMAT, ASK, GIVE_BACK, RESIZE, VIEW_SIZE, STAND_IN, WRITE, AUDIT, ROLL_CALL, PLAIN_ROLL_CALL, CALLS };
+enum { FORMAT, ASK, ASK_ALL, GIVE_BACK, RESIZE, VIEW_SIZE, STAND_IN, WRITE, AUDIT, ROLL_CALL, PLAIN_ROLL_CALL, CALLS };
 enum { AT_BLOCKS, PAST_THE_LAST, NO_CLASS, WHOLE_WORDS, ALL_ONES, LAST_WORD, CROWDED, MAPS };
 enum { FOR_ALL, MORE, ENOUGH, ONE_TOO_FEW, FEWER, ROOMS };
 enum { DEAD, DEAD_DAMAGED, OPEN_0, OPEN_ABOVE_1, PAST_THE_MARK, AT_NEXTOFFSET, PAST_NEXTOFFSET, NO_START, NO_END,
@@ -35,19 +37,21 @@ struct buffers {
     uint32_t books[72 + 8 * 16 + 8 * MOST_POOLS];
     uint64_t map[8 * MOST_POOLS];
     uint32_t roll[2 * 506 * MOST_POOLS];
+    heskavern_request row[MOST_ENTRIES + 1];
 };
 
 struct call {
     unsigned kind;
     size_t memory_bytes, books_words, map_words, roll_words;
-    size_t x, y, z;         /* A, P and the edition; or a size; or an offset, and a size or a text's length */
+    size_t x, y, z;         /* A, P and the edition; or a size; or how many requests a row has; or an offset, and a size
+                               or a text's length */
     size_t walk;            /* of a give-back: the walk that it comes to, or WALKS */
     uint32_t live;          /* of a roll call: the live blocks that it meets, and what is in the map */
     bool in_map[MAPS];
 };
 
-static const char *const names[CALLS] = {"format", "ask", "give back", "resize", "view_size", "stand-in", "write",
-                                         "audit", "roll call", "plain roll call"};
+static const char *const names[CALLS] = {"format", "ask", "ask all", "give back", "resize", "view_size", "stand-in",
+                                         "write", "audit", "roll call", "plain roll call"};
 static const char *const maps[MAPS] = {
     [AT_BLOCKS] = "bits at blocks alone",
     [PAST_THE_LAST] = "bits past a pool's last block",
@@ -110,6 +114,7 @@ static unsigned long shapes_met[2][SHAPES];     /* of the other calls, and of fo
 static struct met {
     unsigned long numbers[11], half_done[11], stood_in[2], rolls[CALLS][MAPS][ROOMS], on[CALLS][REASONS], walks[WALKS];
     unsigned long verdicts[VERDICTS], spoilt[SPOILS];
+    struct met_rows rows;
 } met_in[EDITIONS], *met = met_in;              /* met is that of the books' edition */
 static uint8_t text[600];
 
@@ -129,6 +134,7 @@ static heskavern_answer by_library(struct buffers *b, const struct call *c)
     switch (c->kind) {
     case FORMAT: return heskavern_format(LENT(b), c->x, c->y, c->z);
     case ASK: return heskavern_ask(LENT(b), c->x);
+    case ASK_ALL: return heskavern_ask_all(LENT(b), b->row, c->x);
     case GIVE_BACK: return heskavern_give_back(LENT(b), c->x);
     case RESIZE: return heskavern_resize(LENT(b), c->x, c->y);
     case VIEW_SIZE: return heskavern_view_size(LENT(b), c->x);
@@ -144,6 +150,7 @@ static heskavern_answer by_checks(struct buffers *b, const struct call *c)
     switch (c->kind) {
     case FORMAT: return CHECKS(format)(LENT(b), c->x, c->y, c->z);
     case ASK: return CHECKS(ask)(LENT(b), c->x);
+    case ASK_ALL: return CHECKS(ask_all)(LENT(b), b->row, c->x);
     case GIVE_BACK: return CHECKS(give_back)(LENT(b), c->x);
     case RESIZE: return CHECKS(resize)(LENT(b), c->x, c->y);
     case VIEW_SIZE: return CHECKS(view_size)(LENT(b), c->x);
@@ -283,6 +290,19 @@ static void blank_rolls(void)
     memset(checks.roll, 0xff, sizeof *checks.roll * HESKAVERN_ROLL_WORDS(arenas, pools));
 }
 
+/* Both get the same row, with words in the places of numbers and offsets that no ask leaves there; and so does, with
+ * the heap as it is, the copy that the single asks are made on. */
+static size_t random_row(void)
+{
+    const size_t entries = random_entries(few);
+    for (size_t i = 0; i <= entries; i++)
+        single_row[i] = (heskavern_request){(uint32_t)random_size(), UNWRITTEN, UNWRITTEN};
+    memcpy(library.row, single_row, (entries + 1) * sizeof *single_row);
+    memcpy(checks.row, single_row, (entries + 1) * sizeof *single_row);
+    copy_heap(&single, library.memory, library.books, library.map, arenas, pools, sound);
+    return entries;
+}
+
 /* A call of this kind that lends the exact lengths. */
 static struct call exact_call(unsigned kind)
 {
@@ -310,6 +330,8 @@ static struct call random_call(void)
     }
     if (c.kind == ASK)
         c.x = random_size();
+    if (c.kind == ASK && below(16) == 0)
+        c.kind = ASK_ALL, c.x = random_row();
     if (c.kind == RESIZE && below(4) == 0)
         c.y = c.x % 4096 - 48;      /* in blocks of this size, the second one of its pool would start where it does */
     if (c.kind == GIVE_BACK)
@@ -477,6 +499,8 @@ static bool same(const struct call *c, heskavern_answer x, heskavern_answer y)
         what = "map";
     if (c->kind >= ROLL_CALL && memcmp(library.roll, checks.roll, roll_bytes) != 0)
         what = "roll";
+    if (c->kind == ASK_ALL && memcmp(library.row, checks.row, (c->x + 1) * sizeof *library.row) != 0)
+        what = "row";
     if (what == NULL)
         return true;
     printf("bench/verify: %s differ after %s (%zu, %zu, %zu), A = %zu, P = %zu, edition %u: "
@@ -580,6 +604,22 @@ static void note_audit(const struct call *c, uint32_t verdict)
     met->verdicts[verdict]++;
 }
 
+/* Keeps an offset that was handed out. */
+static void hold(uint32_t offset)
+{
+    if (held_count < MOST_HELD)
+        held[held_count++] = offset;
+}
+
+/* An offset came back, and is held no more. */
+static void let_go(uint32_t offset)
+{
+    gone[gone_count++ % GONE] = offset;
+    for (uint32_t i = 0; i < held_count; i++)
+        if (held[i] == offset)
+            held[i--] = held[--held_count];
+}
+
 /* Keeps what is held by the answers of the call. */
 static void note(const struct call *c, heskavern_answer a)
 {
@@ -601,6 +641,8 @@ static void note(const struct call *c, heskavern_answer a)
         note_half_done(c);
     if (c->kind == GIVE_BACK)
         note_walk(c, a.number);
+    if (c->kind == ASK_ALL)
+        note_row(&met->rows, library.row, c->x, a.number, sound);
     if (c->kind >= ROLL_CALL && (a.number == HESKAVERN_DONE || a.number == HESKAVERN_DOES_NOT_FIT))
         note_roll(c);
     if (a.number != HESKAVERN_DONE)
@@ -610,12 +652,12 @@ static void note(const struct call *c, heskavern_answer a)
         sound = true;
     }
     if (c->kind == GIVE_BACK || moved)
-        gone[gone_count++ % GONE] = (uint32_t)c->x;
-    for (uint32_t i = 0; (c->kind == GIVE_BACK || moved) && i < held_count; i++)
-        if (held[i] == c->x)
-            held[i--] = held[--held_count];
-    if ((c->kind == ASK || moved) && held_count < MOST_HELD)
-        held[held_count++] = a.value;
+        let_go((uint32_t)c->x);
+    if (c->kind == ASK || moved)
+        hold(a.value);
+    for (size_t i = 0; c->kind == ASK_ALL && i < c->x; i++)
+        if (library.row[i].number == HESKAVERN_DONE)
+            hold(library.row[i].offset);
 }
 
 /* A sound heap is spoilt in one place, if it has such a one: both audits give the rule that this breaks. Then it is as
@@ -652,6 +694,9 @@ static bool compare(unsigned long *calls)
     for (; *calls > last; --*calls, c = random_call()) {
         heskavern_answer x = by_library(&library, &c), y = by_checks(&checks, &c);
         if (!same(&c, x, y))
+            return false;
+        if (c.kind == ASK_ALL
+            && !as_by_asks(library.row, c.x, x.number, library.memory, library.books, library.map))
             return false;
         met = &met_in[library.books[EDITION] == HESKAVERN_SIXTEEN];
         note(&c, x);
@@ -754,6 +799,7 @@ static bool say_met(size_t edition)
     all &= say_walks();
     all &= say_audits();
     all &= say_pairs(edition);
+    all &= say_rows(&met->rows);
     return say_rolls() && all;
 }
 

@@ -1,6 +1,8 @@
-/* A talking statement keeps each text in a block. The block of the word "owed" is given back twice: the second time
-   is refused with 10, a dead block, and while the block is not out a stand-in is spoken for it. Then the payee's name
-   gets a block of its own, the roll call says what every block that is out holds, and the audit that all is in order.
+/* A talking statement keeps each text in a block, and asks for the blocks of a row of texts in one call. The block of
+   the word "owed" is given back twice: the second time is refused with 10, a dead block, and while the block is not out
+   a stand-in is spoken for it. Then an empty text is refused with 3, which does not stop the rest of its row: the
+   payee's name gets a block of its own. The roll call says what every block that is out holds, and the audit that all
+   is in order.
 
    gcc -Iinclude examples/statement.c target/staticlib/libheskavern.a -o target/statement && target/statement */
 #include <stdio.h>
@@ -24,13 +26,24 @@ static uint32_t value_of(heskavern_answer answer)
     return answer.value;
 }
 
-/* Keeps a text in a block that is asked for it, and answers where. */
-static uint32_t keep(const char *text)
+/* Keeps a row of at most MOST texts, each in a block of its own; all are asked for in one call, and each that is served
+   is written. Answers where the first one is. */
+enum { MOST = 3 };
+static uint32_t keep(const char *const texts[], size_t count)
 {
-    uint32_t offset = value_of(heskavern_ask(HEAP, strlen(text)));
-    value_of(heskavern_write(HEAP, offset, text, strlen(text)));
-    printf("keep \"%s\" at %u\n", text, offset);
-    return offset;
+    heskavern_request row[MOST];
+    for (size_t i = 0; i < count; i++)
+        row[i].size = (uint32_t)strlen(texts[i]);
+    value_of(heskavern_ask_all(HEAP, row, count));
+    for (size_t i = 0; i < count; i++) {
+        if (row[i].number == HESKAVERN_DONE) {
+            value_of(heskavern_write(HEAP, row[i].offset, texts[i], row[i].size));
+            printf("keep \"%s\" at %u\n", texts[i], row[i].offset);
+        } else {
+            printf("keep \"%s\": number %u\n", texts[i], row[i].number);
+        }
+    }
+    return row[0].offset;
 }
 
 static void give_back(uint32_t offset)
@@ -48,15 +61,14 @@ static void speak(uint32_t offset)
 
 int main(void)
 {
+    static const char *const texts[] = {"owed", "paid"}, *const others[] = {"owed", "", "A. Moss"};
     value_of(heskavern_format(HEAP, 1, 2, HESKAVERN_EIGHT));
-    uint32_t owed = keep("owed");
-    keep("paid");
+    uint32_t owed = keep(texts, 2);
     speak(owed);
     give_back(owed);
     speak(owed);
     give_back(owed);
-    keep("owed");
-    keep("A. Moss");
+    keep(others, 3);
 
     uint32_t live = value_of(heskavern_roll_call(HEAP, roll, HESKAVERN_ROLL_WORDS(1, 2)));
     for (uint32_t i = 0; i < live; i++) {

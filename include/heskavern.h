@@ -11,13 +11,14 @@ Every call answers a number and a value, but for view and the stand-in, which ha
 answers yes or the rule that is broken. The number is 0 when it is done, and otherwise says why it is refused. A refusal
 has value 0 and leaves every byte and word as it was, but for the half-done resize. Any lengths, any contents of the
 buffers and any arguments get their number: that is proved of the source, and so is that a call always returns and
-touches nothing but the buffers. (View and the stand-in are lines of this header over view_size.) No call allocates or
+touches nothing but the buffers. (View and the stand-in are lines of this header over view_size.) Ask_all asks for a row
+of sizes in one call, and beside its own answer leaves each one's number and offset in the row. No call allocates or
 makes a system call.
 
 What the caller owes, and no call can test:
 - Each pointer is valid for its length and aligned for its type. It is not null, even where the length is 0.
 - A buffer that a call may write, one whose pointer is not const, overlaps no other buffer of that call. That goes for
-  text, roll, list and changes too.
+  requests, text, roll, list and changes too.
 - During a call no other thread writes these buffers, or reads one that is not const.
 - There are 512 bytes of stack for the call, 2,048 for compare and 8,192 for the audit; and for format and the audit
   what memset takes besides. (Where it is bound lazily, its first call is the dynamic linker's and takes some
@@ -52,10 +53,11 @@ What is good to know:
   and round up: the sum is the pools that are always enough. (A resize that moves holds both blocks for a moment: count
   one text more of the new size.) 300 texts of 1 to 24 bytes and 20 of 500 want 1 + 2 + 2 + 3 pools, and in edition
   sixteen 2 + 3 + 3: A = 1, P = 8.
-- After a 6 something other than this heap's own calls has written to books, map or a block that is not out. The call
-  wrote nothing, unless it is a resize with a value, which has moved the text; where it wrote nothing, the audit names
-  the first rule that is broken. Ask for nothing more: copy the texts out by roll call and view, and format anew. Those
-  never give 6; they go by the map and the pools' classes, and show what stands there, whoever wrote it.
+- After a 6, of a call or of a request in a row, something other than this heap's own calls has written to books, map or
+  a block that is not out. The call wrote nothing, unless it is a resize with a value, which has moved the text, or an
+  ask_all, which has gone on to the rest of its row; where it wrote nothing, the audit names the first rule that is
+  broken. Ask for nothing more: copy the texts out by roll call and view, and format anew. Those never give 6; they go
+  by the map and the pools' classes, and show what stands there, whoever wrote it.
 - A damaged heap may give no 6 for long: no call but the audit looks at all of it. So audit one that comes from
   elsewhere, as a saved one, before you go on with it.
 
@@ -101,8 +103,9 @@ enum {
 
 /* The numbers. Format tests its A and P, then its edition, and then the lengths. In every other call books of under two
    words are 2; then A and P are tested, 1; books that do not reach word 68 are 2; then come the edition, 1, and the
-   lengths, 2; then 3, then 5 or 10, then 7, and then the step, which gives 4 or 6. Compare tests the first heap so, 1
-   and 2, then the second, and then come 12 and 7. (8 and 9 are the replay program's alone.) */
+   lengths, 2; then 3, then 5 or 10, then 7, and then the step, which gives 4 or 6. Ask_all tests 1 and 2 so, once, and
+   then 7; then each request has its 3, 4 or 6. Compare tests the first heap so, 1 and 2, then the second, and then come
+   12 and 7. (8 and 9 are the replay program's alone.) */
 enum {
     HESKAVERN_DONE = 0,          /* done */
     HESKAVERN_OUT_OF_RANGE = 1,  /* A, P or the edition out of range */
@@ -112,7 +115,8 @@ enum {
     HESKAVERN_NO_BLOCK = 5,      /* no block there */
     HESKAVERN_DAMAGED = 6,       /* books damaged; see resize for its one answer with a value */
     HESKAVERN_DOES_NOT_FIT = 7,  /* text longer than its block; fewer than two roll words for each live block; fewer
-                                    than two list words for each difference, or fewer changes than classes */
+                                    than two list words for each difference, or fewer changes than classes; more
+                                    than 4,096 requests */
     HESKAVERN_DEAD_BLOCK = 10,   /* a block that is not live: it was given back, or never handed out */
     HESKAVERN_UNEQUAL_SHAPE = 12 /* two heaps of unequal A, P or edition */
 };
@@ -203,6 +207,17 @@ typedef struct heskavern_answer {
     uint32_t value;
 } heskavern_answer;
 
+/* A request of ask_all: the size that is asked for, and the places for the number and the offset that answer it, which
+   may hold anything before. */
+typedef struct heskavern_request {
+    uint32_t size;
+    uint32_t number;
+    uint32_t offset;
+} heskavern_request;
+
+/* The most requests that ask_all takes at once. */
+#define HESKAVERN_MOST_REQUESTS 4096
+
 /* What view and the stand-in hand back: a block's own part of memory, or what stands in for it. */
 typedef struct heskavern_part {
     const uint8_t *bytes;
@@ -222,6 +237,17 @@ HESKAVERN_MUST_USE heskavern_answer heskavern_format(
 HESKAVERN_MUST_USE heskavern_answer heskavern_ask(
     uint8_t *memory, size_t memory_bytes, uint32_t *books, size_t books_words, uint64_t *map, size_t map_words,
     size_t size) HESKAVERN_NOEXCEPT;
+
+/* Ask all: a row of requests in one call, as of a whole statement. Each is an ask for its size, one after the other
+   from the front, and gets that ask's number and offset in its places: 0, or 3, 4 or 6 with offset 0. Its size stays. A
+   request that is refused does not stop the rest. So row and heap are left as by as many calls of ask; but 1 and 2 are
+   tested once, first.
+   Value 0. Refuses with 1, 2, and then with 7 where there are more than HESKAVERN_MOST_REQUESTS; the row is then left
+   as it came. Done, number 0, says that the row was gone through, and not that every request was served: look at each
+   one's number. An empty row is done; requests is not null even then. */
+HESKAVERN_MUST_USE heskavern_answer heskavern_ask_all(
+    uint8_t *memory, size_t memory_bytes, uint32_t *books, size_t books_words, uint64_t *map, size_t map_words,
+    heskavern_request *requests, size_t entries) HESKAVERN_NOEXCEPT;
 
 /* Give back: the block is live no more. Value: the given offset. Writes books, map, and a link in the block's first
    four bytes. Refuses with 1, 2, 5, 10, 6. */

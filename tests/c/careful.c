@@ -33,6 +33,7 @@ int main(void)
     BUFFER(uint8_t, memory, HESKAVERN_MEMORY_BYTES(A, P));
     BUFFER(uint32_t, books, HESKAVERN_BOOKS_WORDS(A, P));
     BUFFER(uint64_t, map, HESKAVERN_MAP_WORDS(A, P));
+    BUFFER(heskavern_request, row, 2);
     BUFFER(uint32_t, roll, HESKAVERN_ROLL_WORDS(A, P));
     BUFFER(uint32_t, list, HESKAVERN_LIST_WORDS(A, P));
     BUFFER(int32_t, changes, HESKAVERN_CHANGES);
@@ -42,10 +43,11 @@ int main(void)
     heskavern_answer word, moved;
     heskavern_part part;
 #ifdef FROM_MALLOC
-    EXPECT(memory && books && map && roll && list && changes && saved_memory && saved_books && saved_map);
+    EXPECT(memory && books && map && row && roll && list && changes && saved_memory && saved_books && saved_map);
 #endif
 #ifdef __cplusplus
     static_assert(noexcept(heskavern_format(HEAP, A, P, HESKAVERN_EIGHT)) && noexcept(heskavern_ask(HEAP, 4))
+        && noexcept(heskavern_ask_all(HEAP, row, 2))
         && noexcept(heskavern_give_back(HEAP, 48)) && noexcept(heskavern_resize(HEAP, 48, 100))
         && noexcept(heskavern_view_size(HEAP, 48)) && noexcept(heskavern_view(HEAP, 48))
         && noexcept(heskavern_stand_in(HEAP, 48, "no", 2))
@@ -80,11 +82,17 @@ int main(void)
     EXPECT(heskavern_format(HEAP, A, P, HESKAVERN_SIXTEEN).number == HESKAVERN_DONE);
     word = heskavern_ask(HEAP, 4);
     EXPECT(heskavern_view_size(HEAP, word.value).value == 16);
+    row[0].size = HESKAVERN_LARGEST + 1;
+    row[1].size = 4;
+    EXPECT(heskavern_ask_all(HEAP, row, 2).number == HESKAVERN_DONE);
+    EXPECT(row[0].number == HESKAVERN_BAD_SIZE && row[0].offset == 0);
+    EXPECT(row[1].number == HESKAVERN_DONE && row[1].offset == word.value + 16);
     EXPECT(heskavern_compare(SAVED, HEAP, COMPARED).number == HESKAVERN_UNEQUAL_SHAPE);
 #ifdef FROM_MALLOC
     free(memory);
     free(books);
     free(map);
+    free(row);
     free(roll);
     free(list);
     free(changes);

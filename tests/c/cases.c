@@ -549,8 +549,11 @@ static void largest(void)
    sizes and offsets are good ones. */
 static void expect_refused(uint32_t number)
 {
+    heskavern_request request = {8, 97, 98};
     remember();
     EXPECT(is(ASK(8), number, 0));
+    EXPECT(is(ASK_ALL(&request, 1), number, 0));
+    EXPECT(request.size == 8 && request.number == 97 && request.offset == 98);
     EXPECT(is(GIVE_BACK(48), number, 0));
     EXPECT(is(RESIZE(48, 100), number, 0));
     EXPECT(is(VIEW_SIZE(48), number, 0));

@@ -21,6 +21,7 @@ static size_t memory_bytes, books_words, map_words;
 #define HEAP memory, memory_bytes, books, books_words, map, map_words
 #define FORMAT(a, p, e) KEPT(heskavern_format(HEAP, a, p, e))
 #define ASK(n) KEPT(heskavern_ask(HEAP, n))
+#define ASK_ALL(requests, n) KEPT(heskavern_ask_all(HEAP, requests, n))
 #define GIVE_BACK(o) KEPT(heskavern_give_back(HEAP, o))
 #define RESIZE(o, n) KEPT(heskavern_resize(HEAP, o, n))
 #define VIEW_SIZE(o) heskavern_view_size(HEAP, o)

@@ -9,10 +9,12 @@
 #define IGNORED
 #endif
 
-void ignores_all(uint8_t *memory, uint32_t *books, uint64_t *map, uint32_t *roll, int32_t *changes)
+void ignores_all(
+    uint8_t *memory, uint32_t *books, uint64_t *map, heskavern_request *requests, uint32_t *roll, int32_t *changes)
 {
     IGNORED heskavern_format(HEAP, 1, 2, HESKAVERN_SIXTEEN);
     IGNORED heskavern_ask(HEAP, 4);
+    IGNORED heskavern_ask_all(HEAP, requests, 2);
     IGNORED heskavern_give_back(HEAP, 48);
     IGNORED heskavern_resize(HEAP, 48, 8);
     IGNORED heskavern_view_size(HEAP, 48);

@@ -1,7 +1,8 @@
 /* Replays 01's records through the C library, for a heap of any shape and edition: library A P EDITION < records
- * > replies. The records are whole and well made: bad ones are the replay program's own business. After every record,
- * or where the heap is large after some, the audit must say yes; and after some the heap, beside itself before the
- * record, must differ by what the reply says and by nothing else. */
+ * > replies. The records are whole and well made: bad ones are the replay program's own business. Asks that follow each
+ * other are mostly made in rows of a few, by one call. After every call, or where the heap is large after some, the
+ * audit must say yes; and after some that are of one record the heap, beside itself before it, must differ by what the
+ * reply says and by nothing else. */
 #include "../../include/heskavern.h"
 #include "../source/bytes.h"
 
@@ -11,6 +12,7 @@
 
 enum { RECORD = 16, ASK = 1, GIVE_BACK = 2, RESIZE = 3 };
 enum { MOST = 16 * 64 };
+enum { ROW = 5 };       /* the most asks that one call makes */
 enum { SMALL = 16 };    /* pools; the time of an audit grows with them, and it is made as much more seldom */
 enum { SELDOM = 16 };   /* audits to a comparison, which reads every live byte */
 
@@ -42,6 +44,47 @@ static void answer(const unsigned char *record, unsigned char *reply, uint32_t *
     put32(reply + 4, done ? a.value : op == ASK ? 0 : offset);
     put32(reply + 8, !done ? 0 : op == GIVE_BACK ? given : heskavern_view_size(HEAP, a.value).value);
     put32(reply + 12, *live);
+}
+
+/* The replies to asks that one call makes, as if each were made alone. What stands in the row's places before must not
+ * matter. */
+static void answer_all(unsigned char records[][RECORD], size_t asks, unsigned char replies[][RECORD], uint32_t *live)
+{
+    heskavern_request row[ROW];
+    memset(row, 0xff, sizeof row);
+    for (size_t i = 0; i < asks; ++i)
+        row[i].size = get32(records[i] + 4);
+    heskavern_answer a = heskavern_ask_all(HEAP, row, asks);
+    for (size_t i = 0; i < asks; ++i) {
+        uint32_t number = a.number == HESKAVERN_DONE ? row[i].number : a.number;
+        int done = number == HESKAVERN_DONE;
+        *live += (uint32_t)done;
+        put32(replies[i], ASK | number << 8);
+        put32(replies[i] + 4, row[i].offset);
+        put32(replies[i] + 8, done ? heskavern_view_size(HEAP, row[i].offset).value : 0);
+        put32(replies[i] + 12, *live);
+    }
+}
+
+/* The record that comes next, if there is one. */
+static unsigned char next[RECORD];
+static int more;
+
+static void read_next(void)
+{
+    more = fread(next, 1, RECORD, stdin) == RECORD;
+}
+
+/* Takes the records of a call: the next one, and where it is an ask also those after it, to so many in all. Answers how
+ * many. */
+static size_t take(unsigned char records[][RECORD], size_t most)
+{
+    size_t taken = 0;
+    do {
+        memcpy(records[taken++], next, RECORD);
+        read_next();
+    } while (more && taken < most && records[0][0] == ASK && next[0] == ASK);
+    return taken;
 }
 
 /* Says that the audit gives a rule after so many records; whether it does. */
@@ -88,9 +131,9 @@ static int astray(const unsigned char *record, const unsigned char *reply, unsig
 
 int main(int argc, char **argv)
 {
-    unsigned char record[RECORD], reply[RECORD];
+    unsigned char record[ROW][RECORD], reply[ROW][RECORD];
     uint32_t live = 0;
-    unsigned long records = 0;
+    unsigned long calls = 0, records = 0;
     arenas = argc == 4 ? strtoul(argv[1], NULL, 10) : 0;
     pools = argc == 4 ? strtoul(argv[2], NULL, 10) : 0;
     size_t edition = argc == 4 ? strtoul(argv[3], NULL, 10) : 0;
@@ -99,13 +142,19 @@ int main(int argc, char **argv)
         return 2;
     }
     size_t each = arenas * pools > SMALL ? arenas * pools / SMALL : 1;
-    while (fread(record, 1, RECORD, stdin) == RECORD) {
-        int compared = ++records % (SELDOM * each) == 0;
+    read_next();
+    while (more) {
+        int compared = ++calls % (SELDOM * each) == 0;
+        size_t taken = take(record, compared ? 1 : 1 + calls % ROW);
+        records += taken;
         if (compared)
             keep();
-        answer(record, reply, &live);
-        fwrite(reply, 1, RECORD, stdout);
-        if ((records % each == 0 && broken(records)) || (compared && astray(record, reply, records)))
+        if (taken == 1)
+            answer(record[0], reply[0], &live);
+        else
+            answer_all(record, taken, reply, &live);
+        fwrite(reply, RECORD, taken, stdout);
+        if ((calls % each == 0 && broken(records)) || (compared && astray(record[0], reply[0], records)))
             return 1;
     }
     return fflush(stdout) == 0 ? 0 : 1;

@@ -1,13 +1,14 @@
-// Small changes to src/paper.rs, its audit and its compare, one at a time: the slips that 01 names, the other reading
-// of each place that leaves room, the slips of a tired hand, and those of W-201, W-203, W-206, W-211, W-212 and W-214.
-// The build makes a program of each, and tests/broken.rs shows that it is found.
+// Small changes to src/paper.rs, its audit, its compare and its batch, one at a time: the slips that 01 names, the
+// other reading of each place that leaves room, the slips of a tired hand, and those of W-201, W-203, W-204, W-206,
+// W-211, W-212 and W-214. The build makes a program of each, and tests/broken.rs shows that it is found.
 
-/// The files of the paper that a slip can be to: src/paper.rs, src/paper/audit.rs and src/paper/beside.rs.
+/// The files of the paper that a slip can be to: src/paper.rs, and audit.rs, beside.rs and batch.rs in src/paper.
 #[derive(Clone, Copy, PartialEq, Eq)]
 pub enum File {
     Paper,
     Audit,
     Beside,
+    Batch,
 }
 
 // the build reads the texts, the tests the rest
@@ -35,7 +36,11 @@ const fn in_compare(name: &'static str, case: Option<&'static str>, old: &'stati
     Slip { name, case, file: File::Beside, old, new }
 }
 
-pub const ALL: [&[Slip]; 19] = [
+const fn in_batch(name: &'static str, case: Option<&'static str>, old: &'static str, new: &'static str) -> Slip {
+    Slip { name, case, file: File::Batch, old, new }
+}
+
+pub const ALL: [&[Slip]; 23] = [
     NAMED,
     READINGS,
     TIRED,
@@ -55,6 +60,10 @@ pub const ALL: [&[Slip]; 19] = [
     COMPARE_TESTS,
     COMPARE_ROOMS,
     COMPARE_LIVE,
+    BATCH_REST,
+    BATCH_PLACES,
+    BATCH_TESTS,
+    BATCH_ASKS,
 ];
 
 /// The slips that 01 names.
@@ -2894,5 +2903,632 @@ const COMPARE_LIVE: &[Slip] = &[
         Some("W-212: live in"),
         "RECORD * shape.arenas + RECORD * pool + CLASS",
         "RECORD * (shape.arenas - 1) + RECORD * pool + CLASS",
+    ),
+];
+
+/// W-204: a refusal doesn't stop the rest, and the asks come one by one, front first.
+const BATCH_REST: &[Slip] = &[
+    in_batch(
+        "the batch stops at the first refusal",
+        Some("W-204: a size out of range"),
+        "        request.offset = value;
+",
+        "        request.offset = value;
+        if number != 0 {
+            break;
+        }
+",
+    ),
+    in_batch(
+        "the batch stops before the first refusal, whose entry stays",
+        Some("W-204: a size out of range"),
+        "        request.number = number;
+",
+        "        if number != 0 {
+            break;
+        }
+        request.number = number;
+",
+    ),
+    in_batch(
+        "the first refusal is the batch's answer",
+        Some("W-204, read: the call answers 0"),
+        "        request.offset = value;
+",
+        "        request.offset = value;
+        if number != 0 {
+            return refuse(number);
+        }
+",
+    ),
+    in_batch(
+        "the batch stops where there is no room",
+        Some("W-204: no room"),
+        "        request.offset = value;
+",
+        "        request.offset = value;
+        if number == 4 {
+            break;
+        }
+",
+    ),
+    in_batch(
+        "the batch stops at damaged books",
+        Some("W-204: damaged books"),
+        "        request.offset = value;
+",
+        "        request.offset = value;
+        if number == 6 {
+            break;
+        }
+",
+    ),
+    in_batch(
+        "after a 4 the rest get 4",
+        Some("W-204: no room"),
+        "    for request in requests {
+        let Answer { number, value } = ask(&mut heap, request.size as usize);
+",
+        "    let mut full = false;
+    for request in requests {
+        let Answer { number, value } = match full && (1..=512).contains(&request.size) {
+            true => Answer { number: 4, value: 0 },
+            false => ask(&mut heap, request.size as usize),
+        };
+        full = full || number == 4;
+",
+    ),
+    in_batch(
+        "after a 6 the rest get 6",
+        Some("W-204: a 6 that a later"),
+        "    for request in requests {
+        let Answer { number, value } = ask(&mut heap, request.size as usize);
+",
+        "    let mut damaged = false;
+    for request in requests {
+        let Answer { number, value } = match damaged && (1..=512).contains(&request.size) {
+            true => Answer { number: 6, value: 0 },
+            false => ask(&mut heap, request.size as usize),
+        };
+        damaged = damaged || number == 6;
+",
+    ),
+    in_batch(
+        "all or nothing: a refusal undoes the rest",
+        Some("W-204: a size out of range"),
+        "    for request in requests {
+        let Answer { number, value } = ask(&mut heap, request.size as usize);
+        request.number = number;
+        request.offset = value;
+    }
+",
+        "    let came = (heap.lent.memory.to_vec(), heap.lent.books.to_vec(), heap.lent.map.to_vec());
+    for request in requests.iter_mut() {
+        let Answer { number, value } = ask(&mut heap, request.size as usize);
+        request.number = number;
+        request.offset = value;
+    }
+    if requests.iter().any(|request| request.number != 0) {
+        heap.lent.memory.copy_from_slice(&came.0);
+        heap.lent.books.copy_from_slice(&came.1);
+        heap.lent.map.copy_from_slice(&came.2);
+    }
+",
+    ),
+    in_batch(
+        "the asks come from the back",
+        Some("W-204: front first"),
+        "for request in requests {",
+        "for request in requests.iter_mut().rev() {",
+    ),
+    in_batch(
+        "the asks come by rising size",
+        Some("W-204: front first"),
+        "    for request in requests {
+",
+        "    let mut row: Vec<&mut Request> = requests.iter_mut().collect();
+    row.sort_by_key(|request| request.size);
+    for request in row {
+",
+    ),
+    in_batch(
+        "every ask is of the heap as it came",
+        Some("W-204: one by one"),
+        "    for request in requests {
+",
+        "    let came = (heap.lent.memory.to_vec(), heap.lent.books.to_vec(), heap.lent.map.to_vec());
+    for request in requests {
+        heap.lent.memory.copy_from_slice(&came.0);
+        heap.lent.books.copy_from_slice(&came.1);
+        heap.lent.map.copy_from_slice(&came.2);
+",
+    ),
+    in_batch(
+        "an entry of the size before it gets the same block",
+        Some("W-204: a row of asks"),
+        "    for request in requests {
+        let Answer { number, value } = ask(&mut heap, request.size as usize);
+",
+        "    let mut last = (0, Answer::default());
+    for request in requests {
+        let Answer { number, value } = match last.0 == request.size {
+            true if request.size > 0 => last.1,
+            _ => ask(&mut heap, request.size as usize),
+        };
+        last = (request.size, Answer { number, value });
+",
+    ),
+    in_batch(
+        "the first entry is not asked for",
+        Some("W-204: a row of asks"),
+        "for request in requests {",
+        "for request in requests.iter_mut().skip(1) {",
+    ),
+    in_batch(
+        "the last entry is not asked for",
+        Some("W-204: a row of asks"),
+        "    for request in requests {
+",
+        "    let asked_for = requests.len().saturating_sub(1);
+    for request in requests.iter_mut().take(asked_for) {
+",
+    ),
+    in_batch(
+        "of 4,096 entries the last is not asked for",
+        Some("W-204: at most"),
+        "for request in requests {",
+        "for request in requests.iter_mut().take(MOST - 1) {",
+    ),
+    in_batch(
+        "what a refused entry wrote before its 6 stands",
+        Some("W-204: damaged books"),
+        "heap.step(|heap| heap.ask(size))",
+        "heap.ask(size)",
+    ),
+];
+
+/// W-204: what stands in an entry afterwards, and what stood there before.
+const BATCH_PLACES: &[Slip] = &[
+    in_batch(
+        "a refused entry's offset stays",
+        Some("W-204, read: a refused entry"),
+        "        request.offset = value;
+",
+        "        if number == 0 {
+            request.offset = value;
+        }
+",
+    ),
+    in_batch(
+        "a refused entry's number stays",
+        Some("W-204, read: a refused entry"),
+        "        request.number = number;
+",
+        "        if number == 0 {
+            request.number = number;
+        }
+",
+    ),
+    in_batch(
+        "a served entry's number stays",
+        Some("W-204: a row of asks"),
+        "        request.number = number;
+",
+        "        if number != 0 {
+            request.number = number;
+        }
+",
+    ),
+    in_batch(
+        "number and offset are exchanged",
+        Some("W-204: a row of asks"),
+        "        request.number = number;
+        request.offset = value;
+",
+        "        request.number = value;
+        request.offset = number;
+",
+    ),
+    in_batch(
+        "a refused entry has the offset of the one before",
+        Some("W-204, read: a refused entry"),
+        "    for request in requests {
+        let Answer { number, value } = ask(&mut heap, request.size as usize);
+",
+        "    let mut last = 0;
+    for request in requests {
+        let Answer { number, value } = ask(&mut heap, request.size as usize);
+        let value = if number == 0 { value } else { last };
+        last = value;
+",
+    ),
+    in_batch(
+        "a refused entry has its number as its offset",
+        Some("W-204, read: a refused entry"),
+        "request.offset = value;",
+        "request.offset = if number == 0 { value } else { number };",
+    ),
+    in_batch(
+        "an offset is one in its pool",
+        Some("W-204: front first"),
+        "request.offset = value;",
+        "request.offset = value % 4096;",
+    ),
+    in_batch(
+        "an offset is cut to 16 bits",
+        Some("W-204: at most"),
+        "request.offset = value;",
+        "request.offset = value % (1 << 16);",
+    ),
+    in_batch(
+        "every refusal is a 4",
+        Some("W-204: a size out of range"),
+        "request.number = number;",
+        "request.number = if number == 0 { 0 } else { 4 };",
+    ),
+    in_batch(
+        "an entry's size becomes that of its block",
+        Some("W-204: a row of asks"),
+        "        request.offset = value;
+",
+        "        request.offset = value;
+        if number == 0 {
+            request.size = (request.size + 7) / 8 * 8;
+        }
+",
+    ),
+    in_batch(
+        "a refused entry's size becomes 0",
+        Some("W-204: a size out of range"),
+        "        request.offset = value;
+",
+        "        request.offset = value;
+        if number != 0 {
+            request.size = 0;
+        }
+",
+    ),
+    in_batch(
+        "an entry whose number is 0 is passed over",
+        Some("W-204, read: what stood"),
+        "for request in requests {",
+        "for request in requests.iter_mut().filter(|request| request.number != 0) {",
+    ),
+    in_batch(
+        "an entry whose number is a refusal is passed over",
+        Some("W-204, read: what stood"),
+        "for request in requests {",
+        "for request in requests.iter_mut().filter(|request| ![3, 4, 6].contains(&request.number)) {",
+    ),
+    in_batch(
+        "an entry that has an offset is passed over",
+        Some("W-204, read: what stood"),
+        "for request in requests {",
+        "for request in requests.iter_mut().filter(|request| request.offset == 0) {",
+    ),
+];
+
+/// W-204: 1 and 2 first, 7, the empty row, and the answer.
+const BATCH_TESTS: &[Slip] = &[
+    in_batch(
+        "4,097 entries are taken",
+        Some("W-204: otherwise 7"),
+        "requests.len() > MOST",
+        "requests.len() > MOST + 1",
+    ),
+    in_batch("4,096 entries are refused", Some("W-204: at most"), "requests.len() > MOST", "requests.len() >= MOST"),
+    in_batch(
+        "any number is taken",
+        Some("W-204: otherwise 7"),
+        "requests.len() > MOST",
+        "requests.len() == usize::MAX",
+    ),
+    in_batch(
+        "the entries are counted in 16 bits",
+        Some("W-204: otherwise 7"),
+        "requests.len() > MOST",
+        "requests.len() as u16 as usize > MOST",
+    ),
+    in_batch(
+        "of more than 4,096 entries the first are asked for",
+        Some("W-204: otherwise 7"),
+        "    if requests.len() > MOST {
+        return refuse(7);
+    }
+",
+        "    let most = requests.len().min(MOST);
+    let requests = &mut requests[..most];
+",
+    ),
+    in_batch(
+        "7 comes once 4,096 are asked for",
+        Some("W-204: otherwise 7"),
+        "        return refuse(7);
+",
+        "        for request in &mut requests[..MOST] {
+            let Answer { number, value } = ask(&mut heap, request.size as usize);
+            (request.number, request.offset) = (number, value);
+        }
+        return refuse(7);
+",
+    ),
+    in_batch(
+        "with 7 every entry gets 7",
+        Some("W-204: otherwise 7"),
+        "        return refuse(7);
+",
+        "        requests.iter_mut().for_each(|request| (request.number, request.offset) = (7, 0));
+        return refuse(7);
+",
+    ),
+    in_batch(
+        "7 has the entries as its value",
+        Some("W-204: otherwise 7"),
+        "return refuse(7);",
+        "return Err(Answer { number: 7, value: requests.len() as u32 });",
+    ),
+    in_batch("too many entries are 3", Some("W-204: otherwise 7"), "return refuse(7);", "return refuse(3);"),
+    in_batch(
+        "entries with a size out of range do not count",
+        Some("W-204, read: every entry"),
+        "requests.len() > MOST",
+        "requests.iter().filter(|request| (1..=512).contains(&request.size)).count() > MOST",
+    ),
+    in_batch(
+        "7 comes before 1 and 2",
+        Some("W-204, read: 1 and 2 come"),
+        "    let mut heap = paper.heap(lent)?;
+    if requests.len() > MOST {
+        return refuse(7);
+    }
+",
+        "    if requests.len() > MOST {
+        return refuse(7);
+    }
+    let mut heap = paper.heap(lent)?;
+",
+    ),
+    in_batch(
+        "7 comes before 2",
+        Some("W-204, read: 1 and 2 come"),
+        "    let mut heap = paper.heap(lent)?;
+",
+        "    let mut heap = match paper.heap(lent) {
+        Err(refusal) if refusal.number == 2 && requests.len() > MOST => return refuse(7),
+        heap => heap?,
+    };
+",
+    ),
+    in_batch(
+        "with 1 and 2 every entry gets the number",
+        Some("W-204: 1 and 2 leave"),
+        "    let mut heap = paper.heap(lent)?;
+",
+        "    let mut heap = match paper.heap(lent) {
+        Err(refusal) => {
+            requests.iter_mut().for_each(|request| (request.number, request.offset) = (refusal.number, 0));
+            return Err(refusal);
+        }
+        Ok(heap) => heap,
+    };
+",
+    ),
+    in_batch(
+        "with 1 and 2 the places are cleared",
+        Some("W-204: 1 and 2 leave"),
+        "    let mut heap = paper.heap(lent)?;
+",
+        "    if requests.len() <= MOST {
+        requests.iter_mut().for_each(|request| (request.number, request.offset) = (0, 0));
+    }
+    let mut heap = paper.heap(lent)?;
+",
+    ),
+    in_batch(
+        "1 and 2 are the entries' numbers, and the batch is done",
+        Some("W-204: 1 and 2 leave"),
+        "    let mut heap = paper.heap(lent)?;
+",
+        "    let mut heap = match paper.heap(lent) {
+        Err(refusal) => {
+            requests.iter_mut().for_each(|request| (request.number, request.offset) = (refusal.number, 0));
+            return Ok(0);
+        }
+        Ok(heap) => heap,
+    };
+",
+    ),
+    in_batch(
+        "an empty row is 7",
+        Some("W-204, read: an empty row"),
+        "requests.len() > MOST",
+        "requests.is_empty() || requests.len() > MOST",
+    ),
+    in_batch(
+        "an empty row is 3",
+        Some("W-204, read: an empty row"),
+        "    for request in requests {
+",
+        "    if requests.is_empty() {
+        return refuse(3);
+    }
+    for request in requests {
+",
+    ),
+    in_batch(
+        "an empty row is done on any buffers",
+        Some("W-204, read: 1 and 2 of an empty"),
+        "    let mut heap = paper.heap(lent)?;
+",
+        "    if requests.is_empty() {
+        return Ok(0);
+    }
+    let mut heap = paper.heap(lent)?;
+",
+    ),
+    in_batch(
+        "the value is how many entries there are",
+        Some("W-204, read: the call answers 0"),
+        "    for request in requests {
+        let Answer { number, value } = ask(&mut heap, request.size as usize);
+        request.number = number;
+        request.offset = value;
+    }
+    Ok(0)
+",
+        "    for request in requests.iter_mut() {
+        let Answer { number, value } = ask(&mut heap, request.size as usize);
+        request.number = number;
+        request.offset = value;
+    }
+    Ok(requests.len())
+",
+    ),
+    in_batch(
+        "the value is how many are served",
+        Some("W-204, read: the call answers 0"),
+        "    for request in requests {
+        let Answer { number, value } = ask(&mut heap, request.size as usize);
+        request.number = number;
+        request.offset = value;
+    }
+    Ok(0)
+",
+        "    for request in requests.iter_mut() {
+        let Answer { number, value } = ask(&mut heap, request.size as usize);
+        request.number = number;
+        request.offset = value;
+    }
+    Ok(requests.iter().filter(|request| request.number == 0).count())
+",
+    ),
+    in_batch(
+        "the last entry's answer is the batch's",
+        Some("W-204, read: the call answers 0"),
+        "    for request in requests {
+        let Answer { number, value } = ask(&mut heap, request.size as usize);
+        request.number = number;
+        request.offset = value;
+    }
+    Ok(0)
+",
+        "    let mut last = Answer::default();
+    for request in requests {
+        last = ask(&mut heap, request.size as usize);
+        (request.number, request.offset) = (last.number, last.value);
+    }
+    if last.number == 0 {
+        Ok(last.value as usize)
+    } else {
+        Err(last)
+    }
+",
+    ),
+    in_batch(
+        "the highest number is the batch's",
+        Some("W-204, read: the call answers 0"),
+        "    for request in requests {
+        let Answer { number, value } = ask(&mut heap, request.size as usize);
+        request.number = number;
+        request.offset = value;
+    }
+    Ok(0)
+",
+        "    let mut highest = 0;
+    for request in requests {
+        let Answer { number, value } = ask(&mut heap, request.size as usize);
+        request.number = number;
+        request.offset = value;
+        highest = highest.max(number);
+    }
+    if highest == 0 {
+        Ok(0)
+    } else {
+        refuse(highest)
+    }
+",
+    ),
+];
+
+/// W-204: the asks themselves.
+const BATCH_ASKS: &[Slip] = &[
+    in_batch(
+        "a size is cut to 16 bits",
+        Some("W-204: a size out of range"),
+        "ask(&mut heap, request.size as usize)",
+        "ask(&mut heap, request.size as u16 as usize)",
+    ),
+    in_batch(
+        "a size above 512 is taken for 512",
+        Some("W-204: a size out of range"),
+        "ask(&mut heap, request.size as usize)",
+        "ask(&mut heap, request.size.min(512) as usize)",
+    ),
+    in_batch(
+        "size 0 is taken for 1",
+        Some("W-204: a size out of range"),
+        "ask(&mut heap, request.size as usize)",
+        "ask(&mut heap, request.size.max(1) as usize)",
+    ),
+    in_batch(
+        "size 512 is out of range",
+        Some("W-204: a row of asks"),
+        "answer(asked(size).and_then(",
+        "answer(asked(size + size / 512).and_then(",
+    ),
+    in_batch(
+        "513 bytes are of a class after the last",
+        Some("W-204, read: no ask writes"),
+        "answer(asked(size).and_then(",
+        "answer(asked(size - size / 513).and_then(",
+    ),
+    in_batch(
+        "an entry with a size out of range is passed over",
+        Some("W-204: a size out of range"),
+        "for request in requests {",
+        "for request in requests.iter_mut().filter(|request| (1..=512).contains(&request.size)) {",
+    ),
+    in_batch(
+        "a size out of range in the row is 3 of the batch",
+        Some("W-204: a size out of range"),
+        "    for request in requests {
+",
+        "    if requests.iter().any(|request| !(1..=512).contains(&request.size)) {
+        return refuse(3);
+    }
+    for request in requests {
+",
+    ),
+    in_batch(
+        "a block that is handed out is cleared",
+        Some("W-204: between other calls"),
+        "        request.offset = value;
+",
+        "        request.offset = value;
+        if number == 0 {
+            heap.lent.memory[value as usize..(value + request.size) as usize].fill(0);
+        }
+",
+    ),
+    in_batch(
+        "an entry that can't be served is asked for once more",
+        Some("W-204: a 6 that a later"),
+        "    for request in requests {
+        let Answer { number, value } = ask(&mut heap, request.size as usize);
+        request.number = number;
+        request.offset = value;
+    }
+",
+        "    for request in requests.iter_mut() {
+        let Answer { number, value } = ask(&mut heap, request.size as usize);
+        request.number = number;
+        request.offset = value;
+    }
+    for request in requests.iter_mut().filter(|request| request.number == 6) {
+        let Answer { number, value } = ask(&mut heap, request.size as usize);
+        request.number = number;
+        request.offset = value;
+    }
+",
     ),
 ];

@@ -7,11 +7,12 @@
 #include <stdlib.h>
 #include <string.h>
 
-enum { ARENAS = 4, POOLS = 5, MOST = ARENAS * POOLS, STEPS = 500, KEPT = 32 };
+enum { ARENAS = 4, POOLS = 5, MOST = ARENAS * POOLS, STEPS = 500, KEPT = 32, ROW = 4 };
 
 static uint8_t memory[HESKAVERN_MEMORY_BYTES(1, MOST)], memory_then[sizeof memory];
 static uint32_t books[HESKAVERN_BOOKS_WORDS(ARENAS, POOLS)], books_then[sizeof books / sizeof *books];
 static uint64_t map[HESKAVERN_MAP_WORDS(1, MOST)], map_then[sizeof map / sizeof *map]; /* the heap, and as it was */
+static heskavern_request row[ROW];
 static uint32_t roll[HESKAVERN_ROLL_WORDS(1, MOST)];
 static int32_t changes[HESKAVERN_CHANGES];
 static const uint8_t text[HESKAVERN_LARGEST + 1];
@@ -87,6 +88,7 @@ static struct call {
 } calls[] = {
     {"heskavern_format", heskavern_format, 0},
     {"heskavern_ask", heskavern_ask, 0},
+    {"heskavern_ask_all", heskavern_ask_all, 0},
     {"heskavern_give_back", heskavern_give_back, 0},
     {"heskavern_resize", heskavern_resize, 0},
     {"heskavern_write", heskavern_write, 0},
@@ -95,7 +97,7 @@ static struct call {
     {"heskavern_audit", heskavern_audit, 0},
     {"heskavern_compare", heskavern_compare, 0},
 };
-enum { FORMAT, ASK, GIVE_BACK, RESIZE, WRITE, VIEW_SIZE, ROLL_CALL, AUDIT, COMPARE, CALLS };
+enum { FORMAT, ASK, ASK_ALL, GIVE_BACK, RESIZE, WRITE, VIEW_SIZE, ROLL_CALL, AUDIT, COMPARE, CALLS };
 
 /* The six words of the heap, and of the one as it was. */
 #define LENT(memory, books, map) (uintptr_t)(memory), HESKAVERN_MEMORY_BYTES(arenas, pools), \
@@ -116,6 +118,21 @@ static heskavern_answer call(int which, uint64_t seventh, uint64_t eighth, uint6
 {
     const uint64_t words[WORDS] = {NOW, seventh, eighth, ninth};
     return call_with(which, words);
+}
+
+/* A size, mostly one that soon fills a pool. */
+static uint32_t some_size(void)
+{
+    return below(4) ? 512 - 8 * below(4) : below(HESKAVERN_LARGEST + 2);
+}
+
+/* Asks for a row, and answers what its first request was answered. */
+static heskavern_answer ask_row(void)
+{
+    for (int i = 0; i < ROW; ++i)
+        row[i].size = some_size();
+    call(ASK_ALL, (uintptr_t)row, between(1, ROW), 0);
+    return (heskavern_answer){row[0].number, row[0].offset};
 }
 
 /* Compares the heap as it was and as it is, mostly with room, and now and then keeps it as it is. */
@@ -157,19 +174,19 @@ static void damage(void)
     }
 }
 
-/* One call, mostly on an offset that was answered, and with sizes that soon fill a pool. */
+/* One call, mostly on an offset that was answered. */
 static void step(void)
 {
-    static const int turns[] = {ASK,    ASK,   ASK,       ASK,       GIVE_BACK, GIVE_BACK, GIVE_BACK, RESIZE,
-                                RESIZE, WRITE, VIEW_SIZE, ROLL_CALL, AUDIT,     COMPARE};
+    static const int turns[] = {ASK,    ASK,    ASK,   ASK_ALL,   GIVE_BACK, GIVE_BACK, GIVE_BACK, GIVE_BACK,
+                                RESIZE, RESIZE, WRITE, VIEW_SIZE, ROLL_CALL, AUDIT,     COMPARE};
     int which = turns[below(sizeof turns / sizeof *turns)];
     uint32_t *place = &kept[below(KEPT)], end = (uint32_t)HESKAVERN_MEMORY_BYTES(arenas, pools);
     uint32_t offset = below(16) ? *place : 8 * below(end / 8 + 2);
-    uint32_t size = below(4) ? 512 - 8 * below(4) : below(HESKAVERN_LARGEST + 2);
     heskavern_answer answer = {0, 0};
     switch (which) {
-    case ASK: answer = call(which, size, 0, 0); break;
-    case RESIZE: answer = call(which, offset, size, 0); break;
+    case ASK: answer = call(which, some_size(), 0, 0); break;
+    case ASK_ALL: answer = ask_row(); break;
+    case RESIZE: answer = call(which, offset, some_size(), 0); break;
     case WRITE: call(which, offset, (uintptr_t)text, below(sizeof text)); break;
     case ROLL_CALL: call(which, (uintptr_t)roll, below(4) ? sizeof roll / sizeof *roll : below(40), 0); break;
     case COMPARE: compare(); break;

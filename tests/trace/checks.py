@@ -174,10 +174,10 @@ def theorems():
 
 @functools.cache
 def rows():
-    """The rows of the seven tables: of damaged books, of the order, of the audit and of comparisons those in the lists
-    that the theorem speaks of, K1 to K10, S1 to S18, and the replays."""
+    """The rows of the eight tables: of damaged books, of the order, of batches, of the audit and of comparisons those
+    in the lists that the theorem speaks of, K1 to K10, S1 to S19, and the replays."""
     found = {'replays'}
-    for file in ('Damaged', 'Order', 'Audits', 'Compares'):
+    for file in ('Damaged', 'Order', 'Batches', 'Audits', 'Compares'):
         text = read(f'{RULES}/{file}.antt')
         for listed in re.findall(r'^\w+ m b k = T \(every (\w+) ', text, re.M):
             found.update(re.findall(r'\w+', re.search(rf'^{listed} =\n(.*?)∷ \[\]\n\n', text, re.M | re.S).group(1)))

@@ -1,17 +1,28 @@
-//! A talking statement keeps each text in a block. The block of the word "owed" is given back twice: the second time
-//! is refused with 10, a dead block, and while the block is not out a stand-in is spoken for it. Then the payee's name
-//! gets a block of its own, the roll call says what every block that is out holds, and the audit that all is in order.
+//! A talking statement keeps each text in a block, and asks for the blocks of a row of texts in one call. The block of
+//! the word "owed" is given back twice: the second time is refused with 10, a dead block, and while the block is not
+//! out a stand-in is spoken for it. Then an empty text is refused with 3, which does not stop the rest of its row: the
+//! payee's name gets a block of its own. The roll call says what every block that is out holds, and the audit that all
+//! is in order.
 //!
 //! cargo run --manifest-path bindings/rust/Cargo.toml --example statement
 
-use heskavern::{books_words, map_words, memory_bytes, roll_words, Edition, Heap, Refusal};
+use heskavern::{books_words, map_words, memory_bytes, roll_words, Edition, Heap, Refusal, Request};
 
-/// Keeps a text in a block that is asked for it, and answers where.
-fn keep(heap: &mut Heap, text: &str) -> Result<u32, Refusal> {
-    let offset = heap.ask(text.len())?;
-    heap.write(offset, text.as_bytes())?;
-    println!("keep \"{text}\" at {offset}");
-    Ok(offset)
+/// Keeps a row of texts, each in a block of its own; all are asked for in one call, and each that is served is written.
+/// Answers the row.
+fn keep<const N: usize>(heap: &mut Heap, texts: [&str; N]) -> Result<[Request; N], Refusal> {
+    let mut row = texts.map(|text| Request::new(text.len() as u32));
+    heap.ask_all(&mut row)?;
+    for (text, request) in texts.iter().zip(row) {
+        match request.answer() {
+            Ok(offset) => {
+                heap.write(offset, text.as_bytes())?;
+                println!("keep \"{text}\" at {offset}");
+            }
+            Err(refusal) => println!("keep \"{text}\": number {}", refusal.number()),
+        }
+    }
+    Ok(row)
 }
 
 fn give_back(heap: &mut Heap, offset: u32) {
@@ -35,14 +46,12 @@ fn main() -> Result<(), Refusal> {
     let mut map = [0; map_words(1, 2)];
     let mut heap = Heap::format(&mut memory, &mut books, &mut map, 1, 2, Edition::Eight)?;
 
-    let owed = keep(&mut heap, "owed")?;
-    keep(&mut heap, "paid")?;
+    let owed = keep(&mut heap, ["owed", "paid"])?[0].answer()?;
     speak(&heap, owed);
     give_back(&mut heap, owed);
     speak(&heap, owed);
     give_back(&mut heap, owed);
-    keep(&mut heap, "owed")?;
-    keep(&mut heap, "A. Moss")?;
+    keep(&mut heap, ["owed", "", "A. Moss"])?;
 
     let mut words = [0; roll_words(1, 2)];
     for (offset, size) in heap.roll_call(&mut words)? {

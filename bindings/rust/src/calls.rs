@@ -2,8 +2,8 @@
 //! [`Heap`](crate::Heap) says the same with types.
 //!
 //! Each takes any lengths, any contents of the buffers and any arguments, and answers by its rules:
-//! [`Answer::number`] is 0 when it is done. [`stand_in`] alone hands back a part: it is made here from [`view_size`].
-//! [`audit`] answers a number alone, and refuses nothing.
+//! [`Answer::number`] is 0 when it is done. [`ask_all`] answers each [`Request`] of its row besides. [`stand_in`] alone
+//! hands back a part: it is made here from [`view_size`]. [`audit`] answers a number alone, and refuses nothing.
 //!
 //! ```
 //! use heskavern::calls::{ask, Answer};
@@ -14,8 +14,10 @@
 //! its caller that pointers are valid for their lengths, aligned and not null, that a buffer which the call may write
 //! overlaps no other, that nothing else reads or writes that one during the call, and that nothing else writes the
 //! others. A buffer that the call may write is `&mut` here and every other `&`, and that is what Rust's slices are:
-//! `&mut` slices overlap nothing, `&` ones may overlap each other. The library keeps no pointer, calls nothing back
-//! and touches nothing but the buffers.
+//! `&mut` slices overlap nothing, `&` ones may overlap each other. A request has the layout that it has there, and any
+//! three words make one. The library keeps no pointer, calls nothing back and touches nothing but the buffers.
+
+use crate::Request;
 
 /// What a call answers.
 #[repr(C)]
@@ -48,6 +50,16 @@ extern "C" {
         map: *mut u64,
         map_words: usize,
         size: usize,
+    ) -> Answer;
+    fn heskavern_ask_all(
+        memory: *mut u8,
+        memory_bytes: usize,
+        books: *mut u32,
+        books_words: usize,
+        map: *mut u64,
+        map_words: usize,
+        requests: *mut Request,
+        entries: usize,
     ) -> Answer;
     fn heskavern_give_back(
         memory: *mut u8,
@@ -164,6 +176,33 @@ pub fn ask(memory: &mut [u8], books: &mut [u32], map: &mut [u64], size: usize) -
             map.as_mut_ptr(),
             map.len(),
             size,
+        )
+    }
+}
+
+/// Ask all: each [`Request`] of a row is an [`ask`] for its size, one after the other from the front, and gets that
+/// ask's number and offset in its places; one that is refused does not stop the rest. The value is 0. Refused with 1,
+/// 2, and then 7 where there are more than [`MOST_REQUESTS`](crate::MOST_REQUESTS); the row is then left as it came.
+///
+/// ```
+/// use heskavern::calls::{ask_all, Answer};
+/// use heskavern::Request;
+/// let mut row = [Request::new(4)];
+/// assert_eq!(ask_all(&mut [], &mut [], &mut [], &mut row), Answer { number: 2, value: 0 });
+/// assert_eq!(row, [Request::new(4)]);
+/// ```
+pub fn ask_all(memory: &mut [u8], books: &mut [u32], map: &mut [u64], requests: &mut [Request]) -> Answer {
+    // SAFETY: see the module.
+    unsafe {
+        heskavern_ask_all(
+            memory.as_mut_ptr(),
+            memory.len(),
+            books.as_mut_ptr(),
+            books.len(),
+            map.as_mut_ptr(),
+            map.len(),
+            requests.as_mut_ptr(),
+            requests.len(),
         )
     }
 }

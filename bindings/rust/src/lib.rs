@@ -4,7 +4,8 @@
 //! which holds the blocks, books and map, each of an exact length ([`memory_bytes`], [`books_words`], [`map_words`]).
 //! Its [`Edition`] says whether block sizes are multiples of 8 or of 16. A block is known by its offset in memory. A
 //! call that cannot be done is refused with a number, which a [`Refusal`] names, and changes nothing, but for
-//! [`HalfDone`](Refusal::HalfDone).
+//! [`HalfDone`](Refusal::HalfDone). The blocks of a whole row of texts are asked for in one call by
+//! [`ask_all`](Heap::ask_all), which answers each [`Request`] for itself.
 //!
 //! ```
 //! use heskavern::{books_words, map_words, memory_bytes, Edition, Heap, Refusal};
@@ -58,11 +59,12 @@
 //!   by that, and round up: the sum is the pools that are always enough. (A resize that moves holds both blocks for a
 //!   moment: count one text more of the new size.) 300 texts of 1 to 24 bytes and 20 of 500 want 1 + 2 + 2 + 3 pools in
 //!   edition eight, for 8, 16, 24 and 504, and 2 + 3 + 3 in edition sixteen, for 16, 32 and 512: A = 1 and P = 8.
-//! - After a [`Damaged`](Refusal::Damaged) something other than this heap's own calls has written to books, map or a
-//!   block that is not out. The refused call wrote nothing, but for a resize that says where the text is now, and
-//!   [`audit`](Heap::audit) names the first rule that is broken. Ask for nothing more: copy the texts out by
-//!   [`roll_call`](Heap::roll_call) and [`view`](Heap::view), and format anew. Those never give it; they go by the map
-//!   and the pools' classes, and show what stands there, whoever wrote it.
+//! - After a [`Damaged`](Refusal::Damaged), of a call or of a request in a row, something other than this heap's own
+//!   calls has written to books, map or a block that is not out. The call wrote nothing, but for a resize that says
+//!   where the text is now, and for an [`ask_all`](Heap::ask_all), which has gone on to the rest of its row; where it
+//!   wrote nothing, [`audit`](Heap::audit) names the first rule that is broken. Ask for nothing more: copy the texts
+//!   out by [`roll_call`](Heap::roll_call) and [`view`](Heap::view), and format anew. Those never give it; they go by
+//!   the map and the pools' classes, and show what stands there, whoever wrote it.
 //! - A damaged heap may give no `Damaged` for long: no call but the audit looks at all of it. So audit one that comes
 //!   from elsewhere, as a saved one, before you go on with it.
 //!
@@ -82,17 +84,22 @@ pub mod calls;
 mod comparison;
 mod edition;
 mod refusal;
+mod request;
 mod roll;
 mod verdict;
 
 pub use comparison::{Comparison, Difference, Differences, Kind};
 pub use edition::Edition;
 pub use refusal::Refusal;
+pub use request::Request;
 pub use roll::Roll;
 pub use verdict::Verdict;
 
 /// The largest size that can be asked for.
 pub const LARGEST: usize = 512;
+
+/// The most requests that [`ask_all`](Heap::ask_all) takes at once.
+pub const MOST_REQUESTS: usize = 4096;
 
 /// The word of the books that says the edition.
 const EDITION_WORD: usize = 68;
@@ -230,6 +237,35 @@ impl<'a> Heap<'a> {
     /// ```
     pub fn ask(&mut self, size: usize) -> Result<u32, Refusal> {
         done(calls::ask(self.memory, self.books, self.map, size))
+    }
+
+    /// Ask all: a row of requests in one call. Each is an [`ask`](Heap::ask) for its size, one after the other from the
+    /// front, and [`Request::answer`] is then what that ask answered; its size stays. A request that is refused does
+    /// not stop the rest. So row and heap are left as by as many asks. `Ok` says that the row was gone through, and not
+    /// that every request was served: look at each one's answer. Refused with 7 where there are more than
+    /// [`MOST_REQUESTS`]; the row is then left as it came.
+    ///
+    /// ```
+    /// # use heskavern::{books_words, map_words, memory_bytes, Edition, Heap, Refusal, Request};
+    /// # let (mut memory, mut books, mut map) =
+    /// #     ([0; memory_bytes(1, 2)], [0; books_words(1, 2)], [0; map_words(1, 2)]);
+    /// # let mut heap = Heap::format(&mut memory, &mut books, &mut map, 1, 2, Edition::Eight)?;
+    /// let statement = ["A. Moss", "", "owed"];
+    /// let mut row = statement.map(|text| Request::new(text.len() as u32));
+    /// heap.ask_all(&mut row)?;
+    /// assert_eq!(row.map(Request::answer), [Ok(48), Err(Refusal::BadSize), Ok(56)]);
+    ///
+    /// for (text, request) in statement.iter().zip(row) {
+    ///     if let Ok(offset) = request.answer() {
+    ///         heap.write(offset, text.as_bytes())?;
+    ///     }
+    /// }
+    /// assert!(heap.view(48)?.starts_with(b"A. Moss"));
+    /// assert!(heap.view(56)?.starts_with(b"owed"));
+    /// # Ok::<(), Refusal>(())
+    /// ```
+    pub fn ask_all(&mut self, requests: &mut [Request]) -> Result<(), Refusal> {
+        done(calls::ask_all(self.memory, self.books, self.map, requests)).map(drop)
     }
 
     /// Give back: the block at `offset` is live no more. Refused with 5, 10 or 6.

@@ -1,9 +1,9 @@
-//! Why a call is refused.
+//! Why a call or a request is refused.
 
 use core::fmt;
 
-/// Why a call is refused: each of the library's numbers under a name. A refused call leaves every byte and word as it
-/// was, but for [`HalfDone`].
+/// Why a call is refused, or a [`Request`](crate::Request) of a row: each of the library's numbers under a name. A
+/// refused call leaves every byte and word as it was, but for [`HalfDone`].
 ///
 /// ```
 /// use heskavern::Refusal;
@@ -33,7 +33,7 @@ pub enum Refusal {
     /// not be given back.
     HalfDone(u32),
     /// 7: text longer than its block; fewer than two roll words for each live block; fewer than two list words for each
-    /// difference, or fewer changes than classes.
+    /// difference, or fewer changes than classes; more requests than [`MOST_REQUESTS`](crate::MOST_REQUESTS).
     DoesNotFit,
     /// 10: a dead block: given back, or never handed out.
     DeadBlock,
@@ -91,9 +91,9 @@ impl fmt::Display for Refusal {
             Refusal::HalfDone(offset) => {
                 write!(f, "books damaged: the text is now at {offset}, and its old block could not be given back")
             }
-            Refusal::DoesNotFit => {
-                f.write_str("text longer than its block, or too little room for a roll, a list or changes")
-            }
+            Refusal::DoesNotFit => f.write_str(
+                "text longer than its block, too little room for a roll, a list or changes, or too many requests",
+            ),
             Refusal::DeadBlock => f.write_str("a dead block: given back, or never handed out"),
             Refusal::UnequalShape => f.write_str("two heaps of unequal A, P or edition"),
             Refusal::Unknown(number) => write!(f, "refused with the unknown number {number}"),

@@ -3,7 +3,7 @@
 
 mod common;
 
-use common::{at_either_edition, lent, smallest, Kept, Lent};
+use common::{at_either_edition, below, lent, smallest, Kept, Lent};
 use heskavern::{calls, Edition, Refusal, Verdict, LARGEST};
 
 at_either_edition! {
@@ -66,12 +66,6 @@ fn three_sizes(edition: Edition) -> Result<Lent, Refusal> {
     heap.give_back(48)?;
     assert_eq!(heap.audit(), Verdict::Yes);
     Ok(lent)
-}
-
-/// Numbers that a seed decides, each below n.
-fn below(state: &mut u64, n: u64) -> u64 {
-    *state = state.wrapping_mul(6364136223846793005).wrapping_add(1442695040888963407);
-    (*state >> 33) % n
 }
 
 /// Each call is looked at by [`Kept`].

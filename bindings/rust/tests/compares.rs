@@ -3,7 +3,7 @@
 
 mod common;
 
-use common::{at_either_edition, lent, smallest, Kept, Lent};
+use common::{at_either_edition, below, lent, smallest, Kept, Lent};
 use heskavern::calls::{self, Answer};
 use heskavern::{list_words, roll_words, Comparison, Difference, Edition, Kind, Refusal, CHANGES, LARGEST};
 
@@ -289,12 +289,6 @@ fn a_full_heap_beside_an_empty_one_takes_the_most_words(edition: Edition) -> Res
     assert_eq!(comparison.changes()[0] as usize, words / 2);
     assert!(comparison.differences().all(|difference| difference.kind == Kind::SecondAlone));
     Ok(())
-}
-
-/// Numbers that a seed decides, each below n.
-fn below(state: &mut u64, n: u64) -> u64 {
-    *state = state.wrapping_mul(6364136223846793005).wrapping_add(1442695040888963407);
-    (*state >> 33) % n
 }
 
 /// What differs, by the views of every offset.

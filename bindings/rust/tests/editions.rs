@@ -5,7 +5,7 @@ mod common;
 
 use common::{at_either_edition, lent, smallest, Lent};
 use heskavern::calls::{self, Answer};
-use heskavern::{roll_words, Edition, Refusal, LARGEST};
+use heskavern::{roll_words, Edition, Refusal, Request, LARGEST};
 use std::collections::BTreeSet;
 
 at_either_edition! {
@@ -46,9 +46,10 @@ fn assert_refused(lent: &mut Lent, number: u32) {
         assert_eq!(calls::stand_in(memory, books, map, offset, b"no"), b"no");
         assert_eq!(calls::write(memory, books, map, offset, b"owed"), refused);
     }
-    let mut roll = [7; 2];
+    let (mut row, mut roll) = ([Request::new(8)], [7; 2]);
+    assert_eq!(calls::ask_all(memory, books, map, &mut row), refused);
     assert_eq!(calls::roll_call(memory, books, map, &mut roll), refused);
-    assert_eq!(roll, [7; 2]);
+    assert_eq!((row, roll), ([Request::new(8)], [7; 2]));
     assert_eq!(calls::audit(memory, books, map), 1);
     assert_eq!(lent.open().map(drop).map_err(Refusal::number), Err(number));
     assert!(*lent == before);

@@ -1,12 +1,13 @@
 -- 01's order of tests: a number that is not 0 decides, and 0 lets the rest go on.
 -- Assumes nothing.
 use mathlib.Core.Path.{_≡_, refl, sym, ap, _∙_}
-use Prim.Native.Nat.{ℕ, zero, suc}
+use Prim.Native.Nat.{ℕ, zero, suc, _≤_, _<_}
 use native.Mathlib.Omega.{arith}
+use borrow.Author.Tests.{lt-ltb, le-ltb}
 use Rattle.rules.specs.declared.Answer.{Answer}
 use Rattle.rules.specs.Books.{Heap}
 use Rattle.rules.specs.Outcome.{Outcome, outcome, answerOf, refused, passing}
-use Rattle.rules.specs.Numbers.{_before_, inOrder}
+use Rattle.rules.specs.Numbers.{roomNumber, _before_, inOrder}
 
 module _ {X : Type 0} (f : ℕ → X) (rest : X) where
   pub stopped : (k : ℕ) → (k ≡ 0 → ⊥) → passing k f rest ≡ f k
@@ -35,6 +36,15 @@ order-zero shape size offset room e =
     let u = before-zero size _ (t .1) in
     let v = before-zero offset room (u .1) in
     (t .0, u .0, v .0, v .1)
+
+-- there is too little room, or enough
+pub too-little : (wanted room : ℕ) → room < wanted → roomNumber wanted room ≡ 7
+unfolding roomNumber
+too-little wanted room h = rw (lt-ltb room wanted h)
+
+pub enough : (wanted room : ℕ) → wanted ≤ room → roomNumber wanted room ≡ 0
+unfolding roomNumber
+enough wanted room h = rw (le-ltb room wanted h)
 
 -- ---- a call that is refused by its tests, and one that they let pass
 module _ (h : Heap) (rest : Outcome) where

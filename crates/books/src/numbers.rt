@@ -1,4 +1,5 @@
-// The tests that the calls begin with, each a number or 0: 01's 1 and 2 of the shape, and of an offset 5, or 02's 10.
+// The tests that the calls begin with, each a number or 0: 01's 1 and 2 of the shape, 3 of a size, and of an offset 5,
+// or 02's 10.
 use crate::blocks;
 use crate::words;
 ghost use mathlib.Core.Path.{_≡_};
@@ -9,7 +10,7 @@ ghost use lib.ListN.{length};
 ghost use Rattle.rules.specs.Books.{inRange, isEdition, exact, at, alignmentOf, booksLength};
 ghost use Rattle.rules.specs.Blocks.{sizeAt, atStart, deadNumber, liveNumber};
 ghost use Rattle.rules.specs.Outcome.{heapOf};
-ghost use Rattle.rules.specs.Numbers.{reachNumber, editionNumber, _before_, fitNumber, shapeNumber};
+ghost use Rattle.rules.specs.Numbers.{reachNumber, editionNumber, _before_, fitNumber, shapeNumber, sizeNumber};
 ghost use Rattle.books.specs.Known.{Shaped, LiveBlock, blockAt};
 
 // The numbers of a refusal, as the header names them.
@@ -120,6 +121,16 @@ pub fn shape_number(memory: &[u8], books: &[u32], map: &[u64]) -> u32
         return OUT_OF_RANGE;
     }
     0
+}
+
+// 3, unless the size is one of a block.
+pub fn size_number(n: usize) -> u32
+    ensures { λ r. ⌜ (r ≡ sizeNumber n) × (r ≡ 0 → (1 ≤ n) × (n ≤ 512)) ⌝ }
+{
+    if (1 <= n) & (n <= blocks::LARGEST) {
+        return 0;
+    }
+    BAD_SIZE
 }
 
 // The number of an offset where a block of its pool would start, but is not live: whether there is a block at all.

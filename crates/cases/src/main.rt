@@ -1,5 +1,5 @@
-// Runs 01's "Cases on each side" and cases of 02's W-201, W-206, W-211, W-212 and W-214, a line for each: the calls of
-// the case in order, with what each answered.
+// Runs 01's "Cases on each side" and cases of 02's W-201, W-204, W-206, W-211, W-212 and W-214, a line for each: the
+// calls of the case in order, with what each answered.
 use books::words::CLASS;
 use books::words::EIGHT;
 use books::words::FREEBLOCK;
@@ -154,6 +154,16 @@ fn roll_call(memory: &[u8], books: &[u32], map: &[u64], words: &mut [u32]) {
     answered(r.number, r.count);
     text(b" [");
     print_words(words);
+    text(b" ]");
+}
+
+// A batch over a row of numbers, all of them as it leaves them: size, number and offset of each request.
+fn ask_rows(memory: &mut [u8], books: &mut [u32], map: &mut [u64], row: &mut [u32]) {
+    let r = batch::ask_rows(memory, books, map, row);
+    text(b"; ask all");
+    answered(r.number, r.offset);
+    text(b" [");
+    print_words(row);
     text(b" ]");
 }
 
@@ -484,6 +494,23 @@ fn audits(memory: &mut [u8; 8192], books: &mut [u32; 96], map: &mut [u64; 16], e
     text(b"\n");
 }
 
+// A statement in one call: a size of 0, and no room for a third class, stop nothing; two words past the last request
+// stay. Then A is out of range, and the row is left as it came.
+fn batches(memory: &mut [u8; 8192], books: &mut [u32; 96], map: &mut [u64; 16], edition: usize) {
+    format(b"Ask all", memory, books, map, 2, edition);
+    ask_rows(
+        memory,
+        books,
+        map,
+        &mut [4, 9, 9, 0, 9, 9, 17, 9, 9, 40, 9, 9, 4, 9, 9, 5, 6],
+    );
+    ask(memory, books, map, 4);
+    text(b"; A is 17");
+    books[0] = 17;
+    ask_rows(memory, books, map, &mut [4, 9, 9]);
+    text(b"\n");
+}
+
 // A heap that holds one text.
 fn holds(
     name: &[u8],
@@ -586,6 +613,8 @@ fn of_2_pools() {
     fill_by_smallest(&mut memory, &mut books, &mut map, b"Asks of 16", SIXTEEN);
     audits(&mut memory, &mut books, &mut map, EIGHT);
     audits(&mut memory, &mut books, &mut map, SIXTEEN);
+    batches(&mut memory, &mut books, &mut map, EIGHT);
+    batches(&mut memory, &mut books, &mut map, SIXTEEN);
     compares(EIGHT);
     compares(SIXTEEN);
 }

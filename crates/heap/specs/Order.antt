@@ -2,12 +2,11 @@
 -- Assumes nothing.
 use mathlib.Core.Path.{_≡_, refl}
 use mathlib.Core.List.{List}
-use Prim.Native.Nat.{ℕ, zero, suc, _≤_, _<_}
+use Prim.Native.Nat.{ℕ, zero, suc, _≤_}
 use lib.ListN.{length}
-use borrow.Author.Tests.{lt-ltb, le-ltb}
 use Rattle.rules.specs.Books.{at, alignmentOf}
 use Rattle.rules.specs.Outcome.{passing}
-use Rattle.rules.specs.Numbers.{inOrder, roomNumber}
+use Rattle.rules.specs.Numbers.{inOrder}
 use Rattle.books.specs.Known.{Shaped, LiveBlock}
 
 -- a heap of the right shape and edition, and a size that can be asked for
@@ -42,12 +41,3 @@ pub shape-first : {X : Type 0} (shape offset : ℕ) (refusal : ℕ → X) (rest 
 shape-first zero zero refusal rest = refl
 shape-first zero (suc o) refusal rest = refl
 shape-first (suc s) o refusal rest = refl
-
--- there is too little room, or enough
-pub too-little : (wanted room : ℕ) → room < wanted → roomNumber wanted room ≡ 7
-unfolding roomNumber
-too-little wanted room h = rw (lt-ltb room wanted h)
-
-pub enough : (wanted room : ℕ) → wanted ≤ room → roomNumber wanted room ≡ 0
-unfolding roomNumber
-enough wanted room h = rw (le-ltb room wanted h)

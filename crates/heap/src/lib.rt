@@ -5,13 +5,12 @@
 use asks::answers::answer;
 use asks::answers::refuse;
 use asks::ask::ask_step;
-use books::blocks::LARGEST;
 use books::blocks::size_at;
-use books::numbers::BAD_SIZE;
 use books::numbers::DOES_NOT_FIT;
 use books::numbers::fit_number;
 use books::numbers::live_number;
 use books::numbers::shape_number;
+use books::numbers::size_number;
 use books::words::shape_of;
 use loops::copy_in;
 use loops::fresh_books;
@@ -81,16 +80,6 @@ fn offset_test(memory: &[u8], books: &[u32], map: &[u64], offset: usize) -> u32
     }
     let s = shape_of(books);
     live_number(memory, books, map, s.arenas, s.pools, s.edition, offset)
-}
-
-// 3, unless the size is one of a block.
-fn size_number(n: usize) -> u32
-    ensures { λ r. ⌜ (r ≡ sizeNumber n) × (r ≡ 0 → (1 ≤ n) × (n ≤ 512)) ⌝ }
-{
-    if (1 <= n) & (n <= LARGEST) {
-        return 0;
-    }
-    BAD_SIZE
 }
 
 // The number of the tests of a call with a size: 1, 2 or 3, and 0 where an ask can be made.

@@ -1,4 +1,4 @@
--- The answer in the layout of C, read as that of crates heap and compare.
+-- The answer in the layout of C, read as that of crates heap, batch and compare.
 -- Assumes nothing.
 use Rattle.rules.specs.declared.Answer.{Answer}
 use Rattle.rules.specs.declared.Sized.{Sized}
@@ -9,7 +9,7 @@ use Rattle.rules.specs.Numbers.{rolledOf, sizedOf}
 use Rattle.rules.specs.Compare.{comparedOf}
 use Rattle.heskavern.specs.declared.HeskavernAnswer.{HeskavernAnswer}
 
--- of format, ask, give back, resize and write
+-- of format, ask, a batch, give back, resize and write
 abbrev pub answerIn : HeskavernAnswer → Answer
 answerIn r = answerOf (r .number) (r .value)
 

@@ -6,6 +6,7 @@ use mathlib.Core.List.{List}
 use Prim.Native.Nat.{ℕ}
 use lib.IntN.{ℤ}
 use Rattle.rules.specs.declared.Answer.{Answer}
+use Rattle.rules.specs.declared.Request.{Request}
 use Rattle.rules.specs.declared.Sized.{Sized}
 use Rattle.rules.specs.declared.Rolled.{Rolled}
 use Rattle.rules.specs.declared.Compared.{Compared}
@@ -13,6 +14,7 @@ use Rattle.rules.specs.Books.{Heap}
 use Rattle.rules.specs.Promises.{
   FormatPromise,
   AskPromise,
+  AskAllPromise,
   GiveBackPromise,
   ResizePromise,
   ViewSizePromise,
@@ -22,6 +24,7 @@ use Rattle.rules.specs.Promises.{
   ComparePromise,
 }
 use Rattle.heap.specs.Unique as H
+use Rattle.batch.specs.Unique as B
 use Rattle.audit.specs.Unique as A
 use Rattle.compare.specs.Unique as C
 use Rattle.heskavern.specs.declared.HeskavernAnswer.{HeskavernAnswer}
@@ -43,6 +46,14 @@ module _ (h g k : Heap) (r s : HeskavernAnswer) where
   pub ask-one : (n : ℕ)
       → AskPromise h g n (answerIn r) → AskPromise h k n (answerIn s) → (r ≡ s) × (g ≡ k)
   ask-one n e f = both (H.ask-one h g k (answerIn r) (answerIn s) n e f)
+
+  -- and the row that it leaves
+  pub ask-all-one : (row replies others : List Request)
+      → AskAllPromise h g row replies (answerIn r) → AskAllPromise h k row others (answerIn s)
+      → (r ≡ s) × (replies ≡ others) × (g ≡ k)
+  ask-all-one row replies others e f =
+      let t = B.ask-all-one h g k (answerIn r) (answerIn s) row replies others e f in
+      (same (t .0), t .1, t .2)
 
   pub give-back-one : (o : ℕ)
       → GiveBackPromise h g o (answerIn r) → GiveBackPromise h k o (answerIn s) → (r ≡ s) × (g ≡ k)

@@ -1,11 +1,15 @@
-// The calls of 01, and 02's audit and comparison, for C and Rust: the calls of crates heap, audit and compare under
-// names that the archive exports, each with the promise of the call that it passes on. include/heskavern.h declares
-// them. A slice is a pointer and its length in elements there. View and the stand-in are made there from
-// `heskavern_view_size`, since an exported function cannot return a slice.
+// The calls of 01, and 02's batch, audit and comparison, for C and Rust: the calls of crates heap, batch, audit and
+// compare under names that the archive exports, each with the promise of the call that it passes on.
+// include/heskavern.h declares them. A slice is a pointer and its length in elements there. View and the stand-in are
+// made there from `heskavern_view_size`, since an exported function cannot return a slice.
+use rules::Answer;
+use rules::Request;
+ghost use mathlib.Core.Path.{_≡_};
 ghost use Rattle.rules.specs.Outcome.{heapOf};
 ghost use Rattle.rules.specs.Promises.{
   FormatPromise,
   AskPromise,
+  AskAllPromise,
   GiveBackPromise,
   ResizePromise,
   ViewSizePromise,
@@ -17,7 +21,7 @@ ghost use Rattle.rules.specs.Promises.{
 ghost use Rattle.heskavern.specs.Answers.{answerIn, sizedIn, rolledIn, comparedIn};
 
 // What each call answers: 01's number, and the offset, block size or count that stands beside it. The answers of crates
-// heap and compare, in the layout of C.
+// heap, batch and compare, in the layout of C.
 #[repr(C)]
 pub struct HeskavernAnswer {
     pub number: u32,
@@ -60,6 +64,34 @@ pub extern "C" fn heskavern_ask(
         number: answer.number,
         value: answer.offset,
     }
+}
+
+// An answer with an offset, in that layout. A function of its own where the plan of a call is written by hand; the
+// other calls lay their answer out themselves, and need no proof file.
+fn in_c(answered: Answer) -> HeskavernAnswer
+    ensures { λ r. ⌜ answerIn r ≡ answered ⌝ }
+{
+    HeskavernAnswer {
+        number: answered.number,
+        value: answered.offset,
+    }
+}
+
+// Ask all: each request of the row is the ask for its size, one after the other; the value is 0. Its plan is written by
+// hand, as that of the call which it passes on.
+#[no_mangle]
+pub extern "C" fn heskavern_ask_all(
+    memory: &mut [u8],
+    books: &mut [u32],
+    map: &mut [u64],
+    requests: &mut [Request],
+) -> HeskavernAnswer
+    ensures { λ r. ⌜ AskAllPromise (heapOf (now (memory .entry)) (now (books .entry)) (now (map .entry)))
+        (heapOf (now (memory .exit)) (now (books .exit)) (now (map .exit)))
+        (now (requests .entry)) (now (requests .exit)) (answerIn r) ⌝ }
+{
+    let answer = batch::ask_all(memory, books, map, requests);
+    in_c(answer)
 }
 
 // Give back: the block is live no more; the value is the offset.

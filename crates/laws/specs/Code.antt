@@ -1,4 +1,4 @@
--- A run of the public functions of crates heap, audit and compare, each call keeping its promise, is a history:
+-- A run of the public functions of crates heap, batch, audit and compare, each call keeping its promise, is a history:
 -- its buffers and numbers are those of the rules' run. So the theorems speak of the running code.
 -- Assumes nothing.
 use mathlib.Core.Path.{_≡_, refl, sym, ap, ap₂, _∙_, subst}
@@ -9,6 +9,7 @@ use Prim.Native.Nat.{ℕ, zero, suc, _+_, _*_, _≤_}
 use lib.IntN.{ℤ}
 use lib.ListN.{length, drop}
 use Rattle.rules.specs.declared.Answer.{Answer}
+use Rattle.rules.specs.declared.Request.{Request}
 use Rattle.rules.specs.declared.Sized.{Sized}
 use Rattle.rules.specs.declared.Rolled.{Rolled}
 use Rattle.rules.specs.declared.Compared.{Compared}
@@ -43,10 +44,12 @@ use Rattle.rules.specs.Numbers.{
   write,
   rollCall,
 }
+use Rattle.rules.specs.Batch.{Served, BatchOutcome}
 use Rattle.rules.specs.Promises.{
   _beside_,
   FormatPromise,
   AskPromise,
+  AskAllPromise,
   GiveBackPromise,
   ResizePromise,
   ViewPromise,
@@ -77,6 +80,7 @@ use Rattle.rules.specs.Compare.{kindAt, CompareOutcome, compare}
 use Rattle.books.specs.Tests.{either}
 use Rattle.books.specs.Verdicts.{verdictOf, of-number}
 use Rattle.sequences.specs.Listing.{heldBelow}
+use Rattle.laws.specs.Batched.{batch-refused}
 use Rattle.laws.specs.Beside.{Told}
 use Rattle.laws.specs.Compared.{compare-lists}
 use Rattle.laws.specs.History.{
@@ -101,6 +105,7 @@ use Rattle.laws.specs.History.{
   numberOf,
   after,
   run,
+  numbers,
   NoSix,
 }
 use Rattle.laws.specs.Theorems.{
@@ -114,6 +119,7 @@ use Rattle.laws.specs.Theorems.{
   entryCount,
   roll-with-room,
 }
+use Rattle.laws.specs.Statement.{asksOf, numbersIn, more-run, batch-events}
 use Rattle.laws.specs.Points.{ends-told}
 
 -- the call of event e, over the buffers of the state x, answered number k and left the buffers of g: that it kept its
@@ -143,16 +149,20 @@ abbrev pub onBuffers : Heap → State → State
 onBuffers g x = record { heap = g; ledger = x .ledger; told = x .told }
 
 -- a run: the state that it begins in, the events, the numbers answered, and the buffers at the end; each call finds the
--- buffers that the one before it left
+-- buffers that the one before it left. A batch that is done is the asks of its row as events, one by one, with the
+-- numbers that the row has then; one that is refused is no event
 pub data Ran : State → List Event → List ℕ → Heap → Type 0 where
   none : {x : State} → Ran x [] [] (x .heap)
   next : {x : State} {g end : Heap} {e : Event} {es : List Event} {k : ℕ} {ks : List ℕ}
       → Kept x e k g → Ran (onBuffers g (after x e)) es ks end → Ran x (e ∷ es) (k ∷ ks) end
-
--- the numbers of a history, by the rules
-unfoldable pub numbers : State → List Event → List ℕ
-numbers x [] = []
-numbers x (e ∷ es) = numberOf x e ∷ numbers (after x e) es
+  batch : {x : State} {g end : Heap} (row : List Request) {replies : List Request} {r : Answer}
+      {es : List Event} {ks : List ℕ}
+      → AskAllPromise (x .heap) g row replies r → r .number ≡ 0
+      → Ran (onBuffers g (run x (asksOf row))) es ks end → Ran x (asksOf row ++ es) (numbersIn replies ++ ks) end
+  no-batch : {x : State} {g end : Heap} (row : List Request) {replies : List Request} {r : Answer}
+      {es : List Event} {ks : List ℕ}
+      → AskAllPromise (x .heap) g row replies r → r .number ≢ 0
+      → Ran (onBuffers g x) es ks end → Ran x es ks end
 
 -- ---- one event
 answered : (x : Outcome) (r : Answer) (g : Heap) (k : ℕ) → r .number ≡ k → outcome r g ≡ x
@@ -194,6 +204,22 @@ ran-is {x} (next {g = g} {e = e} {es = es} {k = k} t rest) =
       more .0 ∙ ap (λ (y : State). run y es .heap) same,
       ap₂ (λ (a : ℕ) (b : List ℕ). a ∷ b) (s .0) (more .1 ∙ ap (λ (y : State). numbers y es) same),
     )
+ran-is {x} (batch {g = g} row {replies = replies} {es = es} t z rest) =
+    let s = batch-events x row (sym (ap (λ (y : BatchOutcome). y .answer .number) t) ∙ z) in
+    let left = ap (λ (y : BatchOutcome). y .left) t in
+    let y = run x (asksOf row) in
+    let same : onBuffers g y ≡ y = ap (λ (h : Heap). onBuffers h y) (ap (λ (v : Served). v .heap) left ∙ sym (s .0)) in
+    let numbered : numbersIn replies ≡ numbers x (asksOf row) = ap (λ (v : Served). numbersIn (v .row)) left ∙ sym (s .1) in
+    let more = ran-is rest in
+    let whole = more-run x (asksOf row) es in (
+      more .0 ∙ ap (λ (v : State). run v es .heap) same ∙ sym (ap (λ (v : State). v .heap) (whole .0)),
+      ap₂ (λ (a b : List ℕ). a ++ b) numbered (more .1 ∙ ap (λ (v : State). numbers v es) same) ∙ sym (whole .1),
+    )
+ran-is {x} (no-batch {g = g} row {es = es} t d rest) =
+    let u = t ∙ batch-refused (x .heap) row (λ z. d (ap (λ (y : BatchOutcome). y .answer .number) t ∙ z)) in
+    let same : onBuffers g x ≡ x = ap (λ (y : BatchOutcome). onBuffers (y .left .heap) x) u in
+    let more = ran-is rest in
+    (more .0 ∙ ap (λ (v : State). run v es .heap) same, more .1 ∙ ap (λ (v : State). numbers v es) same)
 
 -- ---- and there is such a run of every history
 -- what the audit says is a verdict's number: that of the first broken rule, or of yes

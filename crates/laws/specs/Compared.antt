@@ -2,7 +2,7 @@
 -- Assumes nothing.
 use mathlib.Core.Path.{_≡_, refl, sym, _∙_, subst}
 use mathlib.Core.Logic.{_≢_, _↔_, _⊎_, inl, inr}
-use mathlib.Core.Bool.{Bool, true, false, not, _&&_}
+use mathlib.Core.Bool.{Bool, true, false, _&&_}
 use mathlib.Core.List.{List, _++_}
 use Prim.Native.Nat.{ℕ, zero, suc, _+_, _*_, _/_, _≤_, _<_}
 use native.Mathlib.Decide.{ℕ-discrete, decLt}
@@ -12,28 +12,9 @@ use lib.IntN.{ℤ}
 use lib.ListN.{length, drop, List·getD-append}
 use borrow.Author.Tests.{ne-eqb, lt-ltb, le-ltb}
 use Rattle.rules.specs.Say.{if_then_else_}
-use Rattle.rules.specs.Books.{
-  Heap,
-  at,
-  memoryLength,
-  inRange,
-  exact,
-  arenas,
-  pools,
-  editionWord,
-  edition,
-  isEdition,
-}
+use Rattle.rules.specs.Books.{Heap, at, memoryLength, arenas, pools, edition}
 use Rattle.rules.specs.Outcome.{passing}
-use Rattle.rules.specs.Numbers.{
-  rangeNumber,
-  editionNumber,
-  lengthNumber,
-  reachNumber,
-  shapeNumber,
-  roomNumber,
-  _before_,
-}
+use Rattle.rules.specs.Numbers.{shapeNumber, roomNumber, _before_}
 use Rattle.rules.specs.Compare.{
   kindAt,
   differences,
@@ -47,27 +28,10 @@ use Rattle.rules.specs.Compare.{
 use Rattle.books.specs.Tests.{either}
 use Rattle.books.specs.Passing.{passed}
 use Rattle.sequences.specs.Listing.{heldBelow}
+use Rattle.laws.specs.Refused.{shape-few}
 use Rattle.laws.specs.Beside.{Alike, difference-listed, differences-long, listed-means}
 
 -- ---- the tests
--- 1 or 2, of a heap
-shape-few : (h : Heap) → shapeNumber h ≤ 2
-unfolding shapeNumber rangeNumber editionNumber lengthNumber reachNumber
-shape-few h =
-    before-few (reachNumber h 1) _ (of-test (ltb 1 (length (h .books))) 2 (omega arith))
-    (before-few (rangeNumber (arenas h) (pools h)) _ (of-test (inRange (arenas h) (pools h)) 1 (omega arith))
-    (before-few (reachNumber h editionWord) _ (of-test (ltb editionWord (length (h .books))) 2 (omega arith))
-    (before-few (editionNumber (edition h)) _ (of-test (isEdition (edition h)) 1 (omega arith))
-    (of-test (exact (arenas h) (pools h) h) 2 (omega arith)))))
-  where
-    of-test : (t : Bool) (k : ℕ) → k ≤ 2 → (if t then 0 else k) ≤ 2
-    of-test true k l = omega arith
-    of-test false k l = l
-
-    before-few : (j k : ℕ) → j ≤ 2 → k ≤ 2 → (j before k) ≤ 2
-    before-few zero k a b = b
-    before-few (suc j) k a b = a
-
 -- 0 or 12, of two; 0 or 7, of a list
 abbrev UnequalOrNot : Heap → Heap → Type 0
 UnequalOrNot first second = (unequalNumber first second ≡ 0) ⊎ (unequalNumber first second ≡ 12)

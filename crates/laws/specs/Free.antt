@@ -17,7 +17,7 @@ use Rattle.rules.specs.Numbers.{ask, resize}
 use Rattle.books.specs.Sizes.{Aligned, has-class}
 use Rattle.sound.specs.Plain.{Plain, planAsk as plainAsk}
 use Rattle.sound.specs.Sound.{Sound}
-use Rattle.laws.specs.Holding.{holding, live-rows, holding-more, holding-none, bytes-new}
+use Rattle.laws.specs.Holding.{holding, live-rows, holding-more, holding-none, bytes-new, long-new}
 use Rattle.laws.specs.Calls.{dead-some, ask-done, ask-is, ask-cases}
 use Rattle.laws.specs.Resized.{resize-moves, resize-cases}
 
@@ -48,6 +48,15 @@ module _ {al A P : ℕ} {h : Heap} {r : Plain} (L : Aligned al) (S : Sound al A 
       let t = done-asked n z in
       let D = ask-done L S n (t .0) (t .1) in
       rw (ask-is L S n (t .0) (t .1)) (bytes-new L S (D .sound) (D .quiet) (has-class L n (t .1)) (D .hand (t .2)))
+
+  -- which is as long as its class says
+  pub ask-long : (n : ℕ) → ask h n .answer .number ≡ 0
+      → length (part (ask h n .answer .offset) (sizeOf al (classOf al n)) (ask h n .heap .memory))
+      ≡ sizeOf al (classOf al n)
+  ask-long n z =
+      let t = done-asked n z in
+      let D = ask-done L S n (t .0) (t .1) in
+      rw (ask-is L S n (t .0) (t .1)) (long-new L S (D .sound) (D .quiet) (has-class L n (t .1)) (D .hand (t .2)))
 
   pub resize-free : (o n : ℕ) → resize h o n .answer .number ≡ 0 → resize h o n .answer .offset ≢ o
       → holding al A P h (resize h o n .answer .offset) ≡ []

@@ -179,6 +179,11 @@ unfoldable pub run : State → List Event → State
 run x [] = x
 run x (e ∷ es) = run (after x e) es
 
+-- the numbers of its calls
+unfoldable pub numbers : State → List Event → List ℕ
+numbers x [] = []
+numbers x (e ∷ es) = numberOf x e ∷ numbers (after x e) es
+
 -- no call of the history gives 6
 abbrev pub NoSix : State → List Event → Type 0
 NoSix x [] = Unit {0}

@@ -232,6 +232,10 @@ module _ {al A P : ℕ} {h h′ : Heap} {r r′ : Plain} (L : Aligned al)
       pub bytes-new : part o (sizeOf al c) (h′ .memory) ≡ part o (sizeOf al c) (h .memory)
       bytes-new = rw at-class at (untouched o at-block)
 
+      -- as many as a block of the class has
+      pub long-new : length (part o (sizeOf al c) (h′ .memory)) ≡ sizeOf al c
+      long-new = part-long (h′ .memory) o (sizeOf al c) (rw at-class at (in-memory L S′ o at-block))
+
       -- the block was not live: a live block there would have been of the pool, and so of its class and the same block
       was-free : LiveAt al A P r o → ⊥
       unfolding at-block

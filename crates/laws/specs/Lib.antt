@@ -1,5 +1,5 @@
 -- What holds after every history of calls, by way of the plain heap that crate sound has: the calls and what is held
--- (Holding to Usable), and the theorems, of any heap (Refused to StandIn, and Yes), of any two (Changes to Compared)
+-- (Holding to Usable), and the theorems, of any heap (Refused to Batched, and Yes), of any two (Changes to Compared)
 -- and of every history (History to Code). Letters mean what they mean in crate sound.
 pub mod Holding
 pub mod Calls
@@ -12,6 +12,7 @@ pub mod Usable
 pub mod Refused
 pub mod First
 pub mod StandIn
+pub mod Batched
 pub mod Changes
 pub mod Beside
 pub mod Compared
@@ -20,6 +21,7 @@ pub mod Tied
 pub mod Yes
 pub mod Dead
 pub mod Theorems
+pub mod Statement
 pub mod Points
 pub mod Reached
 pub mod Code

@@ -6,7 +6,7 @@ use mathlib.Core.Path.{_≡_, refl, sym, ap, _∙_}
 use mathlib.Core.Logic.{_≢_, _⊎_, inl, inr}
 use mathlib.Core.Bool.{Bool, true, false, _&&_}
 use mathlib.Core.List.{List}
-use Prim.Native.Nat.{ℕ, zero, suc, _/_, min}
+use Prim.Native.Nat.{ℕ, zero, suc, _/_, _≤_, min}
 use native.Mathlib.Omega.{arith}
 use lib.Dec.{ltb, eqb}
 use lib.IntN.{ℤ}
@@ -265,21 +265,30 @@ length-six : (h : Heap) (A P : ℕ) → lengthNumber h A P ≢ 6
 unfolding lengthNumber
 length-six h A P = not-six (exact A P h) 0 2 (omega arith) (omega arith)
 
-reach-six : (h : Heap) (i : ℕ) → reachNumber h i ≢ 6
-unfolding reachNumber
-reach-six h i = not-six (ltb i (length (h .books))) 0 2 (omega arith) (omega arith)
-
 fit-six : (h : Heap) (A P e : ℕ) → fitNumber h A P e ≢ 6
 unfolding fitNumber
 fit-six h A P e = before-six (rangeNumber A P) _ (range-six A P) (before-six (editionNumber e) _ (edition-six e) (length-six h A P))
 
+-- 1 or 2, of a heap
+pub shape-few : (h : Heap) → shapeNumber h ≤ 2
+unfolding shapeNumber rangeNumber editionNumber lengthNumber reachNumber
+shape-few h =
+    before-few (reachNumber h 1) _ (of-test (ltb 1 (length (h .books))) 2 (omega arith))
+    (before-few (rangeNumber (arenas h) (pools h)) _ (of-test (inRange (arenas h) (pools h)) 1 (omega arith))
+    (before-few (reachNumber h editionWord) _ (of-test (ltb editionWord (length (h .books))) 2 (omega arith))
+    (before-few (editionNumber (edition h)) _ (of-test (isEdition (edition h)) 1 (omega arith))
+    (of-test (exact (arenas h) (pools h) h) 2 (omega arith)))))
+  where
+    of-test : (t : Bool) (k : ℕ) → k ≤ 2 → (if t then 0 else k) ≤ 2
+    of-test true k l = omega arith
+    of-test false k l = l
+
+    before-few : (j k : ℕ) → j ≤ 2 → k ≤ 2 → (j before k) ≤ 2
+    before-few zero k a b = b
+    before-few (suc j) k a b = a
+
 shape-six : (h : Heap) → shapeNumber h ≢ 6
-unfolding shapeNumber
-shape-six h =
-    before-six (reachNumber h 1) _ (reach-six h 1)
-    (before-six (rangeNumber (arenas h) (pools h)) _ (range-six (arenas h) (pools h))
-    (before-six (reachNumber h editionWord) _ (reach-six h editionWord)
-    (before-six (editionNumber (edition h)) _ (edition-six (edition h)) (length-six h (arenas h) (pools h)))))
+shape-six h e = absurd (omega (arith, shape-few h, e))
 
 live-six : (al A P : ℕ) (b m : List ℕ) (o : ℕ) → liveNumber al A P b m o ≢ 6
 unfolding liveNumber

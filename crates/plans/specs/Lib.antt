@@ -1,3 +1,4 @@
--- What a planned path knows of its numbers.
+-- What a planned path knows of its numbers, and what an ask leaves as it was.
 pub mod Class
 pub mod Fits
+pub mod Kept

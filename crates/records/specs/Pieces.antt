@@ -32,8 +32,7 @@ use Rattle.rules.specs.Replay.{
 }
 use Rattle.books.specs.Tests.{either}
 use Rattle.loops.specs.Sets.{sets-append, sets-front}
-use Rattle.books.specs.Passing.{stopped, passed}
-use Rattle.heap.specs.Order.{too-little, enough}
+use Rattle.books.specs.Passing.{stopped, passed, too-little, enough}
 use Rattle.records.specs.declared.Replayed.{Replayed}
 use Rattle.records.specs.Calls.{Kept, none-written, kept-on, Fair, ask-fair, back-fair, resize-fair}
 use Rattle.records.specs.Replies.{passed-over}

@@ -1,5 +1,5 @@
--- 01 as definitions, in its order, with 02's audit and comparison; what each call promises; and the seven tables that
--- the prover computes about them.
+-- 01 as definitions, in its order, with 02's batch, audit and comparison; what each call promises; and the eight tables
+-- that the prover computes about them.
 pub mod Say
 pub mod Books
 pub mod Blocks
@@ -11,6 +11,7 @@ pub mod GiveBack
 pub mod Resize
 pub mod View
 pub mod Numbers
+pub mod Batch
 pub mod Audit
 pub mod Compare
 pub mod Promises
@@ -20,6 +21,7 @@ pub mod Lines
 pub mod Cases
 pub mod Damaged
 pub mod Order
+pub mod Batches
 pub mod Audits
 pub mod Compares
 pub mod Sixteen

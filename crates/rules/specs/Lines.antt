@@ -7,6 +7,7 @@ use lib.Dec.{eqb}
 use lib.IntN.{ℤ, pos, negsuc}
 use lib.ListN.{replicate}
 use Rattle.rules.specs.declared.Answer.{Answer}
+use Rattle.rules.specs.declared.Request.{Request}
 use Rattle.rules.specs.declared.Sized.{Sized}
 use Rattle.rules.specs.declared.Rolled.{Rolled}
 use Rattle.rules.specs.Say.{allBelow, howMany, total, listing}
@@ -74,6 +75,7 @@ use Rattle.rules.specs.Numbers.{
   write,
   rollCall,
 }
+use Rattle.rules.specs.Batch.{oneByOne, askAll, requestsIn, inWords, askRows}
 use Rattle.rules.specs.Audit.{
   inUse,
   blocksOf,
@@ -119,6 +121,8 @@ pub data Comparison : Type 0 where
 pub data Line : Type 0 where
   formats : ℕ → ℕ → ℕ → ℕ → Line  -- A P e k: format gives number k, and offset 0
   asks : ℕ → ℕ → ℕ → Line  -- n k o: ask n gives number k and offset o
+  asksAll : List Request → ℕ → List Request → Line  -- row k v: a batch over the row gives k, and leaves the row v
+  asksRows : List ℕ → ℕ → List ℕ → Line  -- w k v: a batch over the words w gives k, and leaves the words v
   gives : ℕ → ℕ → ℕ → Line  -- o k r: give back o gives number k and offset r
   resizes : ℕ → ℕ → ℕ → ℕ → Line  -- o n k r: resize o to n gives number k and offset r
   writes : ℕ → List ℕ → ℕ → ℕ → Line  -- o t k r: write of the text t at o gives number k and offset r
@@ -174,6 +178,13 @@ same [] (y ∷ ys) = false
 same (x ∷ xs) [] = false
 same (x ∷ xs) (y ∷ ys) = eqb x y && same xs ys
 
+abbrev sameRow : List Request → List Request → Bool
+sameRow [] [] = true
+sameRow [] (q ∷ qs) = false
+sameRow (r ∷ rs) [] = false
+sameRow (r ∷ rs) (q ∷ qs) =
+    eqb (r .size) (q .size) && eqb (r .number) (q .number) && eqb (r .offset) (q .offset) && sameRow rs qs
+
 -- equal changes, and what a comparison leaves
 abbrev isChange : ℤ → ℤ → Bool
 isChange (pos m) (pos n) = eqb m n
@@ -206,13 +217,19 @@ unfolding inRange exact alignmentOf bit putBit carved isStart linkAt putLink liv
     planAsk takeFrom afterAsk askAnswer askStep walk emptying planBack afterBack backAnswer backStep
     giveOld moved resizeStep rollBlocks rollPool rollPools rangeNumber editionNumber lengthNumber reachNumber
     fitNumber shapeNumber sizeNumber roomNumber
-    format ask giveBack resize view viewSize standIn write rollCall
+    format ask giveBack resize view viewSize standIn write rollCall oneByOne askAll requestsIn inWords askRows
     allBelow howMany inUse blocksOf hasSpare bitsBelow rule1 arenaKeeps2 rule2 arenaKeeps3 arenaKeeps4 poolKeeps5
     leads meets poolKeeps6 arenaKeeps6 rule6 allElseZero isDead chained isDivided poolKeeps8 arenaKeeps9 auditBy
     numberOf total listing kindAt liveInPool changeFrom changesFrom unequalNumber compare link bitIn
 runs [] h = true
 runs (formats A P e k ∷ ls) h = answers k 0 (format h A P e .answer) && runs ls (format h A P e .heap)
 runs (asks n k o ∷ ls) h = answers k o (ask h n .answer) && runs ls (ask h n .heap)
+runs (asksAll row k v ∷ ls) h =
+    let x = askAll h row in
+    answers k 0 (x .answer) && sameRow (x .left .row) v && runs ls (x .left .heap)
+runs (asksRows w k v ∷ ls) h =
+    let x = askRows h w in
+    answers k 0 (x .answer) && same (x .words) v && runs ls (x .heap)
 runs (gives o k r ∷ ls) h = answers k r (giveBack h o .answer) && runs ls (giveBack h o .heap)
 runs (resizes o n k r ∷ ls) h = answers k r (resize h o n .answer) && runs ls (resize h o n .heap)
 runs (writes o t k r ∷ ls) h = answers k r (write h o t .answer) && runs ls (write h o t .heap)

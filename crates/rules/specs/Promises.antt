@@ -7,6 +7,7 @@ use mathlib.Core.List.{List}
 use Prim.Native.Nat.{ℕ, _+_}
 use lib.IntN.{ℤ}
 use Rattle.rules.specs.declared.Answer.{Answer}
+use Rattle.rules.specs.declared.Request.{Request}
 use Rattle.rules.specs.declared.Sized.{Sized}
 use Rattle.rules.specs.declared.Rolled.{Rolled}
 use Rattle.rules.specs.declared.Verdict.{Verdict}
@@ -27,6 +28,7 @@ use Rattle.rules.specs.Numbers.{
   rollOutcome,
   rollCall,
 }
+use Rattle.rules.specs.Batch.{served, batchOutcome, askAll, rowsOutcome, askRows}
 use Rattle.rules.specs.Audit.{audit, numberOf}
 use Rattle.rules.specs.Compare.{compareOutcome, compare}
 
@@ -41,6 +43,13 @@ module _ (found left : Heap) where
 
   abbrev pub AskPromise : ℕ → Answer → Type 0
   AskPromise size answer = outcome answer left ≡ ask found size
+
+  -- a batch: the lent row as it finds and as it leaves it; over words too
+  abbrev pub AskAllPromise : List Request → List Request → Answer → Type 0
+  AskAllPromise row replies answer = batchOutcome answer (served left replies) ≡ askAll found row
+
+  abbrev pub AskRowsPromise : List ℕ → List ℕ → Answer → Type 0
+  AskRowsPromise words replies answer = rowsOutcome answer left replies ≡ askRows found words
 
   abbrev pub GiveBackPromise : ℕ → Answer → Type 0
   GiveBackPromise offset answer = outcome answer left ≡ giveBack found offset

@@ -25,10 +25,12 @@ use Rattle.rules.specs.Books.{
   maxnextoffset,
 }
 use Rattle.rules.specs.Blocks.{putLink}
+use Rattle.rules.specs.Batch.{request}
 use Rattle.rules.specs.Lines.{
   over,
   Line,
   asks,
+  asksAll,
   gives,
   resizes,
   writes,
@@ -129,6 +131,9 @@ cases =
     ∷ (spoil (shaped 1 2 1) ∷ compares oneSide otherSide
     (over (words 10) (room 32) 0 5 listed changed ∷ over (words 10) (room 31) 7 0 (words 10) (room 31)
     ∷ over (words 10) (room 33) 0 5 listed (changed ++ room 1) ∷ []) ∷ [])
+    -- S19: W-204: a batch, by the edition that the books hold
+    ∷ (asksAll (request 1 7 9 ∷ request 17 7 9 ∷ request 513 7 9 ∷ request 16 7 9 ∷ []) 0
+    (request 1 0 48 ∷ request 17 0 4144 ∷ request 513 3 0 ∷ request 16 0 64 ∷ []) ∷ asks 9 0 80 ∷ [])
     ∷ []
 
 -- the table holds of a fresh heap over these three buffers

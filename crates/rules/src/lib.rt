@@ -2,8 +2,18 @@
 // what each value means. The code has the answers and a new pool's path as values; the other paths stand in its
 // contracts alone.
 
-// Format, ask, give back, resize and write: 01's number, and the offset that its table of numbers puts beside it.
+// Format, ask, a batch of asks, give back, resize and write: 01's number, and the offset that its table of numbers puts
+// beside it.
 pub struct Answer {
+    pub number: u32,
+    pub offset: u32,
+}
+
+// A request of a batch: the size that is asked for, and the places for the number and the offset of its answer. In the
+// layout of C, since a caller lends a row of them.
+#[repr(C)]
+pub struct Request {
+    pub size: u32,
     pub number: u32,
     pub offset: u32,
 }

@@ -1,6 +1,7 @@
 //! The heaps beside the heap of a sequence, for W-212 to compare: one that was kept on the way, and others that are
-//! copied and spoilt, or made up, of the same shape or another. What is done to them leaves the sequence's own heap as
-//! it is, and draws from numbers of its own, so a sequence is what it would be without them.
+//! copied and spoilt, or made up, of the same shape or another; and a copy for W-204's batches. What is done to them
+//! leaves the sequence's own heap as it is, and draws from numbers of its own, so a sequence is what it would be
+//! without them.
 
 use std::collections::VecDeque;
 use std::fmt;
@@ -10,7 +11,7 @@ use crate::look::{Look, EDITION};
 use crate::steps::{lengths, Buffers, Call, Step};
 use crate::{whole, Answer, Lent, LentToRead};
 
-/// A heap that is compared: the sequence's own, or one of those beside it.
+/// A heap that is compared or that a batch is asked of: the sequence's own, or one of those beside it.
 #[derive(Clone, Copy, Debug, PartialEq, Eq)]
 pub enum Which {
     Own,
@@ -22,8 +23,11 @@ const KEPT: usize = 0;
 const ONE: usize = 1;
 const OTHER: usize = 2;
 
+/// The copy that batches are asked of. No visit compares it.
+pub const BATCH: usize = 3;
+
 /// How many heaps there are beside a sequence's own.
-pub const BESIDE: usize = 3;
+pub const BESIDE: usize = 4;
 
 /// What is done to a heap beside.
 #[derive(Clone, Copy, Debug, PartialEq, Eq)]
@@ -118,8 +122,7 @@ impl Buffers {
     /// A heap beside is changed.
     pub fn change_beside(&mut self, n: usize, change: Change) {
         match change {
-            Change::Copy(Which::Own) => self.beside[n] = Beside::copy_of(self),
-            Change::Copy(Which::Beside(from)) => self.beside[n] = self.beside[from].clone(),
+            Change::Copy(from) => self.beside[n] = self.copy_of(from),
             _ => self.beside[n].change(change),
         }
     }
@@ -140,6 +143,22 @@ impl Buffers {
         match which {
             Which::Own => self.lend(),
             Which::Beside(n) => self.beside[n].lend(),
+        }
+    }
+
+    /// Whether a heap is this one in every byte and word.
+    pub fn is(&self, which: Which, heap: &Beside) -> bool {
+        match which {
+            Which::Own => self.memory == heap.memory && self.books == heap.books && self.map == heap.map,
+            Which::Beside(n) => self.beside[n] == *heap,
+        }
+    }
+
+    /// A copy of a heap.
+    pub fn copy_of(&self, which: Which) -> Beside {
+        match which {
+            Which::Own => Beside::copy_of(self),
+            Which::Beside(n) => self.beside[n].clone(),
         }
     }
 }
@@ -362,32 +381,39 @@ impl Visits {
         }
     }
 
-    /// Two copies whose A, P, word 68 and lengths are each on one side or the other of their test.
+    /// Two copies, each on one side or the other of the tests.
     fn go_to_the_tests(&mut self, heap: &Buffers) {
         let exact = lengths(heap.shape()[0], heap.shape()[1]);
         for n in [ONE, OTHER] {
             self.set(n, Change::Copy(Which::Own));
-            if self.rng.one_in(3) {
-                let (at, words) = self.rng.pick(&[
-                    (0, [0, 17, 1, 2]),
-                    (1, [0, 1, 65, 2]),
-                    (EDITION, [2, 3, 0, 1]),
-                    (EDITION, [1 << 16, u32::MAX, 0, 1]),
-                ]);
-                let word = self.rng.pick(&words);
-                self.set(n, Change::Word(at, word));
-            }
-            let mut lent = exact;
-            let which = self.rng.below(3);
-            match self.rng.below(6) {
-                0 => lent[which] += 1,
-                1 => lent[which] -= 1,
-                2 => lent[1] = self.rng.pick(&[0, 1, 2, 67, 68, 69]),
-                _ => {}
-            }
-            self.set(n, Change::Lend(lent));
+            let changes = to_the_tests(&mut self.rng, exact);
+            changes.into_iter().for_each(|change| self.set(n, change));
         }
     }
+}
+
+/// A, P, word 68 and the lengths come to be each on one side or the other of their test.
+pub fn to_the_tests(rng: &mut Rng, exact: [usize; 3]) -> Vec<Change> {
+    let mut changes = Vec::new();
+    if rng.one_in(3) {
+        let (at, words) = rng.pick(&[
+            (0, [0, 17, 1, 2]),
+            (1, [0, 1, 65, 2]),
+            (EDITION, [2, 3, 0, 1]),
+            (EDITION, [1 << 16, u32::MAX, 0, 1]),
+        ]);
+        changes.push(Change::Word(at, rng.pick(&words)));
+    }
+    let mut lent = exact;
+    let which = rng.below(3);
+    match rng.below(6) {
+        0 => lent[which] += 1,
+        1 => lent[which] -= 1,
+        2 => lent[1] = rng.pick(&[0, 1, 2, 67, 68, 69]),
+        _ => {}
+    }
+    changes.push(Change::Lend(lent));
+    changes
 }
 
 // In words
@@ -397,6 +423,7 @@ impl fmt::Display for Which {
         match self {
             Which::Own => write!(f, "the heap"),
             Which::Beside(KEPT) => write!(f, "the kept heap"),
+            Which::Beside(BATCH) => write!(f, "the copy for batches"),
             Which::Beside(n) => write!(f, "heap {n} beside"),
         }
     }

@@ -1,7 +1,8 @@
-//! 01's cases, W-201's, W-203's, W-206's, W-211's, W-212's and W-214's, for any program behind the calls. Each number
-//! is 01's, or follows from the sentence that its case names.
+//! 01's cases, W-201's, W-203's, W-204's, W-206's, W-211's, W-212's and W-214's, for any program behind the calls. Each
+//! number is 01's, or follows from the sentence that its case names.
 
 use crate::audited;
+use crate::batched;
 use crate::compared;
 use crate::desk::*;
 use crate::order;
@@ -14,10 +15,10 @@ use crate::{Answer, Calls, Place};
 /// A case by its name. It panics where the program answers otherwise.
 pub type Case = (&'static str, fn(&mut dyn Calls));
 
-/// Every case: 01's own, W-206's, W-214's, W-211's, W-203's, W-201's, W-212's and those of the readings.
+/// Every case: 01's own, W-206's, W-214's, W-211's, W-203's, W-201's, W-212's, W-204's and those of the readings.
 pub fn all() -> Vec<Case> {
     let ordered = [order::CASES, order::READINGS, audited::CASES, audited::READINGS].concat();
-    let beside = [compared::CASES, compared::READINGS].concat();
+    let beside = [compared::CASES, compared::READINGS, batched::CASES, batched::READINGS].concat();
     [&[PAPER, SPLIT, STAND_IN, sixteen::CASES].concat(), &ordered, &beside, readings::CASES].concat()
 }
 

@@ -1,10 +1,12 @@
 //! Seeded sequences of steps: heaps reached by calls, heaps that are spoilt on the way, and heaps made up at random, of
 //! one edition or the other, with pools of few classes or with most pools of a class of their own. The audit goes along
-//! with them, and has sequences of its own on heaps that are made up whole. On the way heaps are compared.
+//! with them, and has sequences of its own on heaps that are made up whole. On the way heaps are compared, and rows of
+//! requests are asked of copies; batches have sequences of their own too.
 
 use std::collections::VecDeque;
 
-use crate::beside::Visits;
+use crate::batches::Batches;
+use crate::beside::{Visits, Which};
 use crate::look::Look;
 use crate::steps::{lengths, within, Buffers, Call, Phrase, Step};
 use crate::{spoils, whole, Answer};
@@ -88,11 +90,13 @@ enum Kind {
 const AUDIT_EVERY: usize = 4;
 
 /// What goes along with a sequence and leaves its heap as it is.
-#[derive(Clone, Copy)]
+#[derive(Clone, Copy, Default)]
 pub struct Along {
     pub audits: bool,
     /// Heaps are compared after one call in so many, or never if 0.
     pub compares: usize,
+    /// The same of batches on a copy.
+    pub batches: usize,
 }
 
 /// The steps on one heap. They depend on its seed and on what the calls before them left.
@@ -127,6 +131,10 @@ pub struct Source {
     audited: bool,
     /// Where heaps are compared.
     visits: Visits,
+    /// Where rows are asked of a copy or of the heap itself.
+    batches: Batches,
+    /// Whether the sequence is one of the batches' own.
+    pub batched: bool,
 }
 
 impl Source {
@@ -140,25 +148,46 @@ impl Source {
             _ => Kind::MadeUp,
         };
         let apart = kind != Kind::MadeUp && !large && rng.one_in(4);
-        let source = Source::of(rng, kind, large, apart);
-        Source { audited: along.audits, ..source }.visited(seed, along.compares)
+        let shape = shape(&mut rng, large, apart);
+        let source = Source::of(rng, kind, shape, large, apart);
+        Source { audited: along.audits, ..source }.with(seed, along)
     }
 
-    /// The audit's own steps, on a heap that is made up whole, with compares after one call in so many.
-    pub fn whole(seed: u64, compares: usize) -> Source {
+    /// The audit's own steps, on a heap that is made up whole, with compares and batches between them.
+    pub fn whole(seed: u64, along: Along) -> Source {
         let mut rng = Rng::new(!seed);
         let large = rng.one_in(200);
         let apart = !large && rng.one_in(3);
-        Source::of(rng, Kind::Whole, large, apart).visited(!seed, compares)
+        let shape = shape(&mut rng, large, apart);
+        Source::of(rng, Kind::Whole, shape, large, apart).with(!seed, along)
     }
 
-    /// With visits along, after one call in so many.
-    fn visited(self, seed: u64, compares: usize) -> Source {
-        Source { visits: Visits::new(seed, compares, self.arenas, self.pools), ..self }
+    /// The batches' own steps: a few calls on a heap of any kind, and after about every second one a batch on it. Now
+    /// and then the heap has room for the longest row, in both editions.
+    pub fn batched(seed: u64) -> Source {
+        let mut rng = Rng::new(seed.rotate_left(16));
+        let kind = match rng.below(8) {
+            0 | 1 => Kind::Sound,
+            2..=4 => Kind::Spoilt,
+            5 | 6 => Kind::MadeUp,
+            _ => Kind::Whole,
+        };
+        let roomy = rng.one_in(6);
+        let apart = kind != Kind::MadeUp && !roomy && rng.one_in(4);
+        let shape = if roomy { rng.pick(&[(1, 17), (2, 9), (3, 6)]) } else { shape(&mut rng, false, apart) };
+        let calls_left = rng.between(4, 36);
+        let source = Source::of(rng, kind, shape, false, apart);
+        Source { calls_left, batches: Batches::own(seed), batched: true, ..source }
     }
 
-    fn of(mut rng: Rng, kind: Kind, large: bool, apart: bool) -> Source {
-        let (arenas, pools) = shape(&mut rng, large, apart);
+    /// With compares and batches along, each after one call in so many.
+    fn with(self, seed: u64, along: Along) -> Source {
+        let visits = Visits::new(seed, along.compares, self.arenas, self.pools);
+        let batches = Batches::on_copies(seed, along.batches, self.arenas, self.pools);
+        Source { visits, batches, ..self }
+    }
+
+    fn of(mut rng: Rng, kind: Kind, (arenas, pools): (usize, usize), large: bool, apart: bool) -> Source {
         let calls_left = how_many_calls(&mut rng, kind, large);
         let edition = rng.below(2);
         let alignment = 8 + 8 * edition;
@@ -184,6 +213,8 @@ impl Source {
             made,
             audited: true,
             visits: Visits::none(),
+            batches: Batches::none(),
+            batched: false,
         };
         source.begin();
         source
@@ -191,7 +222,7 @@ impl Source {
 
     /// The next step, if there is one more.
     pub fn next(&mut self, heap: &Buffers) -> Option<Step> {
-        if let Some(step) = self.visits.next(heap) {
+        if let Some(step) = self.visits.next(heap).or_else(|| self.batches.next_step()) {
             return Some(step);
         }
         if self.waiting.is_empty() {
@@ -217,7 +248,12 @@ impl Source {
     pub fn learn(&mut self, call: &Call, answer: Answer, heap: &Buffers) {
         match call {
             Call::Compare { .. } => self.visits.learn(answer),
-            _ => self.visits.after_call(heap),
+            Call::AskAll { which, .. } => self.learn_row(*which, answer, heap),
+            _ => {
+                self.visits.after_call(heap);
+                let settled = self.waiting.is_empty() && self.unless_whole.is_none();
+                self.batches.after_call(heap, &self.sizes, settled);
+            }
         }
         if let Call::Ask { .. } | Call::GiveBack { .. } = call {
             self.stuck = if answer.number == 6 { self.stuck + 1 } else { 0 };
@@ -245,6 +281,14 @@ impl Source {
                 mend.filter(|_| number != 0).into_iter().for_each(|mend| self.waiting.push_front(mend));
             }
             _ => {}
+        }
+    }
+
+    /// What a batch on the heap itself handed out is held.
+    fn learn_row(&mut self, which: Which, answer: Answer, heap: &Buffers) {
+        if which == Which::Own && answer.number == 0 {
+            let served = heap.asked().iter().filter(|request| request.number == 0);
+            self.held.extend(served.map(|request| request.offset as usize));
         }
     }
 

@@ -1,7 +1,8 @@
 //! A heap on the desk: a program, its buffers, and calls whose answers are laid down.
 
-use crate::steps::{Buffers, Call, Phrase, Step};
-use crate::{Answer, Calls, Place};
+use crate::beside::Which;
+use crate::steps::{Buffers, Call, Phrase, Step, MARGIN, MARKED};
+use crate::{Answer, Calls, Place, Request};
 
 pub const USABLE: usize = 2;
 pub const UNUSED: usize = 3;
@@ -104,7 +105,27 @@ impl<'a> Desk<'a> {
         self.unchanged(&before, Call::Audit);
     }
 
-    fn unchanged(&self, before: &Buffers, call: Call) {
+    /// The answer of a batch with this row, and the row that it leaves. No mark on the sides of the row is changed, and
+    /// no size in it.
+    pub fn ask_all(&mut self, row: &[Request]) -> (Answer, Vec<Request>) {
+        let answer = self.heap.ask_all(self.calls, Which::Own, row);
+        let (all, left) = (&self.heap.row, self.heap.asked().to_vec());
+        let marks = [&all[..MARGIN], &all[MARGIN + left.len()..]].concat();
+        assert!(marks.iter().all(|mark| *mark == MARKED), "ask all: a request beside the row changed");
+        assert!(left.iter().zip(row).all(|(left, came)| left.size == came.size), "ask all: a size changed");
+        (answer, left)
+    }
+
+    /// The batch gives this number and value 0, and changes nothing.
+    pub fn refused_all(&mut self, row: &[Request], number: u32) {
+        let before = self.heap.clone();
+        let (answer, left) = self.ask_all(row);
+        assert_eq!(answer, Answer { number, value: 0 }, "ask all of {} requests", row.len());
+        assert!(left == row, "{number}: the row changed");
+        self.unchanged(&before, "ask all");
+    }
+
+    fn unchanged(&self, before: &Buffers, call: impl std::fmt::Display) {
         assert!(self.heap.memory == before.memory, "{call}: memory changed");
         assert!(self.heap.books == before.books, "{call}: the books changed");
         assert!(self.heap.map == before.map, "{call}: the map changed");

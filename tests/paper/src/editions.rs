@@ -1,6 +1,7 @@
 //! The sides of W-211's clauses, by name, so that a run can say how often it met each of them: the order of the shape's
 //! tests and of format's, and where sixteen parts from eight. They are told from the call, the answer and the buffers.
 
+use crate::beside::Which;
 use crate::steps::{lengths, Buffers, Call};
 use crate::Answer;
 
@@ -8,11 +9,14 @@ use crate::Answer;
 const EDITION: usize = 68;
 
 /// The edition that a call meets, as far as it is said: format is told it, the others read it, a compare in its first
-/// heap.
+/// heap and a batch in the one that it is asked of.
 pub fn edition_met(call: &Call, heap: &Buffers) -> usize {
     match *call {
         Call::Format { edition, .. } => edition,
         Call::Compare { first, .. } => heap.to_read(first).books.get(EDITION).map_or(0, |word| *word as usize),
+        Call::AskAll { which: Which::Beside(n), .. } => {
+            heap.beside[n].books.get(EDITION).map_or(0, |word| *word as usize)
+        }
         _ => heap.books[EDITION] as usize,
     }
 }

@@ -1,7 +1,9 @@
-//! 01, and W-201, W-203, W-206, W-211, W-212 and W-214 of 02, read a second time: the calls as a trait, one program
-//! that keeps them, and what tells any other program from it.
+//! 01, and W-201, W-203, W-204, W-206, W-211, W-212 and W-214 of 02, read a second time: the calls as a trait, one
+//! program that keeps them, and what tells any other program from it.
 
 pub mod audited;
+pub mod batched;
+pub mod batches;
 pub mod beside;
 pub mod bounds;
 pub mod cases;
@@ -17,6 +19,7 @@ pub mod order;
 pub mod pairs;
 pub mod paper;
 pub mod readings;
+pub mod rows;
 pub mod sides;
 pub mod sixteen;
 pub mod spoils;
@@ -56,6 +59,20 @@ pub struct LentToRead<'a> {
     pub map: &'a [u64],
 }
 
+/// A request of a row (W-204): a size, and a place for its number and offset. With the library it is the one of its
+/// crate, so that the row itself, between the marks on its sides, is lent to it and no copy.
+#[cfg(feature = "library")]
+pub use heskavern::Request;
+
+/// A request of a row (W-204): a size, and a place for its number and offset.
+#[cfg(not(feature = "library"))]
+#[derive(Clone, Copy, Debug, Default, PartialEq, Eq)]
+pub struct Request {
+    pub size: u32,
+    pub number: u32,
+    pub offset: u32,
+}
+
 /// A phrase that is lent: a text of its own or, because it is only read, a part of memory by start and length. Like the
 /// buffers of [`Lent`] a text can be written, so that a program which does is seen.
 pub enum LentPhrase<'a> {
@@ -84,12 +101,14 @@ pub enum Place {
     Elsewhere,
 }
 
-/// 01's seven calls, view's companion and 02's stand-in, audit and compare, over buffers of any length and with any
-/// contents.
+/// 01's seven calls, view's companion and 02's batch, stand-in, audit and compare, over buffers of any length and with
+/// any contents.
 pub trait Calls {
     /// The edition is 0 for eight and 1 for sixteen.
     fn format(&mut self, lent: Lent, arenas: usize, pools: usize, edition: usize) -> Answer;
     fn ask(&mut self, lent: Lent, size: usize) -> Answer;
+    /// Each request gets the number and the offset of its ask. The value is 0.
+    fn ask_all(&mut self, lent: Lent, requests: &mut [Request]) -> Answer;
     fn give_back(&mut self, lent: Lent, offset: usize) -> Answer;
     fn resize(&mut self, lent: Lent, offset: usize, size: usize) -> Answer;
     /// Where in memory the part handed back starts, and its length; the empty part is (0, 0).

@@ -1,6 +1,6 @@
 //! The proved library behind the same calls, through the Rust crate.
 
-use crate::{Answer, Calls, Lent, LentPhrase, LentToRead, Place};
+use crate::{Answer, Calls, Lent, LentPhrase, LentToRead, Place, Request};
 use heskavern::{calls, Heap};
 
 /// The proved library. It keeps nothing between calls.
@@ -25,6 +25,10 @@ impl Calls for Library {
 
     fn ask(&mut self, lent: Lent, size: usize) -> Answer {
         calls::ask(lent.memory, lent.books, lent.map, size).into()
+    }
+
+    fn ask_all(&mut self, lent: Lent, requests: &mut [Request]) -> Answer {
+        calls::ask_all(lent.memory, lent.books, lent.map, requests).into()
     }
 
     fn give_back(&mut self, lent: Lent, offset: usize) -> Answer {

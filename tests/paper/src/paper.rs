@@ -1,14 +1,15 @@
 //! 01 as a program: its calls over lent buffers, in its order and its words, on any lengths and any contents. The split
 //! of 5 that W-206 of 02 makes stands at the live test, the two editions of W-211 where 01 says classes and blocks, the
 //! call of W-214 beside view, the order of the usable arenas of W-203 where a give-back frees a pool, and the audit of
-//! W-201 and the two heaps of W-212 each in a file of its own.
+//! W-201, the whole statement of W-204 and the two heaps of W-212 each in a file of its own.
 //!
 //! A step writes as it goes, in the order that 01 gives, and notes what stood there before. Where a used word breaks
 //! its rule, the notes are walked back and the answer is 6. So 01 can be laid beside this file sentence by sentence.
 
-use super::{Answer, Calls, Clause, Lent, LentPhrase, LentToRead, Path, Place, Rule, Trail};
+use super::{Answer, Calls, Clause, Lent, LentPhrase, LentToRead, Path, Place, Request, Rule, Trail};
 
 mod audit;
+mod batch;
 mod beside;
 
 // Memory, books, map
@@ -698,7 +699,7 @@ impl Heap<'_> {
 
 // Numbers a call can return
 
-/// 01's calls and 02's stand-in, audit and compare, over whatever is lent.
+/// 01's calls and 02's batch, stand-in, audit and compare, over whatever is lent.
 #[derive(Default)]
 pub struct Paper {
     notes: Vec<Was>,
@@ -768,6 +769,11 @@ impl Calls for Paper {
             asked(size)?;
             heap.step(|heap| heap.ask(size))
         }))
+    }
+
+    /// **A whole statement in a single call** (W-204).
+    fn ask_all(&mut self, lent: Lent, requests: &mut [Request]) -> Answer {
+        answer(batch::ask_all(self, lent, requests))
     }
 
     fn give_back(&mut self, lent: Lent, offset: usize) -> Answer {

@@ -2,9 +2,10 @@
 
 use std::fmt;
 
-use crate::beside::{Beside, Change, Which, BESIDE};
+use crate::batches::Row;
+use crate::beside::{Beside, Change, Which, BATCH, BESIDE};
 use crate::damage::Rng;
-use crate::{Answer, Calls, Lent, LentPhrase, Place};
+use crate::{Answer, Calls, Lent, LentPhrase, Place, Request};
 
 /// A call with its arguments. A text is said by its length and first byte; a roll by how many words it has.
 #[derive(Clone, Copy, Debug, PartialEq, Eq)]
@@ -50,6 +51,11 @@ pub enum Call {
         list: usize,
         changes: usize,
     },
+    /// A row of requests, and the heap that they are asked of.
+    AskAll {
+        which: Which,
+        row: Row,
+    },
 }
 
 /// A phrase to lend. Only a part of memory has no buffer of its own.
@@ -70,7 +76,7 @@ impl Call {
     /// The kinds of calls, each with the numbers that it can give. View gives none, its companion gives view's.
     /// Stand-in gives none either, but goes by view's, and is a kind of its own with each kind of phrase. The audit's
     /// are its rules.
-    pub const KINDS: [(&'static str, &'static [usize]); 16] = [
+    pub const KINDS: [(&'static str, &'static [usize]); 17] = [
         ("format", &[0, 1, 2]),
         ("ask", &[0, 1, 2, 3, 4, 6]),
         ("give back", &[0, 1, 2, 5, 6, 10]),
@@ -87,6 +93,7 @@ impl Call {
         ("stand-in: other memory", VIEW),
         ("audit", &[0, 1, 2, 3, 4, 5, 6, 7, 8, 9]),
         ("compare", &[0, 1, 2, 7, 12]),
+        ("ask all", &[0, 1, 2, 7]),
     ];
 
     /// Which of the kinds it is.
@@ -110,6 +117,7 @@ impl Call {
             },
             Call::Audit => 14,
             Call::Compare { .. } => 15,
+            Call::AskAll { .. } => 16,
         }
     }
 
@@ -123,7 +131,7 @@ impl Call {
             | Call::Write { offset, .. }
             | Call::StandIn { offset, .. } => Some(offset),
             Call::Format { .. } | Call::Ask { .. } | Call::RollCall { .. } => None,
-            Call::Audit | Call::Compare { .. } => None,
+            Call::Audit | Call::Compare { .. } | Call::AskAll { .. } => None,
         }
     }
 }
@@ -168,11 +176,14 @@ pub fn within(start: usize, length: usize, memory: usize) -> (usize, usize) {
 /// What stands in a roll, list or changes before a call, so that what it leaves is seen.
 pub const MARK: u32 = 0xA5A5_A5A5;
 
-/// How many marks stand on either side of a list and of changes, which are not lent.
+/// A request that is a mark.
+pub const MARKED: Request = Request { size: MARK, number: MARK, offset: MARK };
+
+/// How many marks stand on either side of a list, of changes and of a row, which are not lent.
 pub const MARGIN: usize = 2;
 
 /// One program's buffers, with one element of each beyond what a heap needs, its last roll and its last phrase; and the
-/// heaps beside it, with the last list and the last changes, each with its margins.
+/// heaps beside it, with the last list, the last changes and the last row, each with its margins.
 #[derive(Clone)]
 pub struct Buffers {
     pub memory: Vec<u8>,
@@ -183,6 +194,7 @@ pub struct Buffers {
     pub beside: [Beside; BESIDE],
     pub list: Vec<u32>,
     pub changes: Vec<i32>,
+    pub row: Vec<Request>,
     /// The A and P that they were made for.
     shape: [usize; 2],
     lent: [usize; 3],
@@ -203,16 +215,24 @@ impl Buffers {
         let [memory, books, map] = lent.map(|length| length + 1);
         let (memory, books, map) = (vec![0; memory], vec![0; books], vec![0; map]);
         let (roll, phrase, shape) = (Vec::new(), Vec::new(), [arenas, pools]);
-        let (beside, list, changes) = (Default::default(), Vec::new(), Vec::new());
-        Buffers { memory, books, map, roll, phrase, beside, list, changes, shape, lent }
+        let (beside, list, changes, row) = (Default::default(), Vec::new(), Vec::new(), Vec::new());
+        Buffers { memory, books, map, roll, phrase, beside, list, changes, row, shape, lent }
     }
 
-    /// Whether the other program's buffers are the same after a call. A compare alone is lent the heaps beside.
+    /// Whether the other program's buffers are the same after a call. Compares and batches alone are lent heaps beside.
     pub fn same_after(&self, call: &Call, other: &Buffers) -> bool {
         let heap = self.memory == other.memory && self.books == other.books && self.map == other.map;
         let rest = self.roll == other.roll && self.phrase == other.phrase;
-        let compared = || self.list == other.list && self.changes == other.changes && self.beside == other.beside;
-        heap && rest && (!matches!(call, Call::Compare { .. }) || compared())
+        let (beside, others) = (&self.beside, &other.beside);
+        let more = || match call {
+            Call::Compare { .. } => {
+                let written = self.list == other.list && self.changes == other.changes;
+                written && beside[..BATCH] == others[..BATCH]
+            }
+            Call::AskAll { .. } => self.row == other.row && beside[BATCH] == others[BATCH],
+            _ => true,
+        };
+        heap && rest && more()
     }
 
     /// The list of the last compare, as far as it was lent.
@@ -223,6 +243,11 @@ impl Buffers {
     /// The changes of the last compare, as far as they were lent.
     pub fn changed(&self) -> &[i32] {
         &self.changes[MARGIN..self.changes.len() - MARGIN]
+    }
+
+    /// The row of the last batch, as far as it was lent.
+    pub fn asked(&self) -> &[Request] {
+        &self.row[MARGIN..self.row.len() - MARGIN]
     }
 
     /// The A and P that they were made for.
@@ -277,6 +302,7 @@ impl Buffers {
             Call::StandIn { offset, phrase } => return self.stand_in(calls, offset, phrase),
             Call::Audit => Answer { number: calls.audit(self.lend()), value: 0 },
             Call::Compare { first, second, list, changes } => self.compare(calls, [first, second], list, changes),
+            Call::AskAll { which, row } => self.ask_all(calls, which, &row.requests()),
         };
         Outcome { answer, ..Outcome::default() }
     }
@@ -288,6 +314,16 @@ impl Buffers {
         let (lent, room) = (&mut list[MARGIN..MARGIN + words], &mut changes[MARGIN..MARGIN + count]);
         let answer = calls.compare(self.to_read(first), self.to_read(second), lent, room);
         (self.list, self.changes) = (list, changes);
+        answer
+    }
+
+    /// A row is asked of a heap, with marks on both sides of it.
+    pub fn ask_all(&mut self, calls: &mut dyn Calls, which: Which, requests: &[Request]) -> Answer {
+        let margin = [MARKED; MARGIN];
+        let mut row = [&margin[..], requests, &margin].concat();
+        let lent = &mut row[MARGIN..MARGIN + requests.len()];
+        let answer = calls.ask_all(self.lend_which(which), lent);
+        self.row = row;
         answer
     }
 
@@ -378,6 +414,7 @@ impl fmt::Display for Call {
             Call::Compare { first, second, list, changes } => {
                 write!(f, "compare {first} with {second}, a list of {list} words and {changes} changes")
             }
+            Call::AskAll { which, row } => write!(f, "ask all of {which}, {row}"),
         }
     }
 }

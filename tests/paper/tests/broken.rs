@@ -3,34 +3,44 @@
 use std::panic::{self, AssertUnwindSafe};
 
 use heskavern_paper::compare::{compare, Of, Run, Tally};
-use heskavern_paper::{audited, cases, compared, order, readings};
-use heskavern_paper::{Answer, Calls, Lent, LentPhrase, LentToRead, Paper, Place};
+use heskavern_paper::{audited, batched, cases, compared, order, readings};
+use heskavern_paper::{Answer, Calls, Lent, LentPhrase, LentToRead, Paper, Place, Request};
 
 #[path = "../slips.rs"]
 mod slips;
 
-/// A compare by itself.
-type Compare = fn(LentToRead, LentToRead, &mut [u32], &mut [i32]) -> Answer;
-
-/// The paper but for its compare.
-struct ButForCompare {
-    paper: Paper,
-    compare: Compare,
+/// A call by itself.
+enum One {
+    Compare(fn(LentToRead, LentToRead, &mut [u32], &mut [i32]) -> Answer),
+    AskAll(fn(Lent, &mut [Request]) -> Answer),
 }
 
-impl ButForCompare {
-    fn new(compare: Compare) -> ButForCompare {
-        ButForCompare { paper: Paper::default(), compare }
+/// The paper but for one call.
+struct ButForOne {
+    paper: Paper,
+    one: One,
+}
+
+impl ButForOne {
+    fn new(one: One) -> ButForOne {
+        ButForOne { paper: Paper::default(), one }
     }
 }
 
-impl Calls for ButForCompare {
+impl Calls for ButForOne {
     fn format(&mut self, lent: Lent, arenas: usize, pools: usize, edition: usize) -> Answer {
         self.paper.format(lent, arenas, pools, edition)
     }
 
     fn ask(&mut self, lent: Lent, size: usize) -> Answer {
         self.paper.ask(lent, size)
+    }
+
+    fn ask_all(&mut self, lent: Lent, requests: &mut [Request]) -> Answer {
+        match self.one {
+            One::AskAll(ask_all) => ask_all(lent, requests),
+            One::Compare(_) => self.paper.ask_all(lent, requests),
+        }
     }
 
     fn give_back(&mut self, lent: Lent, offset: usize) -> Answer {
@@ -66,7 +76,10 @@ impl Calls for ButForCompare {
     }
 
     fn compare(&mut self, first: LentToRead, second: LentToRead, list: &mut [u32], changes: &mut [i32]) -> Answer {
-        (self.compare)(first, second, list, changes)
+        match self.one {
+            One::Compare(compare) => compare(first, second, list, changes),
+            One::AskAll(_) => self.paper.compare(first, second, list, changes),
+        }
     }
 }
 
@@ -80,11 +93,12 @@ fn all_slips() -> impl Iterator<Item = &'static slips::Slip> {
 }
 
 /// The sequences that find a slip: the audit's own for one that is of the audit, those with compares for one that is of
-/// the compare, and else those of the calls.
+/// the compare, the batches' own for one that is of the batch, and else those of the calls.
 fn sequences(slip: &slips::Slip) -> Run {
     let of = match slip.file {
         slips::File::Audit => Of::Audits,
         slips::File::Beside => Of::Compares,
+        slips::File::Batch => Of::Batches,
         slips::File::Paper if slip.case.map_or(false, |case| case.starts_with("W-201")) => Of::Audits,
         slips::File::Paper => Of::Calls,
     };
@@ -110,11 +124,12 @@ fn holds(begins: &str, program: &mut dyn Calls) -> bool {
     held
 }
 
-/// No reading's case is idle, and none of W-203's, W-201's and W-212's: each has a slip, the other reading, that it
-/// fails on.
+/// No reading's case is idle, and none of W-203's, W-201's, W-212's and W-204's: each has a slip, the other reading,
+/// that it fails on.
 fn every_reading_has_its_slip() {
     let with_slips = [readings::CASES, order::READINGS, order::CASES, audited::READINGS, audited::CASES].concat();
-    for (name, _) in [&with_slips, compared::READINGS, compared::CASES].concat() {
+    let beside = [compared::READINGS, compared::CASES, batched::READINGS, batched::CASES].concat();
+    for (name, _) in [with_slips, beside].concat() {
         let told = all_slips().filter_map(|slip| slip.case).any(|begins| name.starts_with(begins));
         assert!(told, "no slip names the case '{name}'");
     }
@@ -147,12 +162,16 @@ const BREAK_THE_SUM: [&str; 6] = [
     "the changes are of the pools' counts",
 ];
 
-/// The promises are held to: such a program beside itself does not pass.
+/// The promises are held to: such a program beside itself does not pass. No slip to the batch does, for it is then
+/// another than the asks one by one.
 fn the_promises_are_held_to() -> Vec<String> {
     let mut unseen = Vec::new();
-    let audits = BREAK_THE_PROMISE.into_iter().map(|name| (name, Of::Audits));
-    for (name, of) in audits.chain(BREAK_THE_SUM.into_iter().map(|name| (name, Of::Compares))) {
-        let n = all_slips().position(|slip| slip.name == name).expect(name);
+    let audits = BREAK_THE_PROMISE.into_iter().map(|name| (slips::File::Audit, name, Of::Audits));
+    let compares = BREAK_THE_SUM.into_iter().map(|name| (slips::File::Beside, name, Of::Compares));
+    let of_batch = all_slips().filter(|slip| slip.file == slips::File::Batch);
+    let batches = of_batch.map(|slip| (slips::File::Batch, slip.name, Of::Batches));
+    for (file, name, of) in audits.chain(compares).chain(batches) {
+        let n = all_slips().position(|slip| slip.file == file && slip.name == name).expect(name);
         let [mut left, mut right] = [(); 2].map(|_| programs().swap_remove(n));
         let run = Run { seed: 1, calls: 10_000, of };
         if compare(left.as_mut(), right.as_mut(), run, &mut Tally::new()).is_ok() {

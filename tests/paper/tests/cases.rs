@@ -1,5 +1,5 @@
-//! 01's cases, W-201's, W-203's, W-206's, W-211's, W-212's, W-214's and those of the readings, run on the paper and,
-//! with it, on the library.
+//! 01's cases, W-201's, W-203's, W-204's, W-206's, W-211's, W-212's, W-214's and those of the readings, run on the
+//! paper and, with it, on the library.
 
 use heskavern_paper::cases;
 use heskavern_paper::{Calls, Paper};

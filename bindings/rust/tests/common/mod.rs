@@ -1,7 +1,7 @@
-//! What the tests share: the buffers that they lend, a heap that is audited before and after each call, and a test at
-//! either edition.
+//! What the tests share: the buffers that they lend, a heap that is audited before and after each call, numbers that a
+//! seed decides, and a test at either edition.
 
-use heskavern::{books_words, map_words, memory_bytes, Edition, Heap, Refusal, Verdict};
+use heskavern::{books_words, map_words, memory_bytes, Edition, Heap, Refusal, Request, Verdict};
 use std::ops::{Deref, DerefMut};
 
 /// Buffers for A arenas of P pools, which held something else.
@@ -55,6 +55,15 @@ impl<'a> Kept<'a> {
         self.kept(|heap| heap.ask(size))
     }
 
+    /// No request of a row gets a 6 either.
+    #[track_caller]
+    pub fn ask_all(&mut self, requests: &mut [Request]) -> Result<(), Refusal> {
+        let whole = self.0.audit().is_yes();
+        self.kept(|heap| heap.ask_all(requests))?;
+        assert!(!whole || requests.iter().all(|request| request.number != 6), "a 6 after a yes");
+        Ok(())
+    }
+
     #[track_caller]
     pub fn give_back(&mut self, offset: u32) -> Result<(), Refusal> {
         self.kept(|heap| heap.give_back(offset))
@@ -91,6 +100,13 @@ pub fn smallest(edition: Edition) -> (usize, u32) {
         Edition::Eight => (8, 8),
         Edition::Sixteen => (16, 16),
     }
+}
+
+/// Numbers that a seed decides, each below n.
+#[allow(dead_code)]
+pub fn below(state: &mut u64, n: u64) -> u64 {
+    *state = state.wrapping_mul(6364136223846793005).wrapping_add(1442695040888963407);
+    (*state >> 33) % n
 }
 
 /// Makes two tests of each of these functions, one at either edition, so that a failure names its edition.

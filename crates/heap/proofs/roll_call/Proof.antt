@@ -21,9 +21,8 @@ use Rattle.loops.specs.Sets.{sets-front}
 use Rattle.books.specs.declared.words.Shape.{Shape}
 use Rattle.books.specs.Sizes.{aligned}
 use Rattle.books.specs.Known.{Shaped}
-use Rattle.books.specs.Passing.{stopped, passed}
+use Rattle.books.specs.Passing.{stopped, passed, too-little, enough}
 use Rattle.books.specs.Tests.{held, failed}
-use Rattle.heap.specs.Order.{too-little, enough}
 use Rattle.heap.proofs.roll_call.Statement.{statement}
 use Rattle.heap.proofs.roll_call.Tie as tie
 

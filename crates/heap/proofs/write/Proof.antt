@@ -8,8 +8,8 @@ use lib.ListN.{length}
 use borrow.Author.Needs.{needs}
 use Rattle.rules.specs.Numbers.{shapeNumber, offsetNumber, roomNumber, blockSize, write}
 use Rattle.rules.specs.Outcome.{heapOf, done}
-use Rattle.books.specs.Passing.{stopped, passed, refusal, step}
-use Rattle.heap.specs.Order.{room-after, too-little, enough}
+use Rattle.books.specs.Passing.{stopped, passed, refusal, step, too-little, enough}
+use Rattle.heap.specs.Order.{room-after}
 use Rattle.heap.proofs.write.Statement.{statement}
 use Rattle.heap.proofs.write.Tie as tie
 

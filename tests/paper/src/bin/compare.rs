@@ -8,11 +8,11 @@ use heskavern_paper::{Calls, Paper};
 
 const USAGE: &str = "usage: compare [--seed N] [--calls N] [--coverage [--least N]]
   --seed N      the seed of the first heap (1); a difference names the seed of its heap
-  --calls N     at least this many calls, audits and compares not counted (3000000)
+  --calls N     at least this many calls, audits, compares, batches and their own sequences not counted (3000000)
   --coverage    make the calls of the paper alone and print how often each number, path, rule, side, clause and kind was
                 met
   --least N     with --coverage: fail where a number that a call can give, a path, rule, side, clause or kind was met
-                less often (0)";
+                less often (0); a few sides of a batch may be rarer, as src/rows.rs says";
 
 struct Wanted {
     run: Run,
@@ -74,9 +74,10 @@ fn against(other: &mut dyn Calls, wanted: &Wanted) -> ExitCode {
         Ok(()) => {
             let seconds = begun.elapsed().as_secs_f32();
             println!(
-                "the library and the paper agree on {} calls, {} audits and {} compares over {} heaps of edition eight \
-                 and {} of sixteen, and keep the audit's promise and the compare's sum ({seconds:.0} s)",
-                tally.calls, tally.audits, tally.compares, tally.heaps[0], tally.heaps[1]
+                "the library and the paper agree on {} calls, {} audits, {} compares and {} batches of {} asks in all \
+                 over {} heaps of edition eight and {} of sixteen, and keep the audit's promise, the compare's sum and \
+                 the batch's asks one by one ({seconds:.0} s)",
+                tally.calls, tally.audits, tally.compares, tally.batches, tally.entries, tally.heaps[0], tally.heaps[1]
             );
             ExitCode::SUCCESS
         }

@@ -1,12 +1,12 @@
--- `heap::size_number` meets its contract: it makes the test of the rules.
+-- `books::numbers::size_number` meets its contract: it makes the test of the rules.
 -- Assumes nothing.
 use native.Mathlib.Omega.{arith}
 use lib.Dec.{leb}
 use borrow.Author.Tests.{leb-true}
 use Rattle.rules.specs.Numbers.{sizeNumber}
 use Rattle.books.specs.Tests.{both}
-use Rattle.heap.proofs.size_number.Statement.{statement}
-use Rattle.heap.proofs.size_number.Tie as tie
+use Rattle.books.proofs.numbers.size_number.Statement.{statement}
+use Rattle.books.proofs.numbers.size_number.Tie as tie
 
 returns : tie.Need-returns
 unfolding sizeNumber
