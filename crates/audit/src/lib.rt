@@ -1,5 +1,7 @@
 // The audit (02, W-201, with W-203's order as its last rule): yes, or the first broken rule. The buffers are lent to be
 // read alone; what is kept on the way stands in locals.
+#![tactic(auto)]
+
 pub mod blocks;
 pub mod keeps;
 pub mod lists;

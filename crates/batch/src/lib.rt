@@ -2,6 +2,8 @@
 // one after the other from the front. The shape is tested once, first: no ask changes what these tests read.
 // No call requires anything of its caller, and the promise of each (`Promises` in crate rules) is one equation: what it
 // answers and what it leaves, in the row too, is what the rules say.
+#![tactic(auto)]
+
 ghost use Rattle.std.specs.Prelude.{◌≡◌};
 ghost use Rattle.rules.specs.Outcome.{heap_of, passing};
 ghost use Rattle.rules.specs.Numbers.{ask};

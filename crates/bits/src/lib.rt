@@ -1,5 +1,7 @@
 // The live map: a 64-bit word for each 64 blocks of a pool, eight words for each pool. One block's bit goes by shift
 // and mask, the live blocks of a word by a count of ones.
+#![tactic(auto)]
+
 ghost use Rattle.std.specs.Prelude.{◌≡◌, ◌+◌, ◌*◌, ◌<◌, ◌≤◌, length};
 ghost use Rattle.std.specs.Int.Count.{ones_in};
 ghost use Rattle.rules.specs.Books.{is_set, put_map_bit};

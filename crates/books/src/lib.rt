@@ -1,5 +1,7 @@
 // The books: where their words stand, pool records, lists, links in memory, classes and blocks, and the tests that
 // every call begins with.
+#![tactic(auto)]
+
 pub mod blocks;
 pub mod links;
 pub mod lists;

@@ -159,7 +159,7 @@ pub fn refusal(k: usize) -> u32
 }
 
 // A block: its number in its pool, and its size. Where an offset is refused, the refusal is in the number's place.
-#[derive(Drop)]
+#[derive(Clone, Copy)]
 pub struct Block {
     pub number: usize,
     pub size: usize,

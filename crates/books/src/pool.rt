@@ -16,7 +16,7 @@ ghost use Rattle.books.specs.Records.{
 
 use crate::words;
 
-#[derive(Drop)]
+#[derive(Clone, Copy)]
 pub struct Pool {
     pub count: u32,
     pub freeblock: u32,

@@ -1,5 +1,7 @@
 // Runs 01's "Cases on each side" and cases of 02's W-201, W-204, W-206, W-211, W-212 and W-214, a line for each: the
 // calls of the case in order, with what each answered.
+#![tactic(auto)]
+
 use books::words::{CLASS, EIGHT, FREEBLOCK, MAXNEXTOFFSET, NEXTOFFSET, RECORDS, SIXTEEN, index};
 use libc::STDOUT_FILENO;
 

@@ -2,6 +2,8 @@
 // that differ, and the change in live blocks of each class.
 // It requires nothing of its caller, and its promise (`Promises` in crate rules) is one equation: the number, how many
 // offsets differ, and every word of list and changes is what the rules say.
+#![tactic(auto)]
+
 mod blocks;
 mod bytes;
 mod changes;

@@ -2,6 +2,8 @@
 // takes its step.
 // None requires anything of its caller, and the promise of each (`Promises` in crate rules) is one equation: what it
 // answers and what it leaves is what the rules say.
+#![tactic(auto)]
+
 ghost use Rattle.std.specs.Prelude.{◌≡◌, ◌/◌, ◌<◌, ◌≤◌, length};
 ghost use Rattle.rules.specs.Books.{at, alignment_of, pool_word};
 ghost use Rattle.rules.specs.Blocks.{last_class, class_at, size_at};

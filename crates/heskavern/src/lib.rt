@@ -2,6 +2,8 @@
 // compare under names that the archive exports, each with the promise of the call that it passes on.
 // include/heskavern.h declares them. A slice is a pointer and its length in elements there. View and the stand-in are
 // made there from `heskavern_view_size`, since an exported function cannot return a slice.
+#![tactic(auto)]
+
 ghost use Rattle.std.specs.Prelude.{◌≡◌};
 ghost use Rattle.rules.specs.Outcome.{heap_of};
 ghost use Rattle.rules.specs.Promises.{
@@ -23,7 +25,7 @@ use rules::{Answer, Request};
 // What each call answers: 01's number, and the offset, block size or count that stands beside it. The answers of crates
 // heap, batch and compare, in the layout of C.
 #[repr(C)]
-#[derive(Drop)]
+#[derive(Clone, Copy)]
 pub struct HeskavernAnswer {
     pub number: u32,
     pub value: u32,

@@ -1,5 +1,7 @@
 // Replay records: one record in, one reply out, over the three buffers of a heap; and a whole piece of a replay,
 // records in and replies out.
+#![tactic(auto)]
+
 ghost use Rattle.std.specs.Prelude.{◌≡◌, true, ◌+◌, ◌*◌, ◌-◌, ◌%◌, ◌<◌, ◌≤◌, min, length};
 ghost use Rattle.std.proofs.lemmas.List.Edits.{sets};
 ghost use Rattle.rules.specs.Books.{at, alignment_of};
@@ -28,7 +30,7 @@ use loops::count_words;
 use rules::Answer;
 
 // A reply, before its bytes are written.
-#[derive(Drop)]
+#[derive(Clone, Copy)]
 struct Reply {
     op: u8,
     number: u8,
@@ -39,7 +41,7 @@ struct Reply {
 
 // What a piece of a replay answers: 1 or 2 for a heap of another shape, 7 for an output that is too small, 0 when done;
 // and how many bytes of the output it has written.
-#[derive(Drop)]
+#[derive(Clone, Copy)]
 pub struct Replayed {
     pub number: u32,
     pub written: usize,

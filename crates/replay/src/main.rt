@@ -1,5 +1,7 @@
 // Replays records: standard input to standard output, over a fresh heap of one arena of 16 pools. Whole records are
 // answered as they arrive, however the input comes in pieces; what is left of the last one waits for the next read.
+#![tactic(auto)]
+
 ghost use Rattle.std.specs.Prelude.{◌*◌, ◌-◌, ◌%◌, ◌<◌, ◌≤◌, ◌≡◌, length, take, drop};
 ghost use Rattle.rules.specs.Outcome.{heap_of};
 ghost use Rattle.records.specs.Replies.{Whole};
@@ -24,7 +26,7 @@ const BOOKS: usize = RECORDS + 8 * ARENAS + 8 * ARENAS * POOLS;
 const MAP: usize = 8 * ARENAS * POOLS;
 
 // What a turn leaves to do: to read on, after so many bytes of a record that has not arrived whole, or to stop.
-#[derive(Drop)]
+#[derive(Clone, Copy)]
 enum Next {
     Read(usize),
     Stop,

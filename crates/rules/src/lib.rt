@@ -1,10 +1,11 @@
 // The answers that the calls of 01 give and the paths that its steps take, for the definitions in specs/, which say
 // what each value means. The code has the answers and a new pool's path as values; the other paths stand in its
 // contracts alone.
+#![tactic(auto)]
 
 // Format, ask, a batch of asks, give back, resize and write: 01's number, and the offset that its table of numbers puts
 // beside it.
-#[derive(Drop)]
+#[derive(Clone, Copy)]
 pub struct Answer {
     pub number: u32,
     pub offset: u32,
@@ -13,7 +14,7 @@ pub struct Answer {
 // A request of a batch: the size that is asked for, and the places for the number and the offset of its answer. In the
 // layout of C, since a caller lends a row of them.
 #[repr(C)]
-#[derive(Drop)]
+#[derive(Clone, Copy)]
 pub struct Request {
     pub size: u32,
     pub number: u32,
@@ -21,28 +22,28 @@ pub struct Request {
 }
 
 // View's companion: the number and, when done, the block size, otherwise 0.
-#[derive(Drop)]
+#[derive(Clone, Copy)]
 pub struct Sized {
     pub number: u32,
     pub size: u32,
 }
 
 // Roll call: the number and, when done, how many blocks are live, otherwise 0.
-#[derive(Drop)]
+#[derive(Clone, Copy)]
 pub struct Rolled {
     pub number: u32,
     pub count: u32,
 }
 
 // Compare: the number and, when done, how many offsets differ, otherwise 0.
-#[derive(Drop)]
+#[derive(Clone, Copy)]
 pub struct Compared {
     pub number: u32,
     pub entries: u32,
 }
 
 // The audit: yes, or the first broken rule, by what it is about, in the order of their numbers from 1 (`number_of`).
-#[derive(Drop)]
+#[derive(Clone, Copy)]
 pub enum Verdict {
     Yes,
     Shape,
@@ -57,7 +58,7 @@ pub enum Verdict {
 }
 
 // Where an ask gets a pool when its class list is empty. The number is the arena's.
-#[derive(Drop)]
+#[derive(Clone, Copy)]
 pub enum Source {
     Freed(usize),
     Carved(usize),
@@ -66,7 +67,7 @@ pub enum Source {
 
 // The path of an ask. Its numbers are the pool's and the in-pool offsets of the block that is handed out and of the
 // block that becomes freeblock; Again has the arena's before them. Anew hands out the block at 48.
-#[derive(Drop)]
+#[derive(Clone, Copy)]
 pub enum AskPlan {
     NoRoom,
     Damaged,
@@ -79,7 +80,7 @@ pub enum AskPlan {
 
 // The path of a give-back: what becomes of the block's pool, and then of the pool's arena. Moves has the number of the
 // arena that it passes last.
-#[derive(Drop)]
+#[derive(Clone, Copy)]
 pub enum BackPlan {
     Damaged,
     Joins,
