@@ -106,7 +106,7 @@ module _ {al A P : ℕ} {h : Heap} {r : Plain} (L : Aligned al) (S : Sound al A 
         block = k;
         place = refl;
         inside = l;
-        class = I.Class-Low;
+        class = I.class_low;
         fits = omega (arith, live_below I.blocks k on, I.blocks.fits);
         on = on;
       }
@@ -202,7 +202,7 @@ module _ {al A P : ℕ} {h h' : Heap} {r r' : Plain} (L : Aligned al)
     -- ---- an ask that hands out the block at o
     module _ {c o : ℕ} (lc : c ≤ last_class al) (H : Hand al A P r r' c o) where
       live_at : (y j : ℕ) → r'.live y j ≡ to H.pool (to H.block true (r.live H.pool)) r.live y j
-      live_at y j = ap (λ (g : ℕ → ℕ → Bool). g y j) H.Live-now
+      live_at y j = ap (λ (g : ℕ → ℕ → Bool). g y j) H.live_now
 
       pub at_block : LiveAt al A P r' o
       at_block =
@@ -295,9 +295,9 @@ module _ {al A P : ℕ} {h h' : Heap} {r r' : Plain} (L : Aligned al)
 
     -- ---- a give-back of the live block at o
     module _ (o : ℕ) (t : LiveAt al A P r o) (class_same : r'.class ≡ r.class)
-        (Live-now : r'.live ≡ to t.pool (to t.block false (r.live t.pool)) r.live) where
+        (live_now : r'.live ≡ to t.pool (to t.block false (r.live t.pool)) r.live) where
       off : (y i : ℕ) → r'.live y i ≡ to t.pool (to t.block false (r.live t.pool)) r.live y i
-      off y i = ap (λ (g : ℕ → ℕ → Bool). g y i) Live-now
+      off y i = ap (λ (g : ℕ → ℕ → Bool). g y i) live_now
 
       class_at_lem : (y : ℕ) → r'.class y ≡ r.class y
       class_at_lem y = ap (λ (g : ℕ → ℕ). g y) class_same

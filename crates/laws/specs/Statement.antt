@@ -125,9 +125,9 @@ stay_held : (m₀ : List ℕ) {x : State} → Tied m₀ x → (row : List Reques
     → (run x (asks_of row)).ledger o ≡ x.ledger o
 unfolding run
 stay_held m₀ T [] o some = refl
-stay_held m₀ T (r ∷ rest) o some =
+stay_held m₀ {x = x} T (r ∷ rest) o some =
     let e = still_held m₀ T r.size o some in
-    stay_held m₀ (then_tied m₀ T r.size) rest o (λ q. some (sym e ∙ q)) ∙ e
+    stay_held m₀ {x = after x (asks r.size)} (then_tied m₀ T r.size) rest o (λ q. some (sym e ∙ q)) ∙ e
 
 each_held : (m₀ : List ℕ) {x : State} → Tied m₀ x → (row : List Request) (i : ℕ) → i < length row
     → let r = request_at (one_by_one x.heap row).row i in
@@ -141,8 +141,8 @@ each_held m₀ {x} T (r ∷ rest) zero l z =
     let o = (ask x.heap r.size).answer.offset in
     let some : (after x (asks r.size)).ledger o ≢ [] = λ q. some_byte x.told r.size (sym long ∙ ap length q) in
     (was_free m₀ T r.size z, ap length (stay_held m₀ (then_tied m₀ T r.size) rest o some) ∙ long)
-each_held m₀ T (r ∷ rest) (suc i) l z =
-    let t = each_held m₀ (then_tied m₀ T r.size) rest i (omega arith) z in
+each_held m₀ {x = x} T (r ∷ rest) (suc i) l z =
+    let t = each_held m₀ {x = after x (asks r.size)} (then_tied m₀ T r.size) rest i (omega arith) z in
     (free_before m₀ T r.size _ t.0, t.1)
 
 each_apart : (m₀ : List ℕ) {x : State} → Tied m₀ x → (row : List Request) (i j : ℕ)
@@ -160,15 +160,16 @@ each_apart m₀ {x} T (r ∷ rest) (suc i) zero l m d z w =
     λ e. some_byte x.told r.size (sym (now_long m₀ T r.size w)
     ∙ ap (λ (o : ℕ). length ((after x (asks r.size)).ledger o)) e
     ∙ ap length (each_held m₀ (then_tied m₀ T r.size) rest i (omega arith) z).0)
-each_apart m₀ T (r ∷ rest) (suc i) (suc j) l m d z w =
-    each_apart m₀ (then_tied m₀ T r.size) rest i j (omega arith) (omega arith) (λ e. d (ap suc e)) z w
+each_apart m₀ {x = x} T (r ∷ rest) (suc i) (suc j) l m d z w =
+    each_apart m₀ {x = after x (asks r.size)} (then_tied m₀ T r.size) rest i j (omega arith) (omega arith) (λ e. d (ap suc e)) z w
 
 each_no_six : (m₀ : List ℕ) {x : State} → Tied m₀ x → (row : List Request) (i : ℕ) → i < length row
     → (request_at (one_by_one x.heap row).row i).number ≢ 6
 unfolding one_by_one number_of after
 each_no_six m₀ T [] i l = absurd (omega arith)
 each_no_six m₀ T (r ∷ rest) zero l = (step m₀ T (asks r.size)).0
-each_no_six m₀ T (r ∷ rest) (suc i) l = each_no_six m₀ (then_tied m₀ T r.size) rest i (omega arith)
+each_no_six m₀ {x = x} T (r ∷ rest) (suc i) l =
+    each_no_six m₀ {x = after x (asks r.size)} (then_tied m₀ T r.size) rest i (omega arith)
 
 -- ---- a batch at the end of any history, its asks being events more
 module _ (start : Beginning) (ok : Begins start) (es : List Event) (row : List Request) where

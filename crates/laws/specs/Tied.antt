@@ -417,4 +417,4 @@ step m₀ T (pokes o d v) = step_poke m₀ T o d v
 pub tied : (m₀ : List ℕ) {x : State} → Tied m₀ x → (es : List Event) → NoSix x es × Tied m₀ (run x es)
 unfolding run
 tied m₀ T [] = (tt, T)
-tied m₀ T (e ∷ es) = let s = step m₀ T e in let t = tied m₀ s.1 es in ((s.0, t.0), t.1)
+tied m₀ {x = x} T (e ∷ es) = let s = step m₀ T e in let t = tied m₀ {x = after x e} s.1 es in ((s.0, t.0), t.1)

@@ -239,6 +239,9 @@ module _ (al A P : ℕ) (h : Heap) (c : ℕ) (low : 8 ≤ size_of al c) where
 
   -- what is known of a new pool's path is known of the path
   any : (q : AskPlan) → N q → F q
+  any (Follow _ _ _) t = elim t [ ]
+  any (Ready _ _ _) t = elim t [ ]
+  any (Last _ _) t = elim t [ ]
   any NoRoom t = tt
   any Damaged t = tt
   any (Again a p f l) t = t

@@ -77,6 +77,7 @@ module _ (Q : ℕ → Type 0) where
   all_at x xs ys a = (all_parts xs (x ∷ ys) a).1.0
 
   pub all_in : (x : ℕ) (xs : List ℕ) → All Q xs → In x xs → Q x
+  all_in x [] a x3 = elim x3 [ ]
   all_in x (y ∷ ys) a (inl e) = rw e a.0
   all_in x (y ∷ ys) a (inr i) = all_in x ys a.1 i
 
@@ -97,6 +98,7 @@ abbrev pub further : {x : ℕ} {xs : List ℕ} (y : ℕ) → Split x xs → Spli
 further y s = record { pre = y ∷ s.pre; post = s.post; is = ap (λ (l : List ℕ). y ∷ l) s.is }
 
 pub split : (x : ℕ) (xs : List ℕ) → In x xs → Split x xs
+split x [] x'' = elim x'' [ ]
 split x (y ∷ ys) (inl e) = record { pre = []; post = ys; is = ap (λ (z : ℕ). z ∷ ys) (sym e) }
 split x (y ∷ ys) (inr i) = further y (split x ys i)
 
@@ -199,6 +201,7 @@ among_in x (y ∷ ys) e = go (ℕ_discrete x y) (among_in x ys)
     go (no q) h = inr (h (sym (ap (λ (t : Bool). t || among x ys) (ne_eqb x y q)) ∙ e))
 
 pub in_among : (x : ℕ) (xs : List ℕ) → In x xs → among x xs ≡ true
+in_among x [] x'' = elim x'' [ ]
 in_among x (y ∷ ys) (inl q) = rw (eq-eqb x y q)
 in_among x (y ∷ ys) (inr i) = rw (in_among x ys i, or-true)
 

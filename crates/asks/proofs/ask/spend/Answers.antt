@@ -1,0 +1,30 @@
+-- `asks::ask::spend` tests the free pools that it has just stored, and the arena leaves by the links that it had.
+use mathlib.Core.Path.{ap, ◌∙◌}
+use mathlib.Core.List.{List}
+use Prim.Native.Nat.{ℕ}
+use native.Mathlib.Omega.{arith}
+use lib.ListN.{length-set}
+use borrow.Author.Rules.{rules}
+use Rattle.rules.specs.Outcome.{heap_of}
+use Rattle.asks.specs.HandOut.{spend_stays, spend_leaves, spend_links}
+use Rattle.asks.proofs.ask.spend.Goals as goal
+
+pub leave-requires : goal.leave-requires
+leave-requires c =
+    let a = c.args in
+    let l = spend_links a.arenas a.a a.books.now (omega arith) (c.requires.2.links (omega arith)) in
+    simp length-set (omega arith)
+
+pub shape_of-books-then-free-eq0 : goal.shape_of-books-then-free-eq0
+shape_of-books-then-free-eq0 c = simp (length-set, c.leave.auto.books)
+
+pub returns-then-free-eq0 : goal.returns-then-free-eq0
+returns-then-free-eq0 c al P class =
+    let a = c.args in
+    let left = spend_leaves a.arenas a.a a.books.now (omega arith) al P class (omega arith) in
+    record { same = λ m k. ap (λ (x : List ℕ). heap_of m x k) c.leave.ensures ∙ left.same m k }
+
+pub returns-else-free-eq0 : goal.returns-else-free-eq0
+returns-else-free-eq0 c al P class =
+    let a = c.args in
+    spend_stays a.arenas a.a a.books.now (omega arith) al P class c.if-free-eq0.false

@@ -1,0 +1,111 @@
+-- `asks::ask_listed::ask_unlinked` meets its contract: nextoffset decides between two paths, and each has
+-- one more rule.
+use mathlib.Core.Path.{refl, sym, ◌∙◌}
+use Prim.Native.Nat.{◌*◌}
+use native.Mathlib.Omega.{arith}
+use Rattle.rules.specs.Books.{alignment_of}
+use Rattle.rules.specs.Ask.{ask_answer, after_ask}
+use Rattle.rules.specs.Blocks.{put_link}
+use Rattle.rules.specs.Outcome.{heap_of}
+use Rattle.books.specs.Records.{leads}
+use Rattle.books.specs.Starts.{Start}
+use Rattle.books.specs.Tests.{held, failed}
+use Rattle.asks.specs.AskPath.{damaged, begins, not_ready, is_ready, stuck, is_last}
+use Rattle.asks.specs.HandOut.{with_link, expose_writes, last_writes, handed}
+use borrow.Author.Rules.{rules}
+use Rattle.asks.proofs.ask_listed.ask_unlinked.Goals.{Else-not-spare}
+use Rattle.asks.proofs.ask_listed.ask_unlinked.Goals as goal
+
+pub returns-then-not-spare : goal.returns-then-not-spare
+returns-then-not-spare c =
+    let a = c.args in
+    let h = heap_of a.memory.now a.books.now a.map.now in
+    damaged (alignment_of a.edition) a.arenas a.pools a.class h _
+    (not_ready (alignment_of a.edition) a.arenas a.pools h a.class a.p a.size a.pool c.requires.1.size c.requires.2.loaded
+    c.index-f.result c.index-f.ensures.0
+    c.index-m.result c.index-m.ensures.0 c.if-pool.true (sym c.spare.ensures ∙ c.if-not-spare.true))
+
+-- the block at nextoffset, once it has passed
+next : (c : Else-not-spare) → Start c.args.size c.index-m.result
+next c =
+    let a = c.args in
+    let h = heap_of a.memory.now a.books.now a.map.now in
+    begins h a.p a.size _ (omega (arith, c.requires.1.size)) (sym c.spare.ensures ∙ c.if-not-spare.false)
+
+pub expose-requires : goal.expose-requires
+expose-requires c =
+    (c.requires.2.count, omega (arith, (next (goal.at.expose-requires c).Else-not-spare).ends, c.index-m.ensures.0, c.requires.1.size, c.requires.1.class))
+
+pub put_link-requires : goal.put_link-requires
+put_link-requires c =
+    omega (arith, (next (goal.at.put_link-requires c).Else-not-spare).ends, c.requires.1.size, c.requires.2.there, c.requires.0.memory)
+
+pub hand_out-requires : goal.hand_out-requires
+hand_out-requires c =
+    (
+      omega (arith, c.requires.1.size),
+      omega (arith, c.requires.1.size, c.requires.1.class),
+      rw c.index-f.ensures.0 c.requires.2.start,
+      omega (arith, c.requires.2.there, c.requires.0.all),
+      omega (arith, c.requires.2.there, c.requires.0.map),
+    )
+
+pub returns-then-pool : goal.returns-then-pool
+unfolding ask_answer after_ask
+returns-then-pool c =
+    let a = c.args in
+    let h = heap_of a.memory.now a.books.now a.map.now in
+    rw (
+      is_ready (alignment_of a.edition) a.arenas a.pools h a.class a.p a.size a.pool c.requires.1.size c.requires.2.loaded
+          c.index-f.result c.index-f.ensures.0
+          c.index-m.result c.index-m.ensures.0 c.if-pool.true (sym c.spare.ensures ∙ c.if-not-spare.false),
+      ← c.requires.1.size,
+    )
+    (handed a.size _ _ (heap_of c.put_link.new.memory c.store_pool.new.books a.map.now) _ _ _
+    (with_link (put_link _ 0) a.memory.now _ _ _ _ c.put_link.ensures
+    ((expose_writes a.arenas a.p a.pool c.expose.result a.books.now _ c.requires.2.loaded c.store_pool.ensures
+    c.index-m.result a.size c.index-m.ensures.0 c.expose.ensures).same a.memory.now a.map.now))
+    c.hand_out.ensures.0
+    c.hand_out.ensures.1)
+
+pub returns-then-not-may_leave : goal.returns-then-not-may_leave
+returns-then-not-may_leave c =
+    let a = c.args in
+    let h = heap_of a.memory.now a.books.now a.map.now in
+    damaged (alignment_of a.edition) a.arenas a.pools a.class h _
+    (stuck (alignment_of a.edition) a.arenas a.pools h a.class a.p a.size a.pool c.requires.1.size c.requires.2.loaded
+    c.index-f.result c.index-f.ensures.0
+    a.pool.nextoffset refl c.if-pool.false (sym c.may_leave.ensures ∙ c.if-not-may_leave.true))
+
+pub leave_by-requires : goal.leave_by-requires
+leave_by-requires c =
+    let a = c.args in
+    let l = leads a.pool (a.arenas * a.pools) (sym c.may_leave.ensures ∙ c.if-not-may_leave.false) in
+    rw c.pool_links.ensures (omega (arith, l.0, l.1, c.requires.0.books, c.requires.2.there, c.requires.1.class))
+
+pub hand_out-requires-2 : goal.hand_out-requires-2
+hand_out-requires-2 c =
+    (
+      omega (arith, c.requires.1.size),
+      omega (arith, c.requires.1.size, c.requires.1.class),
+      rw c.index-f.ensures.0 c.requires.2.start,
+      omega (arith, c.requires.2.there, c.requires.0.all),
+      omega (arith, c.requires.2.there, c.requires.0.map),
+    )
+
+pub returns : goal.returns
+unfolding ask_answer after_ask
+returns c =
+    let a = c.args in
+    let h = heap_of a.memory.now a.books.now a.map.now in
+    rw (
+      is_last (alignment_of a.edition) a.arenas a.pools h a.class a.p a.size a.pool c.requires.1.size c.requires.2.loaded
+          c.index-f.result c.index-f.ensures.0
+          a.pool.nextoffset refl c.if-pool.false (sym c.may_leave.ensures ∙ c.if-not-may_leave.false),
+      ← c.requires.1.size,
+    )
+    (handed a.size _ _ (heap_of a.memory.now c.leave_by.new.books a.map.now) _ _ _
+    ((last_writes a.arenas a.p a.pool c.take.result a.books.now _ c.requires.2.loaded c.store_pool-2.ensures
+    a.class _ c.take.ensures (rw (← c.pool_links.ensures) c.leave_by.ensures)).same a.memory.now a.map.now)
+    c.hand_out-2.ensures.0
+    c.hand_out-2.ensures.1)

@@ -1,0 +1,14 @@
+-- `asks::ask_listed::hand_out` sets the bit of a block whose start passes the test, and answers its offset.
+use mathlib.Core.Path.{refl}
+use borrow.Author.Rules.{rules}
+use Rattle.asks.specs.HandOut.{starts}
+use Rattle.asks.proofs.ask_listed.hand_out.Goals as goal
+
+pub block_no-requires : goal.block_no-requires
+block_no-requires c =
+    let a = c.args in
+    (c.requires.0, c.requires.1, starts a.size a.f c.requires.2)
+
+pub returns : goal.returns
+returns c =
+    (refl, simp (c.set_bit.ensures, c.block_no.ensures.0))

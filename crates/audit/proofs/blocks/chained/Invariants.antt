@@ -1,0 +1,20 @@
+-- `audit::blocks::chained` walks: at each turn the answer is that of the k blocks that are left to meet from the link l
+-- on. A block that is met lies in its pool, so that its link can be read.
+use mathlib.Core.Path.{◌≡◌, refl, sym, ap, ◌∙◌}
+use mathlib.Core.Bool.{true}
+use Prim.Native.Nat.{◌-◌}
+use native.Mathlib.Omega.{arith}
+use borrow.Author.Rules.{rules}
+use Rattle.rules.specs.Books.{is_set}
+use Rattle.rules.specs.Audit.{is_dead, chained}
+use Rattle.books.specs.Tests.{held, failed}
+use Rattle.books.specs.Starts.{Start, start}
+use Rattle.audit.specs.Turns.{chain_end, chain_goes, chain_fails, dead_starts}
+use Rattle.audit.proofs.blocks.chained.Given as goal
+
+abbrev pub invariant-loop-k : goal.invariant-loop-k
+invariant-loop-k t =
+    chained t.size t.n t.memory (is_set t.map t.n) t.v t.count t.first ≡ chained t.size t.n t.memory (is_set t.map t.n) t.v t.k t.l
+
+abbrev pub decreases-loop-k : goal.decreases-loop-k
+decreases-loop-k t = t.k

@@ -1,0 +1,14 @@
+-- `audit::survey::count_bits` keeps the counts: at turn n those of the pools before n.
+use mathlib.Core.Path.{◌≡◌, refl, ◌∙◌}
+use Prim.Native.Nat.{◌-◌, ◌≤◌}
+use native.Mathlib.Omega.{arith}
+use lib.ListN.{length, length-set}
+use Rattle.rules.specs.Audit.{set_bits}
+use Rattle.audit.specs.Survey.{Filled, filled_more}
+use Rattle.audit.proofs.survey.count_bits.Given as goal
+
+abbrev pub invariant-loop-n : goal.invariant-loop-n
+invariant-loop-n l = Filled (set_bits l.map) l.n l.counts × (l.n ≤ l.all) × (length l.counts ≡ length l.initial.counts)
+
+abbrev pub decreases-loop-n : goal.decreases-loop-n
+decreases-loop-n l = l.all - l.n

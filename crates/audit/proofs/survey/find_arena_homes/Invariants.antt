@@ -1,0 +1,13 @@
+-- `audit::survey::find_arena_homes` keeps the heads: at turn a those of the arenas before a.
+use mathlib.Core.Path.{◌≡◌, refl, ◌∙◌}
+use Prim.Native.Nat.{◌-◌, ◌≤◌}
+use native.Mathlib.Omega.{arith}
+use lib.ListN.{length, length-set}
+use Rattle.audit.specs.Survey.{Filled, arena_home_of, filled_more}
+use Rattle.audit.proofs.survey.find_arena_homes.Given as goal
+
+abbrev pub invariant-loop-a : goal.invariant-loop-a
+invariant-loop-a l = Filled (arena_home_of l.books) l.a l.homes × (l.a ≤ l.arenas) × (length l.homes ≡ length l.initial.homes)
+
+abbrev pub decreases-loop-a : goal.decreases-loop-a
+decreases-loop-a l = l.arenas - l.a

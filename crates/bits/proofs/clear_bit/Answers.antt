@@ -1,0 +1,15 @@
+-- `bits::clear_bit` puts the bit of the block to 0: the mask has every bit of the word but that one,
+-- so an and keeps the rest.
+use Prim.Native.Nat.{◌%◌, ◌<◌}
+use Rattle.rules.specs.Books.{map_word}
+use Rattle.bits.specs.Bit.{code_clear}
+use native.Mathlib.Omega.{arith}
+use borrow.Author.Rules.{rules}
+use Rattle.bits.proofs.clear_bit.Goals as goal
+
+pub returns : goal.returns
+returns c =
+    let a = c.args in
+    let l : a.k % 64 < 64 = omega arith in
+    let f = (c.slice_known-1.given (map_word a.pool a.k)).fits in
+    simp code_clear

@@ -1,0 +1,6 @@
+-- `books::blocks::size_at` is the size of the class of the offset's pool.
+use borrow.Author.Rules.{rules}
+use Rattle.books.proofs.blocks.size_at.Goals as goal
+
+pub returns : goal.returns
+returns c = rw (← c.class_at.ensures.0) c.size_of.ensures

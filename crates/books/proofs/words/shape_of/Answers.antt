@@ -1,0 +1,6 @@
+-- `books::words::shape_of` reads the three words of the shape.
+use borrow.Author.Rules.{rules}
+use Rattle.books.proofs.words.shape_of.Goals as goal
+
+pub returns : goal.returns
+returns c = rw (c.word.ensures.0, c.word-2.ensures.0, c.word-3.ensures.0)

@@ -1,0 +1,25 @@
+-- `compare::walk::walk_word` notes the blocks of the bits that are set in either word: at each turn those of the bits
+-- that are still left are to be noted.
+use mathlib.Core.Path.{◌≡◌, ap, ap₂, ◌∙◌}
+use mathlib.Core.Bool.{Bool}
+use mathlib.Core.List.{List, ◌++◌}
+use Prim.Native.Nat.{ℕ, ◌+◌, ◌*◌, ◌^◌, ◌≤◌, ◌<◌}
+use native.Mathlib.Nat.{mul-le-mul}
+use native.Mathlib.Omega.{arith}
+use lib.Bits.{bit_or, or_lt}
+use lib.Count.{count_trailing_zeros, trailing_le, trailing_of_zero}
+use Rattle.bits.specs.Halves.{first_there, without_first, without_less}
+use Rattle.loops.specs.Word.{each_bit, first_live, none_live, up_to, not_past, past}
+use Rattle.compare.specs.Kinds.{entry_of, together}
+use Rattle.compare.specs.Noted.{Noting, unnoted, note, finish, room}
+use Rattle.compare.specs.Words.{said_of}
+use Rattle.compare.proofs.walk.walk_word.Given as goal
+
+abbrev pub invariant-loop-left : goal.invariant-loop-left
+invariant-loop-left l =
+    let n = up_to l.first l.size l.last in
+    let said = said_of l.memory l.memory2 l.word l.word2 l.first l.size in
+    Noting l.writing l.initial.list l.at (each_bit said (bit_or l.word l.word2) 0 n) l.list l.place (each_bit said l.left 0 n) × (l.left < 2 ^ 64)
+
+abbrev pub decreases-loop-left : goal.decreases-loop-left
+decreases-loop-left l = l.left

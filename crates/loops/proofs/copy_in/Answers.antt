@@ -1,0 +1,24 @@
+-- `loops::copy_in` stores the text: at turn i the text from byte i on is left.
+use mathlib.Core.Path.{◌≡◌, refl}
+use Prim.Native.Nat.{◌+◌, ◌-◌, ◌≤◌}
+use native.Mathlib.Omega.{arith}
+use lib.ListN.{length, drop}
+use Rattle.loops.specs.Left.{Left, listed, begin, turn, done}
+use Rattle.loops.proofs.copy_in.Goals as goal
+
+pub loop-i-init : goal.loop-i-init
+loop-i-init c = (begin (listed c.args.text.now) _ c.args.at _ (omega arith), omega arith, refl)
+
+pub loop-i-preserved : goal.loop-i-preserved
+loop-i-preserved c =
+    let p = c.loop-i in
+    let a = c.args in
+    (turn (listed a.text.now) p.i (omega arith) p.invariant.0 (record { same = refl; place = omega arith }), omega arith, omega arith)
+
+pub shape_of-memory : goal.shape_of-memory
+shape_of-memory c = c.loop-i.invariant.0.long
+
+pub returns : goal.returns
+returns c =
+    let p = c.loop-i in
+    (done (listed c.args.text.now) p.i (omega arith) p.invariant.0).same

@@ -1,0 +1,19 @@
+-- `loops::count_words` counts the words of the roll: at each turn those of the pools from this one on are left.
+use mathlib.Core.Path.{◌≡◌, ap}
+use Prim.Native.Nat.{◌+◌, ◌-◌, ◌≤◌}
+use native.Mathlib.Omega.{arith}
+use lib.ListN.{length}
+use Rattle.rules.specs.View.{roll_pools}
+use Rattle.rules.specs.Books.{alignment_of}
+use Rattle.books.specs.Sizes.{aligned}
+use Rattle.loops.specs.Left.{fewer, none_left}
+use Rattle.loops.specs.Roll.{roll_parts, length_roll}
+use Rattle.loops.proofs.count_words.Given as goal
+
+abbrev pub invariant-loop-pool : goal.invariant-loop-pool
+invariant-loop-pool l =
+    let roll = roll_pools (alignment_of l.edition) l.arenas l.books l.map in
+    (l.words + length (roll l.pool (l.n - l.pool)) ≡ length (roll 0 l.n)) × (l.pool ≤ l.n)
+
+abbrev pub decreases-loop-pool : goal.decreases-loop-pool
+decreases-loop-pool l = l.n - l.pool

@@ -1,0 +1,20 @@
+-- `loops::has_room` counts only where the roll could be longer than the room.
+use mathlib.Core.Path.{sym, ap}
+use Prim.Native.Nat.{ℕ}
+use native.Mathlib.Omega.{arith}
+use lib.Dec.{leb}
+use borrow.Author.Rules.{rules}
+use borrow.Author.Tests.{le-leb}
+use Rattle.rules.specs.Books.{alignment_of}
+use Rattle.books.specs.Sizes.{aligned}
+use Rattle.loops.specs.Roll.{length_roll}
+use Rattle.loops.proofs.has_room.Goals as goal
+
+pub returns-then-n-room : goal.returns-then-n-room
+returns-then-n-room c =
+    let a = c.args in
+    let most = length_roll (alignment_of a.edition) a.arenas a.books.now a.map.now (aligned a.edition).low 0 a.n in
+    sym (le-leb _ a.room (omega (arith, most)))
+
+pub returns : goal.returns
+returns c = ap (λ (n : ℕ). leb n c.args.room) c.count_words.ensures

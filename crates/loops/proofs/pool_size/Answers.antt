@@ -1,0 +1,48 @@
+-- `loops::pool_size` answers the size where a bit is set and the size is that of a class, and 0 elsewhere.
+use mathlib.Core.Path.{◌≡◌, sym, ap, ◌∙◌}
+use Prim.Native.Nat.{ℕ, ◌*◌, ◌/◌}
+use native.Mathlib.Omega.{arith}
+use borrow.Author.Rules.{rules}
+use Rattle.rules.specs.Books.{class, pool, alignment_of}
+use Rattle.rules.specs.Blocks.{size_of}
+use Rattle.books.specs.Sizes.{aligned, no_class_lem, a_class}
+use Rattle.loops.specs.Roll.{pool_size}
+use Rattle.loops.proofs.pool_size.Goals.{After-size_at-size}
+use Rattle.loops.proofs.pool_size.Goals as goal
+
+pub returns-then-none_set : goal.returns-then-none_set
+unfolding pool_size
+returns-then-none_set c = (rw (sym c.none_set.ensures ∙ c.if-none_set.true), omega arith)
+
+-- the size is read at the pool's first byte
+its_size : (c : After-size_at-size)
+    → let a = c.args in
+    c.size_at-size.result ≡ size_of (alignment_of a.edition) (pool a.arenas a.books.now class a.pool)
+its_size c =
+    let a = c.args in
+    let e : 4096 * a.pool / 4096 ≡ a.pool = omega arith in
+    c.size_at-size.ensures.0 ∙ ap (λ (p : ℕ). size_of (alignment_of a.edition) (pool a.arenas a.books.now class p)) e
+
+pub returns-then-size-gt-LARGEST : goal.returns-then-size-gt-LARGEST
+unfolding pool_size
+returns-then-size-gt-LARGEST c =
+    let a = c.args in
+    let s = its_size (goal.at.returns-then-size-gt-LARGEST c).After-size_at-size in (
+      rw (
+        sym c.none_set.ensures ∙ c.if-none_set.false,
+        no_class_lem (aligned a.edition) (pool a.arenas a.books.now class a.pool) (omega (arith, s, c.if-size-gt-LARGEST.true)),
+      ),
+      omega arith,
+    )
+
+pub returns : goal.returns
+unfolding pool_size
+returns c =
+    let a = c.args in
+    let s = its_size (goal.at.returns c).After-size_at-size in (
+      rw (
+        sym c.none_set.ensures ∙ c.if-none_set.false,
+        a_class (aligned a.edition) (pool a.arenas a.books.now class a.pool) (omega (arith, s, c.if-size-gt-LARGEST.false)),
+      ) s,
+      c.if-size-gt-LARGEST.false,
+    )

@@ -1,0 +1,20 @@
+-- `plans::ask::plan_new` meets its contract: it takes the path that the rules take by the usable head: none,
+-- one of the arenas, or none of them.
+use native.Mathlib.Omega.{arith}
+use borrow.Author.Rules.{rules}
+use borrow.Author.Tests.{le-leb, lt-leb, eq-eqb, ne_eqb}
+use Rattle.plans.proofs.ask.plan_new.Goals as goal
+
+pub returns-then-l-eq0 : goal.returns-then-l-eq0
+returns-then-l-eq0 c =
+    rw (← c.word-l.ensures.0, eq-eqb c.word-l.result 0 (omega arith)) c.plan_unused.ensures
+
+pub returns-then-l-arenas : goal.returns-then-l-arenas
+returns-then-l-arenas c =
+    rw
+    (← c.word-l.ensures.0, ne_eqb c.word-l.result 0 (omega arith), le-leb c.word-l.result c.args.arenas (omega arith))
+    c.from_usable.ensures
+
+pub returns : goal.returns
+returns c =
+    rw (← c.word-l.ensures.0, ne_eqb c.word-l.result 0 (omega arith), lt-leb c.word-l.result c.args.arenas (omega arith))
