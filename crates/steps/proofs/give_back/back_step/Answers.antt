@@ -1,0 +1,172 @@
+-- `steps::give_back::back_step` meets its contract: each of its tests is the next rule of the path, and the writes at
+-- its end are the path's. A live offset has a class, a start and a pool.
+use mathlib.Core.List.{List}
+use mathlib.Core.Path.{◌≡◌, sym, ap, ap₂, ◌∙◌}
+use mathlib.Core.Bool.{true}
+use Prim.Native.Nat.{ℕ, ◌+◌, ◌*◌, ◌/◌, ◌%◌, ◌≤◌}
+use native.Mathlib.Omega.{arith}
+use lib.ListN.{length}
+use borrow.Author.Tests.{leb-true}
+use Rattle.rules.specs.Books.{alignment_of, Heap, at, on_books, class_head}
+use Rattle.rules.specs.Blocks.{size_of}
+use Rattle.rules.specs.Lists as L
+use Rattle.rules.specs.GiveBack.{after_back, back_answer}
+use Rattle.rules.specs.Outcome.{heap_of, outcome, answer_of}
+use Rattle.books.specs.Sizes.{aligned}
+use Rattle.books.specs.declared.pool.Pool.{Pool}
+use Rattle.books.specs.Records.{may_give}
+use Rattle.books.specs.Tests.{held, failed}
+use Rattle.steps.specs.Backs.{Counted, counted, length_taken, taken_before}
+use Rattle.steps.specs.BackPath.{step_is, damaged, miscounted, listless, joins, no_start, falls_empty, stays}
+use borrow.Author.Rules.{rules}
+use Rattle.steps.proofs.give_back.back_step.Goals.{Else-not-may_give}
+use Rattle.steps.proofs.give_back.back_step.Goals as goal
+
+pub returns-then-not-may_give : goal.returns-then-not-may_give
+returns-then-not-may_give c =
+    let a = c.args in
+    let s = a.shape in
+    let h = heap_of a.memory.now a.books.now a.map.now in
+    let q = c.load_pool-pool.result in
+    let path = miscounted (alignment_of s.edition) s.arenas s.pools a.books.now q.class (a.offset / 4096) q c.load_pool-pool.ensures
+    (sym c.may_give.ensures ∙ c.if-not-may_give.true) in
+    step_is (alignment_of s.edition) s.arenas s.pools q.class h a.offset _ _ (ap (λ (x : Pool). x.class) c.load_pool-pool.ensures) path
+    (damaged (alignment_of s.edition) s.arenas s.pools q.class h a.offset)
+
+-- the pool's count has passed
+gives : (c : Else-not-may_give) → may_give c.load_pool-pool.result ≡ true
+gives c = (sym c.may_give.ensures ∙ c.if-not-may_give.false)
+
+-- the block, once its pool's count has passed
+block : (c : Else-not-may_give)
+    → let a = c.args in
+    let s = a.shape in
+    Counted (alignment_of s.edition) s.arenas s.pools (a.offset / 4096) (a.offset % 4096) a.block.number c.load_pool-pool.result
+    a.books.now
+block c =
+    let a = c.args in
+    let s = a.shape in
+    counted (aligned s.edition) s.arenas s.pools a.block.number a.offset c.load_pool-pool.result a.books.now a.map.now
+    c.load_pool-pool.ensures c.requires.1 c.requires.2 (gives c)
+
+pub may_join-requires : goal.may_join-requires
+may_join-requires c =
+    omega (arith, (block (goal.at.may_join-requires c).Else-not-may_give).class, c.index-head.ensures.0, c.requires.0.books)
+
+pub returns-then-not-may_join : goal.returns-then-not-may_join
+returns-then-not-may_join c =
+    let a = c.args in
+    let s = a.shape in
+    let h = heap_of a.memory.now a.books.now a.map.now in
+    let q = c.load_pool-pool.result in
+    let path = listless (alignment_of s.edition) s.arenas s.pools a.books.now q.class (a.offset / 4096) q c.load_pool-pool.ensures
+    (gives (goal.at.returns-then-not-may_join c).Else-not-may_give) c.if-pool-eq0.true
+    (rw c.index-head.ensures.0 at (sym c.may_join.ensures ∙ c.if-not-may_join.true)) in
+    step_is (alignment_of s.edition) s.arenas s.pools q.class h a.offset _ _ (ap (λ (x : Pool). x.class) c.load_pool-pool.ensures) path
+    (damaged (alignment_of s.edition) s.arenas s.pools q.class h a.offset)
+
+pub take_back-requires : goal.take_back-requires
+take_back-requires c =
+    (c.requires.0, block (goal.at.take_back-requires c).Else-not-may_give)
+
+pub pool_links-requires : goal.pool_links-requires
+pool_links-requires c =
+    c.requires.0.arenas_high
+
+pub join-requires : goal.join-requires
+join-requires c =
+    let a = c.args in
+    let s = a.shape in
+    let p = a.offset / 4096 in
+    let f = a.offset % 4096 in
+    let b = block (goal.at.join-requires c).Else-not-may_give in
+    let e = ap (λ (h : Heap). h.books) c.take_back.ensures in
+    let long = length_taken s.arenas p f a.books.now in
+    let head : at a.books.now (class_head c.index-head.result) ≤ s.arenas * s.pools = leb-true _ _
+    (sym c.may_join.ensures ∙ c.if-not-may_join.false) in
+    let kept = taken_before s.arenas s.pools c.index-head.result p f a.books.now (class_head c.index-head.result)
+    (omega (arith, b.class, c.index-head.ensures.0)) in (
+      b.there,
+      c.requires.0.all,
+      omega (arith, ap length e, long, c.requires.0.books, c.pool_links.ensures),
+      omega (arith, ap length e, long, c.requires.0.books, b.class, c.index-head.ensures.0),
+      rw (e, kept) head,
+    )
+
+pub returns-then-pool-eq0 : goal.returns-then-pool-eq0
+unfolding after_back back_answer
+returns-then-pool-eq0 c =
+    let a = c.args in
+    let s = a.shape in
+    let h = heap_of a.memory.now a.books.now a.map.now in
+    let q = c.load_pool-pool.result in
+    let path = joins (alignment_of s.edition) s.arenas s.pools a.books.now q.class (a.offset / 4096) q c.load_pool-pool.ensures
+    (gives (goal.at.returns-then-pool-eq0 c).Else-not-may_give) c.if-pool-eq0.true
+    (ap (λ (x : ℕ). L.may_join (s.arenas * s.pools) (class_head x) a.books.now) (sym c.index-head.ensures.0)
+    ∙ (sym c.may_join.ensures ∙ c.if-not-may_join.false)) in
+    step_is (alignment_of s.edition) s.arenas s.pools q.class h a.offset _ _ (ap (λ (x : Pool). x.class) c.load_pool-pool.ensures) path
+    (ap (λ (x : List ℕ). outcome (answer_of 0 a.offset) (heap_of c.take_back.new.memory x c.take_back.new.map))
+    (c.join.ensures
+    ∙ ap₂ (λ (x y : ℕ). L.join x (4 + y) (a.offset / 4096) c.take_back.new.books)
+    c.pool_links.ensures c.index-head.ensures.0)
+    ∙ ap (λ (x : Heap). outcome (answer_of 0 a.offset) (on_books (L.join (L.pool_links s.arenas) (class_head q.class) (a.offset / 4096)) x))
+    c.take_back.ensures)
+
+-- the size is that of the pool's class
+size : (c : Else-not-may_give)
+    → let a = c.args in a.block.size ≡ size_of (alignment_of a.shape.edition) c.load_pool-pool.result.class
+size c =
+    c.requires.3
+    ∙ ap (size_of (alignment_of c.args.shape.edition)) (sym (ap (λ (x : Pool). x.class) c.load_pool-pool.ensures))
+
+pub is_start-requires : goal.is_start-requires
+is_start-requires c =
+    let at-if1 = (goal.at.is_start-requires c).Else-not-may_give in
+    (omega (arith, size at-if1, (block at-if1).low), omega (arith, size at-if1, (block at-if1).high))
+
+pub returns-then-not-is_start : goal.returns-then-not-is_start
+returns-then-not-is_start c =
+    let a = c.args in
+    let s = a.shape in
+    let h = heap_of a.memory.now a.books.now a.map.now in
+    let q = c.load_pool-pool.result in
+    let path = no_start (alignment_of s.edition) s.arenas s.pools a.books.now q.class (a.offset / 4096) q c.load_pool-pool.ensures
+    a.block.size c.index.result (size (goal.at.returns-then-not-is_start c).Else-not-may_give) c.index.ensures.0
+    c.if-pool-eq0.false (sym c.is_start.ensures ∙ c.if-not-is_start.true) in
+    step_is (alignment_of s.edition) s.arenas s.pools q.class h a.offset _ _ (ap (λ (x : Pool). x.class) c.load_pool-pool.ensures) path
+    (damaged (alignment_of s.edition) s.arenas s.pools q.class h a.offset)
+
+pub back_last-requires : goal.back_last-requires
+back_last-requires c =
+    (c.requires.0, block (goal.at.back_last-requires c).Else-not-may_give)
+
+pub returns-then-pool-eq1 : goal.returns-then-pool-eq1
+returns-then-pool-eq1 c =
+    let at-if1 = (goal.at.returns-then-pool-eq1 c).Else-not-may_give in
+    let a = c.args in
+    let s = a.shape in
+    let h = heap_of a.memory.now a.books.now a.map.now in
+    let q = c.load_pool-pool.result in
+    let path = falls_empty (alignment_of s.edition) s.arenas s.pools a.books.now q.class (a.offset / 4096) q c.load_pool-pool.ensures
+    a.block.size c.index.result (size at-if1) c.index.ensures.0
+    (gives at-if1) c.if-pool-eq0.false (sym c.is_start.ensures ∙ c.if-not-is_start.false) c.if-pool-eq1.true in
+    step_is (alignment_of s.edition) s.arenas s.pools q.class h a.offset _ _ (ap (λ (x : Pool). x.class) c.load_pool-pool.ensures) path
+    c.back_last.ensures
+
+pub take_back-requires-2 : goal.take_back-requires-2
+take_back-requires-2 c =
+    (c.requires.0, block (goal.at.take_back-requires-2 c).Else-not-may_give)
+
+pub returns : goal.returns
+unfolding after_back back_answer
+returns c =
+    let at-if1 = (goal.at.returns c).Else-not-may_give in
+    let a = c.args in
+    let s = a.shape in
+    let h = heap_of a.memory.now a.books.now a.map.now in
+    let q = c.load_pool-pool.result in
+    let path = stays (alignment_of s.edition) s.arenas s.pools a.books.now q.class (a.offset / 4096) q c.load_pool-pool.ensures
+    a.block.size c.index.result (size at-if1) c.index.ensures.0
+    (gives at-if1) c.if-pool-eq0.false (sym c.is_start.ensures ∙ c.if-not-is_start.false) c.if-pool-eq1.false in
+    step_is (alignment_of s.edition) s.arenas s.pools q.class h a.offset _ _ (ap (λ (x : Pool). x.class) c.load_pool-pool.ensures) path
+    (ap (λ (x : Heap). outcome (answer_of 0 a.offset) x) c.take_back-2.ensures)
