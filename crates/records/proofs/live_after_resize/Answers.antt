@@ -1,5 +1,4 @@
 -- `records::live_after_resize` counts anew after 6, and where the text is now in the first block of a pool.
--- Assumes nothing.
 use mathlib.Core.Path.{◌≡◌, sym, ◌∙◌}
 use mathlib.Core.Bool.{true, false, ◌&&◌, ◌||◌, true≢false}
 use mathlib.Core.List.{List}
@@ -11,8 +10,7 @@ use borrow.Author.Tests.{eq-eqb}
 use Rattle.rules.specs.declared.Answer.{Answer}
 use Rattle.records.specs.Replies.{live_in}
 use Rattle.records.specs.Live.{ResizeCounts}
-use Rattle.records.proofs.live_after_resize.Statement.{statement}
-use Rattle.records.proofs.live_after_resize.Tie as tie
+use Rattle.records.proofs.live_after_resize.Goals as goal
 
 -- neither 6, nor done with the text in a pool's first block
 as_many : {live : ℕ} {b k : List ℕ} (a : Answer) → ResizeCounts live a b k
@@ -23,16 +21,6 @@ as_many {live} {b} {k} a x e = go (ℕ_discrete a.number 0)
     go (yes q) = x.done q (λ z. true≢false (sym (rw (q, eq-eqb (a.offset % 4096) 48 z)) ∙ e))
     go (no d) = x.refused d (λ z. true≢false (sym (rw (eq-eqb a.number 6 z)) ∙ e))
 
-live-blocks-requires : tie.Need-live-blocks-requires
-live-blocks-requires c κs = search rules
-
-returns : tie.Need-returns
-returns c = search rules
-
-returns-2 : tie.Need-returns-2
-returns-2 c =
-    let at-start = c.before.before.before.before in
-    as_many at-start.args.answer at-start.requires.1 c.if1.false
-
-pub live-after-resize-spec : {M : Type 1} → statement M
-live-after-resize-spec = tie.close (tie.spec live-blocks-requires returns returns-2)
+pub returns : goal.returns
+returns c =
+    as_many c.args.answer c.requires.1 c.if-number-answer.false
