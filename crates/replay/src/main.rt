@@ -2,16 +2,17 @@
 // answered as they arrive, however the input comes in pieces; what is left of the last one waits for the next read.
 #![tactic(auto)]
 
-ghost use Rattle.std.specs.Prelude.{◌*◌, ◌-◌, ◌%◌, ◌<◌, ◌≤◌, ◌≡◌, length, take, drop};
+ghost use Rattle.std.specs.Prelude.{◌*◌, ◌-◌, ◌%◌, ◌<◌, ◌≤◌, ◌≡◌, IfOk, length, take, drop};
 ghost use Rattle.rules.specs.Outcome.{heap_of};
 ghost use Rattle.records.specs.Replies.{Whole};
 ghost use Rattle.records.specs.Pieces.{records_in};
 ghost use Rattle.replay.specs.Turns.{Answered, Lent, NextKept};
 
 use books::words::{EIGHT, RECORDS};
-use libc::{STDIN_FILENO, STDOUT_FILENO};
 use loops::copy_within;
 use records::replay_records;
+use std::io::{self, Read, Write};
+use std::process::ExitCode;
 
 // One arena of 16 pools. (The heap is of edition eight, as 01 has it.)
 const ARENAS: usize = 1;
@@ -25,7 +26,8 @@ const BOOKS: usize = RECORDS + 8 * ARENAS + 8 * ARENAS * POOLS;
 
 const MAP: usize = 8 * ARENAS * POOLS;
 
-// What a turn leaves to do: to read on, after so many bytes of a record that has not arrived whole, or to stop.
+// What a turn leaves to do: to read on, after so many bytes of a record that has not arrived whole, or to stop at the
+// end of the input.
 #[derive(Clone, Copy)]
 enum Next {
     Read(usize),
@@ -76,75 +78,102 @@ fn answer_whole(
     written
 }
 
+// The stream that cannot be read, or written, and the reason.
+#[derive(Debug, Drop)]
+enum Failure {
+    Input(io::Error),
+    Output(io::Error),
+}
+
 // The replies are written, or the reason why they cannot be.
-fn write_out(replies: &[u8]) -> bool {
-    let written = io::write_all(STDOUT_FILENO, replies);
-    if !written {
-        os::fail(b"replay: standard output");
+fn write_out(rt: &HostRuntime, replies: &[u8]) -> Result<(), Failure> {
+    match rt.stdout().write_all(replies) {
+        Ok(()) => Ok(()),
+        Err(reason) => Err(Failure::Output(reason)),
     }
-    written
 }
 
 // Reads once, after the bytes that are kept at the front of the input, and answers the records that are whole; at the
-// end of the input, the short one.
+// end of the input, the short one. Where a stream fails the heap is whole all the same.
 fn turn(
+    rt: &HostRuntime,
     memory: &mut [u8],
     books: &mut [u32],
     map: &mut [u64],
     input: &mut [u8],
     output: &mut [u8],
     kept: usize,
-) -> Next
+) -> Result<Next, Failure>
     requires { Lent memory.old books.old map.old input.old output.old × (kept < 16) }
-    ensures { Whole memory.new books.new map.new × NextKept result }
+    ensures { Whole memory.new books.new map.new × IfOk result NextKept }
 {
-    let got = libc::read(STDIN_FILENO, &mut input[kept..]);
-    if got < 0 {
-        os::fail(b"replay: standard input");
-        return Next::Stop;
-    }
+    let got = match rt.stdin().read(&mut input[kept..]) {
+        Ok(got) => got,
+        Err(reason) => return Err(Failure::Input(reason)),
+    };
     if got == 0 {
         let n = answer(memory, books, map, &input[..kept], output);
-        write_out(&output[..n]);
-        return Next::Stop;
+        write_out(rt, &output[..n])?;
+        return Ok(Next::Stop);
     }
-    let here = kept + io::count(got, &input[kept..]);
+    let here = kept + got;
     let n = answer_whole(memory, books, map, input, here, output);
-    if !write_out(&output[..n]) {
-        return Next::Stop;
-    }
-    Next::Read(here % 16)
+    write_out(rt, &output[..n])?;
+    Ok(Next::Read(here % 16))
 }
 
 // Turn after turn, to the end of the input. A proved loop has to end, and nothing says that the input does: so the
 // turns are counted down, from a number that no run uses up.
 fn replay_all(
+    rt: &HostRuntime,
     memory: &mut [u8],
     books: &mut [u32],
     map: &mut [u64],
     input: &mut [u8],
     output: &mut [u8],
-)
+) -> Result<(), Failure>
     requires { Lent memory.old books.old map.old input.old output.old }
 {
     let mut kept: usize = 0;
     let mut turns = u64::MAX;
     while turns > 0 {
-        let Next::Read(n) = turn(memory, books, map, input, output, kept) else {
-            return;
+        let Next::Read(n) = turn(rt, memory, books, map, input, output, kept)? else {
+            return Ok(());
         };
         kept = n;
         turns -= 1;
     }
+    Ok(())
+}
+
+// The status of a run: a stream that failed is told on standard error.
+fn told(rt: &HostRuntime, failure: &Failure) -> io::Result<()> {
+    match failure {
+        Failure::Input(reason) => eprintln!(rt; "replay: standard input: {reason}"),
+        Failure::Output(reason) => eprintln!(rt; "replay: standard output: {reason}"),
+    }
 }
 
 // The lengths are exact, so the format is done: the proof of what `replay_all` requires rests on it.
-fn main() {
+fn main(rt: HostRuntime) -> io::Result<ExitCode> {
     let mut memory = [0u8; MEMORY];
     let mut books = [0u32; BOOKS];
     let mut map = [0u64; MAP];
-    let mut input = io::large_buffer();
-    let mut output = io::large_buffer();
+    let mut input = [0u8; 65536];
+    let mut output = [0u8; 65536];
     heap::format(&memory, &mut books, &mut map, ARENAS, POOLS, EIGHT);
-    replay_all(&mut memory, &mut books, &mut map, &mut input, &mut output);
+    match replay_all(
+        &rt,
+        &mut memory,
+        &mut books,
+        &mut map,
+        &mut input,
+        &mut output,
+    ) {
+        Ok(()) => Ok(ExitCode::SUCCESS),
+        Err(failure) => {
+            told(&rt, &failure)?;
+            Ok(ExitCode::FAILURE)
+        }
+    }
 }
