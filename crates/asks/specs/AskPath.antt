@@ -1,12 +1,11 @@
 -- The path of an ask from a listed pool by the tests that its functions make, of which the rules' definitions are a
 -- chain.
 -- Assumes nothing.
-use Rattle.std.specs.Prelude.{◌≡◌, refl, Bool, true, false, not, ◌&&◌, ◌||◌, List, ℕ, ◌*◌, ◌≤◌, ◌<◌, leb, eqb}
+use Rattle.std.specs.Prelude.{◌≡◌, refl, Bool, true, false, not, ◌&&◌, ◌||◌, List, ℕ, ◌*◌, ◌≤◌, ◌<◌, leb, eqb, if◌then◌else◌}
 use Rattle.std.proofs.Common.{le-leb, eq-eqb, ne_eqb, leb-true}
 use Rattle.std.proofs.lemmas.Bool.{lt-leb}
 use Rattle.rules.specs.declared.AskPlan.{AskPlan}
 use Rattle.rules.specs.declared.AskPlan.TheVariants.{Damaged, Follow, Ready, Last}
-use Rattle.rules.specs.Say.{if◌then◌else◌}
 use Rattle.rules.specs.Books.{Heap, count, class, maxnextoffset, pool, none?, is_set, offset_of}
 use Rattle.rules.specs.Blocks.{size_of, last_start, is_start, block_no, link_at}
 use Rattle.rules.specs.Outcome.{outcome}
@@ -86,7 +85,8 @@ module _ (al A P : ℕ) (h : Heap) (c p s : ℕ) (q : Pool)
           → from_listed al A P h c p ≡ Damaged
       linked_wrong u n v = rw (listed_is, t, freeblock_is, u, ne_eqb l 0 n, v)
 
-      pub follows : spared h p s f ≡ true → (l ≡ 0 → ⊥) → spared h p s l ≡ true → from_listed al A P h c p ≡ Follow p f l
+      pub follows : spared h p s f ≡ true → (l ≡ 0 → ⊥) → spared h p s l ≡ true
+          → from_listed al A P h c p ≡ Follow p f l
       follows u n v = rw (listed_is, t, freeblock_is, u, ne_eqb l 0 n, v)
 
     -- which has no link, and its nextoffset is n

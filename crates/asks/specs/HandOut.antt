@@ -94,7 +94,8 @@ module _ (A n : ℕ) (q t : Pool) (b b' : List ℕ) (loaded : q ≡ pool_at A b 
   last_writes c b'' e left =
       record {
         same = λ m k. rw (left, stored, e, loaded)
-            (ap (λ (x : List ℕ). heap_of m (leave_by (pool_links A) (class_head c) (pool A b pool_next n) (pool A b pool_previous n) n x) k) (take_stored A n b 0)
+            (ap (λ (x : List ℕ). heap_of m (leave_by (pool_links A) (class_head c) (pool A b pool_next n) (pool A b pool_previous n) n x) k)
+            (take_stored A n b 0)
             ∙ ap (λ (x : List ℕ). heap_of m x k)
             (sym (pool_leaves_lem A (class_head c) (pool A b pool_next n) (pool A b pool_previous n) n _ (simp other_word) (simp other_word))));
       }

@@ -4,7 +4,15 @@ ghost use Rattle.std.specs.Prelude.{◌≡◌, ℕ, ◌+◌, ◌*◌, ◌<◌, �
 ghost use Rattle.rules.specs.Say.{◌▷◌};
 ghost use Rattle.rules.specs.Books.{at, alignment_of, put, on_books, put_word, usable_head, carve_mark, freed_head};
 ghost use Rattle.rules.specs.Books.{arena_word, arena};
-ghost use Rattle.rules.specs.Books.{freeblock, pool_next, class as pool_class, nextoffset, maxnextoffset, pool_word, pool};
+ghost use Rattle.rules.specs.Books.{
+  freeblock,
+  pool_next,
+  class as pool_class,
+  nextoffset,
+  maxnextoffset,
+  pool_word,
+  pool,
+};
 ghost use Rattle.rules.specs.Blocks.{last_start};
 ghost use Rattle.rules.specs.Lists.{arena_links};
 ghost use Rattle.rules.specs.Outcome.{heap_of, outcome};

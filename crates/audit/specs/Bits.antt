@@ -1,11 +1,11 @@
 -- A pool's set bits, word by word: how many there are, and that none is at or past a block.
 -- Assumes nothing.
-use Rattle.std.specs.Prelude.{◌≡◌, ◌≢◌, true, false, List, ℕ, zero, suc, ◌+◌, ◌*◌, ◌-◌, ◌/◌, ◌%◌, ◌^◌, ◌≤◌, ◌<◌, eqb}
+use Rattle.std.specs.Prelude.{◌≡◌, ◌≢◌, true, false, List, ℕ, zero, suc, ◌+◌, ◌*◌, ◌-◌, ◌/◌, ◌%◌, ◌^◌, ◌≤◌, ◌<◌, eqb, if◌then◌else◌}
 use Rattle.std.proofs.Common.{sym, ap, ◌∙◌, add-suc, add-zero, add-one, arith, shr-shr, shr_lt, eq-eqb, ne_eqb, eqb-true}
 use Rattle.std.proofs.Math.Nat.{zero-div}
 use Rattle.std.proofs.Math.Decide.{ℕ_discrete, dec_lt}
 use Rattle.std.specs.Int.Count.{ones_in}
-use Rattle.rules.specs.Say.{if◌then◌else◌, how_many}
+use Rattle.rules.specs.Say.{how_many}
 use Rattle.rules.specs.Books.{at, bit, is_set}
 use Rattle.rules.specs.Audit.{bits_below}
 use Rattle.sequences.specs.Update.{is_false}

@@ -1,9 +1,8 @@
 -- What a rule asks of one arena, and of one pool, by the rule's number.
 -- Assumes nothing.
-use Rattle.std.specs.Prelude.{◌≡◌, ◌≢◌, Bool, true, false, not, ◌&&◌, List, ℕ, ◌≤◌, leb, eqb}
+use Rattle.std.specs.Prelude.{◌≡◌, ◌≢◌, Bool, true, false, not, ◌&&◌, List, ℕ, ◌≤◌, leb, eqb, if◌then◌else◌}
 use Rattle.std.proofs.Common.{arith}
 use Rattle.std.proofs.lemmas.Bool.{eqb-false, not-true}
-use Rattle.rules.specs.Say.{if◌then◌else◌}
 use Rattle.rules.specs.Books.{free_pools, arena_next, arena, none?, linked}
 use Rattle.rules.specs.Audit.{
   arena_keeps2,

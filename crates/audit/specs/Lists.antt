@@ -74,12 +74,14 @@ module _ (A : ℕ) (b arena-homes : List ℕ) (F : Filled (arena_home_of b) A ar
       holds_same (arena_word arena_next) (arena_word arena_previous) _ _ member (λ y. eqb (at arena-homes y) head) A b true
       (λ y. omega arith) (λ y. omega arith) (λ y u. ap (λ (h : ℕ). eqb h head) (F y u) ∙ sym (same y)) head
 
-  pub usable_is : holds (next_at arena_links) (previous_at arena_links) (λ y. eqb (at arena-homes y) usable_head) A b true
+  pub usable_is : holds (next_at arena_links) (previous_at arena_links) (λ y. eqb (at arena-homes y) usable_head) A b
+      true
       usable_head
       ≡ arena_list A b (usable_member b) usable_head
   usable_is = arena_list_lem (usable_member b) usable_head (λ a. (arena_home_is b a).usable)
 
-  pub unused_is : holds (next_at arena_links) (previous_at arena_links) (λ y. eqb (at arena-homes y) unused_head) A b true
+  pub unused_is : holds (next_at arena_links) (previous_at arena_links) (λ y. eqb (at arena-homes y) unused_head) A b
+      true
       unused_head
       ≡ arena_list A b (unused_member b) unused_head
   unused_is = arena_list_lem (unused_member b) unused_head (λ a. (arena_home_is b a).unused)

@@ -1,6 +1,6 @@
 -- One turn of the audit's walks: of a test that every number passes, of a count, of a list and of a chain.
 -- Assumes nothing.
-use Rattle.std.specs.Prelude.{◌≡◌, ◌≢◌, Bool, true, false, ◌&&◌, List, leb, ltb, eqb}
+use Rattle.std.specs.Prelude.{◌≡◌, ◌≢◌, Bool, true, false, ◌&&◌, List, ltb, eqb, if◌then◌else◌}
 use Rattle.std.proofs.Math.Path.{refl, ap}
 use Rattle.std.proofs.Common.{◌∙◌, add-one}
 use Rattle.std.proofs.Math.Bool.{not}
@@ -8,7 +8,7 @@ use Prim.Native.Nat.{ℕ, zero, suc, ◌+◌, ◌-◌, ◌≤◌, ◌<◌}
 use Rattle.std.proofs.Math.Decide.{ℕ_discrete, dec_lt}
 use native.Mathlib.Omega.{arith}
 use borrow.Author.Tests.{ne_eqb, le-leb, lt-leb}
-use Rattle.rules.specs.Say.{if◌then◌else◌, all_below, how_many}
+use Rattle.rules.specs.Say.{all_below, how_many}
 use Rattle.rules.specs.Books.{at, none?, linked, offset_of}
 use Rattle.rules.specs.Blocks.{is_start, block_no, link_at}
 use Rattle.rules.specs.Audit.{leads, meets, holds, is_dead, chained}

@@ -1,8 +1,8 @@
 // The walk of a list (02, W-201, rule 6), over the records of the pools or of the arenas: it meets as many members as
 // the list is to have, and ends. Record 0's next word is `base`, a record's previous word comes after its next, and a
 // link to record n is n + 1. `homes` has the head of the list that each record is to be on.
-ghost use Rattle.std.specs.Prelude.{◌≡◌, ◌*◌, ◌+◌, ◌^◌, ◌<◌, ◌≤◌, eqb, length};
-ghost use Rattle.rules.specs.Say.{if◌then◌else◌, how_many};
+ghost use Rattle.std.specs.Prelude.{◌≡◌, ◌*◌, ◌+◌, ◌^◌, ◌<◌, ◌≤◌, eqb, length, if◌then◌else◌};
+ghost use Rattle.rules.specs.Say.{how_many};
 ghost use Rattle.rules.specs.Books.{at};
 ghost use Rattle.rules.specs.Lists.{next_at, previous_at};
 ghost use Rattle.rules.specs.Audit.{leads, holds};

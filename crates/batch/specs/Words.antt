@@ -35,7 +35,7 @@ laid_out (s ∷ k ∷ []) = refl
 laid_out (s ∷ k ∷ o ∷ words) = ap (λ (l : List ℕ). s ∷ k ∷ o ∷ l) (laid_out words)
 
 -- how many are whole
-entries_are : (words : List ℕ) → length words / 3 ≡ length (requests_in words)
+pub entries_are : (words : List ℕ) → length words / 3 ≡ length (requests_in words)
 unfolding requests_in
 entries_are [] = refl
 entries_are (s ∷ []) = refl

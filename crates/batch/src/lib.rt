@@ -106,8 +106,7 @@ pub fn ask_rows(memory: &mut [u8], books: &mut [u32], map: &mut [u64], row: &mut
 }
 
 // Ask all: each request of the row is the ask for its size, on what those before it left; a refusal does not stop the
-// rest. The borrow checker has no plan for a row of structs: its plan is written by hand (proofs/ask_all), and so the
-// loop's body is one line, and no branch stands beside the loop.
+// rest.
 pub fn ask_all(
     memory: &mut [u8],
     books: &mut [u32],

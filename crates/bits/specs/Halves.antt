@@ -56,7 +56,8 @@ pub first_set : (k w : ℕ) → count_trailing_zeros k w < k → bit w (count_tr
 first_set zero w h = absurd (not-suc-le-zero h)
 first_set (suc k) w h = go (parity w) (first_set k (w / 2))
   where
-    go : (w % 2 ≡ 1) ⊎ (w % 2 ≡ 0) → (count_trailing_zeros k (w / 2) < k → bit (w / 2) (count_trailing_zeros k (w / 2)) ≡ 1)
+    go : (w % 2 ≡ 1) ⊎ (w % 2 ≡ 0) → (count_trailing_zeros k (w / 2) < k
+        → bit (w / 2) (count_trailing_zeros k (w / 2)) ≡ 1)
         → bit w (count_trailing_zeros (suc k) w) ≡ 1
     go (inl e) rest = ap (bit w) (first_odd k w e) ∙ bit_zero w ∙ e
     go (inr e) rest =

@@ -1,13 +1,12 @@
 -- The laws of the live map: what every block's bit is after one is put, and of a pool that has no bit set. The map is
 -- a list of words, eight for each pool.
 -- Assumes nothing.
-use Rattle.std.specs.Prelude.{◌≡◌, refl, Bool, true, false, ◌&&◌, List, ℕ, zero, suc, ◌+◌, ◌*◌, ◌/◌, ◌%◌, ◌<◌, eqb, length, set}
+use Rattle.std.specs.Prelude.{◌≡◌, refl, Bool, true, false, ◌&&◌, List, ℕ, zero, suc, ◌+◌, ◌*◌, ◌/◌, ◌%◌, ◌<◌, eqb, length, set, if◌then◌else◌}
 use Rattle.std.proofs.Common.{sym, ap, ◌∙◌, not-suc-le-zero, arith, length-set, get_or-set_same, get_or-set_other, eq-eqb, ne_eqb, eqb-true}
 use Rattle.std.proofs.lemmas.Bool.{false≢true}
 use Rattle.std.proofs.Math.Nat.{add-zero}
 use Rattle.std.proofs.Math.Decide.{dec_lt, ℕ_discrete}
 use Rattle.std.proofs.Math.Seq.{set_out}
-use Rattle.rules.specs.Say.{if◌then◌else◌}
 use Rattle.rules.specs.Books.{at, bit, put_bit, map_word, is_set, put_map_bit}
 use Rattle.bits.specs.Bit.{no_bit, put_same, put_other}
 
@@ -16,7 +15,8 @@ pub length_put : (m : List ℕ) (n k d : ℕ) → length (put_map_bit n k d m) �
 length_put m n k d = length-set m (map_word n k) _
 
 -- the block whose bit is put has it
-pub put_same_block : (m : List ℕ) (n k d : ℕ) → d < 2 → map_word n k < length m → is_set (put_map_bit n k d m) n k ≡ eqb d 1
+pub put_same_block : (m : List ℕ) (n k d : ℕ) → d < 2 → map_word n k < length m
+    → is_set (put_map_bit n k d m) n k ≡ eqb d 1
 put_same_block m n k d hd l =
     ap (λ (x : ℕ). eqb (bit x (k % 64)) 1) (get_or-set_same m (map_word n k) _ 0 l)
     ∙ ap (λ (x : ℕ). eqb x 1) (put_same (at m (map_word n k)) (k % 64) d hd)
@@ -44,7 +44,8 @@ pub put_block : (m : List ℕ) (n k d y j : ℕ) → d < 2 → k < 512 → j < 5
 put_block m n k d y j hd hk hj l = go (ℕ_discrete y n) (ℕ_discrete j k)
   where
     go : Dec (y ≡ n) → Dec (j ≡ k)
-        → is_set (put_map_bit n k d m) y j ≡ (if eqb y n then (if eqb j k then eqb d 1 else is_set m y j) else is_set m y j)
+        → is_set (put_map_bit n k d m) y j ≡ (if eqb y n then (if eqb j k then eqb d 1 else is_set m y j) else is_set
+        m y j)
     go (yes p) (yes q) = rw (eq-eqb y n p, eq-eqb j k q, p, q) (put_same_block m n k d hd l)
     go (yes p) (no q) = rw (eq-eqb y n p, ne_eqb j k q) (put_other_block m n k d y j hd hk hj (λ _ e. q e))
     go (no p) t = rw (ne_eqb y n p) (put_other_block m n k d y j hd hk hj (λ e _. p e))

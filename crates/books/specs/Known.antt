@@ -1,11 +1,10 @@
 -- What is known of a heap, and of an offset, once the tests of 01's numbers let them pass.
 -- Assumes nothing.
-use Rattle.std.specs.Prelude.{◌≡◌, ◌≢◌, Bool, ◌&&◌, List, ℕ, ◌+◌, ◌*◌, ◌/◌, ◌%◌, ◌≤◌, ◌<◌, leb, ltb, eqb, length}
+use Rattle.std.specs.Prelude.{◌≡◌, ◌≢◌, Bool, ◌&&◌, List, ℕ, ◌+◌, ◌*◌, ◌/◌, ◌%◌, ◌≤◌, ◌<◌, leb, ltb, eqb, length, if◌then◌else◌}
 use Rattle.std.proofs.Math.Path.{refl}
 use Rattle.std.proofs.Math.Bool.{true, false}
 use Rattle.std.proofs.Common.{mul-le-mul, arith, leb-true, ltb-true, eqb-true}
 use Rattle.rules.specs.Books.{Heap, at, in_range, exact, memory_length, books_length, map_length, is_set}
-use Rattle.rules.specs.Say.{if◌then◌else◌}
 use Rattle.rules.specs.Numbers.{size_number}
 use Rattle.rules.specs.Blocks.{
   largest,
@@ -142,7 +141,8 @@ module _ (al A P : ℕ) (b m : List ℕ) (o k : ℕ) (e : at_start al A P b o �
   unfolding live block_at
   when_set f = rw (e, ← q, f)
 
-  pub when_clear : is_set m (o / 4096) k ≡ false → (n : ℕ) → n ≡ dead_number al A P b o → 512 + n ≡ block_at al A P b m o
+  pub when_clear : is_set m (o / 4096) k ≡ false → (n : ℕ) → n ≡ dead_number al A P b o
+      → 512 + n ≡ block_at al A P b m o
   unfolding live block_at
   when_clear f n d = rw (e, ← q, f, d)
 

@@ -1,8 +1,8 @@
 -- The laws of leaving and joining a list in the books: the words that they read, and those that they leave as they are.
 -- Assumes nothing.
-use Rattle.std.specs.Prelude.{◌≡◌, refl, ◌≢◌, Bool, true, false, not, ◌&&◌, List, [], ◌∷◌, ℕ, zero, suc, ◌+◌, ◌*◌, ◌≤◌, ◌<◌, leb, length, get_or}
+use Rattle.std.specs.Prelude.{◌≡◌, refl, ◌≢◌, Bool, true, false, not, ◌&&◌, List, [], ◌∷◌, ℕ, zero, suc, ◌+◌, ◌*◌, ◌≤◌, ◌<◌, leb, length, get_or, if◌then◌else◌}
 use Rattle.std.proofs.Common.{ap₂, ap, ◌∙◌, arith, length-set, get_or-set_other, leb-true}
-use Rattle.rules.specs.Say.{if◌then◌else◌, only}
+use Rattle.rules.specs.Say.{only}
 use Rattle.rules.specs.Books.{at, put, arena_word, arena, pool_next, pool_previous, pool, none?, linked}
 use Rattle.rules.specs.Lists.{next_at, previous_at, leave_by, join_by, leave, may_leave, pool_links}
 use Rattle.books.specs.Tests.{both}

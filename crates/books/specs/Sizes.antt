@@ -1,13 +1,12 @@
 -- What is known of an edition's alignment, 8 or 16, of block sizes and capacities at it, and of how many blocks a pool
 -- is to have on its chain.
 -- Assumes nothing.
-use Rattle.std.specs.Prelude.{◌≡◌, refl, ◌⊎◌, Bool, true, false, not, ◌&&◌, List, ℕ, ◌+◌, ◌*◌, ◌-◌, ◌/◌, ◌^◌, ◌≤◌, ◌<◌, leb, ltb}
+use Rattle.std.specs.Prelude.{◌≡◌, refl, ◌⊎◌, Bool, true, false, not, ◌&&◌, List, ℕ, ◌+◌, ◌*◌, ◌-◌, ◌/◌, ◌^◌, ◌≤◌, ◌<◌, leb, ltb, if◌then◌else◌}
 use Rattle.std.proofs.Common.{inl, inr, mod-lt, mul-add, mul-one, div-lt_iff_lt-mul, le-div_iff_mul-le, div-mul-le_self, arith, ne_eqb, le-leb}
 use Rattle.std.proofs.Math.Nat.{div-add-mod}
 use Rattle.std.proofs.Math.Decide.{ℕ_discrete}
 use Rattle.std.specs.Int.Bits.{bit_or, or_step, or_zero_r}
 use Rattle.std.proofs.lemmas.Bool.{lt-leb}
-use Rattle.rules.specs.Say.{if◌then◌else◌}
 use Rattle.rules.specs.Books.{alignment_of, class, pool, carved}
 use Rattle.rules.specs.Blocks.{class_of, size_of, last_class, capacity}
 use Rattle.rules.specs.Audit.{set_bits, in_use, blocks_of, has_spare, least_on_chain}

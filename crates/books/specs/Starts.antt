@@ -1,7 +1,22 @@
 -- The laws of block starts, once for every block size.
 -- Assumes nothing.
 use Rattle.std.specs.Prelude.{◌≡◌, refl, Bool, true, false, ◌&&◌, ◌||◌, ℕ, ◌+◌, ◌*◌, ◌-◌, ◌%◌, ◌≤◌, ◌<◌, leb, eqb}
-use Rattle.std.proofs.Common.{sym, ap, ◌∙◌, div-add-mod', div-mul-le_self, le-div_iff_mul-le, mul-le-mul_left, mul-le-mul_right, mul-div_cancel, arith, leb-true, eqb-true, eq-eqb, le-leb}
+use Rattle.std.proofs.Common.{
+  sym,
+  ap,
+  ◌∙◌,
+  div-add-mod',
+  div-mul-le_self,
+  le-div_iff_mul-le,
+  mul-le-mul_left,
+  mul-le-mul_right,
+  mul-div_cancel,
+  arith,
+  leb-true,
+  eqb-true,
+  eq-eqb,
+  le-leb,
+}
 use Rattle.std.proofs.Math.Bool.{or-true}
 use Rattle.std.proofs.Math.Nat.{mul-mod_left}
 use Rattle.std.proofs.Math.Decide.{dec_lt}

@@ -1,9 +1,8 @@
 -- What the answer to a test says.
 -- Assumes nothing.
-use Rattle.std.specs.Prelude.{◌≡◌, refl, Bool, true, false, not, ◌&&◌, ◌||◌}
+use Rattle.std.specs.Prelude.{◌≡◌, refl, Bool, true, false, not, ◌&&◌, ◌||◌, if◌then◌else◌}
 use Rattle.std.proofs.Common.{sym, ◌∙◌, true≢false}
 use Rattle.std.proofs.lemmas.Bool.{not-true, not-false}
-use Rattle.rules.specs.Say.{if◌then◌else◌}
 
 -- of a test of two parts that holds, each holds
 pub both : (t u : Bool) → t && u ≡ true → (t ≡ true) × (u ≡ true)

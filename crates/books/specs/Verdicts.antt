@@ -1,6 +1,6 @@
 -- A verdict of the audit is known by its number: no two have one.
 -- Assumes nothing.
-use Rattle.std.specs.Prelude.{◌≡◌, refl, ℕ, eqb}
+use Rattle.std.specs.Prelude.{◌≡◌, refl, ℕ, eqb, if◌then◌else◌}
 use Rattle.rules.specs.declared.Verdict.{Verdict}
 use Rattle.rules.specs.declared.Verdict.TheVariants.{
   Yes,
@@ -14,7 +14,6 @@ use Rattle.rules.specs.declared.Verdict.TheVariants.{
   Blocks,
   Order,
 }
-use Rattle.rules.specs.Say.{if◌then◌else◌}
 use Rattle.rules.specs.Audit.{number_of}
 
 abbrev pub verdict_of : ℕ → Verdict

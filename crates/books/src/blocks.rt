@@ -12,7 +12,8 @@ pub const LARGEST: usize = 512;
 // The class of a size. Only a class and its size know the edition: the rest goes by a block's size.
 pub fn class_of(edition: usize, n: usize) -> usize
     requires { (edition ≤ 1) × (1 ≤ n) × (n ≤ 512) }
-    ensures { (result ≡ class_of (alignment_of edition) n) × (result ≤ last_class (alignment_of edition)) × (result ≤ 63) }
+    ensures { (result ≡ class_of (alignment_of edition) n)
+        × (result ≤ last_class (alignment_of edition)) × (result ≤ 63) }
 {
     (n - 1) / 8 >> edition
 }
@@ -21,7 +22,8 @@ pub fn class_of(edition: usize, n: usize) -> usize
 // not from the class, because that is three instructions where `size_of` is six.
 pub fn size_for(edition: usize, n: usize) -> usize
     requires { (edition ≤ 1) × (1 ≤ n) × (n ≤ 512) }
-    ensures { (result ≡ size_of (alignment_of edition) (class_of (alignment_of edition) n)) × (8 ≤ result) × (result ≤ 512) }
+    ensures { (result ≡ size_of (alignment_of edition) (class_of (alignment_of edition) n))
+        × (8 ≤ result) × (result ≤ 512) }
 {
     8 * (((n - 1) / 8 | edition) + 1)
 }

@@ -1,8 +1,8 @@
 // Lists threaded through the records: leaving one, joining it at the front, going in after a member, and what the rules
 // of number 6 ask of their links. Member 0's next word is `base`, a member's previous word comes after its next, and a
 // link to member n is n + 1.
-ghost use Rattle.std.specs.Prelude.{◌≡◌, not, ◌+◌, ◌*◌, ◌^◌, ◌<◌, ◌≤◌, length};
-ghost use Rattle.rules.specs.Say.{if◌then◌else◌, only};
+ghost use Rattle.std.specs.Prelude.{◌≡◌, not, ◌+◌, ◌*◌, ◌^◌, ◌<◌, ◌≤◌, length, if◌then◌else◌};
+ghost use Rattle.rules.specs.Say.{only};
 ghost use Rattle.rules.specs.Books.{at, put, none?, link_to, linked};
 ghost use Rattle.rules.specs.Lists.{next_at, previous_at, leave_by, join_by, leave, join, go_in_after};
 ghost use Rattle.rules.specs.Lists.{may_leave, may_join, pool_links};

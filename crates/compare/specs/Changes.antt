@@ -1,17 +1,45 @@
 -- The live blocks of each class, counted pool by pool, and the changes of all classes.
 -- Assumes nothing.
-use Rattle.std.specs.Prelude.{◌≡◌, refl, Bool, true, false, List, [], ◌∷◌, ◌++◌, ℕ, zero, suc, ◌+◌, ◌*◌, ◌-◌, ◌/◌, ◌^◌, ◌≤◌, ◌<◌, leb, eqb, ℤ, pos, neg_ℤ, ◌-ℤ◌, set}
+use Rattle.std.specs.Prelude.{
+  ◌≡◌,
+  refl,
+  Bool,
+  true,
+  false,
+  List,
+  [],
+  ◌∷◌,
+  ◌++◌,
+  ℕ,
+  zero,
+  suc,
+  ◌+◌,
+  ◌*◌,
+  ◌-◌,
+  ◌/◌,
+  ◌^◌,
+  ◌≤◌,
+  ◌<◌,
+  leb,
+  eqb,
+  ℤ,
+  pos,
+  neg_ℤ,
+  ◌-ℤ◌,
+  set,
+  if◌then◌else◌,
+}
 use Rattle.std.proofs.Common.{sym, ap, ◌∙◌, zero-add, add-one, arith, length-set, length-append, get_or-set_same, get_or-set_other, SFits, to_z}
 use Rattle.std.proofs.Math.Decide.{ℕ_discrete, dec_le}
 use Rattle.std.proofs.Math.ListN.{length}
 use Rattle.std.specs.Int.Signed.{mag}
 use Rattle.std.specs.Int.{w32}
 use borrow.Author.Tests.{eq-eqb, ne_eqb, le-leb, lt-leb, le-ltb, lt-ltb}
-use Rattle.rules.specs.Say.{if◌then◌else◌, how_many, total}
-use Rattle.rules.specs.Books.{at, is_set, pools, class, pool, offset_of}
+use Rattle.rules.specs.Say.{how_many, total}
+use Rattle.rules.specs.Books.{at, is_set, class, pool, offset_of}
 use Rattle.rules.specs.Blocks.{size_of, last_class, start_of, capacity}
 use Rattle.rules.specs.View.{roll_blocks, roll_pool}
-use Rattle.rules.specs.Compare.{live_in_pool, change_from}
+use Rattle.rules.specs.Compare.{change_from}
 use Rattle.books.specs.Sizes.{Aligned, capacity_high, class_low}
 use Rattle.sequences.specs.Counting.{many_le}
 use Rattle.loops.specs.Word.{split}

@@ -1,7 +1,6 @@
 -- The kind of an offset, by where it is live: in a pool whose blocks have one size in both heaps, or another in each.
 -- Assumes nothing.
-use Rattle.std.specs.Prelude.{Bool, not, ◌&&◌, List, [], ◌∷◌, ℕ, ◌%◌, eqb}
-use Rattle.rules.specs.Say.{if◌then◌else◌}
+use Rattle.std.specs.Prelude.{Bool, not, ◌&&◌, List, [], ◌∷◌, ℕ, ◌%◌, eqb, if◌then◌else◌}
 use Rattle.rules.specs.Books.{bit, is_set}
 use Rattle.rules.specs.Blocks.{is_start, block_no}
 use Rattle.rules.specs.Compare.{same_bytes}

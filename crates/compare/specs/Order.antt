@@ -1,11 +1,11 @@
 -- The order of the tests: where compare stops, and what it leaves where it passes them all. And what the tests of both
 -- heaps say together.
 -- Assumes nothing.
-use Rattle.std.specs.Prelude.{◌≡◌, refl, true, ◌&&◌, List, ◌++◌, ℕ, zero, suc, ◌+◌, ◌*◌, ◌/◌, ◌≤◌, ◌<◌, eqb, ℤ, length, drop}
+use Rattle.std.specs.Prelude.{◌≡◌, refl, true, ◌&&◌, List, ◌++◌, ℕ, zero, suc, ◌+◌, ◌*◌, ◌/◌, ◌≤◌, ◌<◌, eqb, ℤ, length, drop, if◌then◌else◌}
 use Rattle.std.proofs.Common.{sym, ap, ap₂, ◌∙◌, arith}
 use Rattle.std.proofs.lemmas.List.Edits.{sets, sets-eq}
 use borrow.Author.Tests.{eqb-true, le-ltb, lt-ltb}
-use Rattle.rules.specs.Say.{if◌then◌else◌, total}
+use Rattle.rules.specs.Say.{total}
 use Rattle.rules.specs.Books.{Heap, alignment_of}
 use Rattle.rules.specs.Blocks.{last_class}
 use Rattle.rules.specs.Outcome.{passing}

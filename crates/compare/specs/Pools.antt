@@ -1,13 +1,13 @@
 -- A pool in both heaps: the size of its blocks in each, and so the kind of each of its offsets.
 -- Assumes nothing.
-use Rattle.std.specs.Prelude.{◌≡◌, Bool, ◌&&◌, List, ◌++◌, ◌⊎◌, ℕ, ◌+◌, ◌*◌, ◌-◌, ◌/◌, ◌%◌, ◌≤◌, ◌<◌, leb, eqb, length}
+use Rattle.std.specs.Prelude.{◌≡◌, Bool, ◌&&◌, List, ◌++◌, ◌⊎◌, ℕ, ◌+◌, ◌*◌, ◌-◌, ◌/◌, ◌%◌, ◌≤◌, ◌<◌, leb, eqb, length, if◌then◌else◌}
 use Rattle.std.proofs.Math.Path.{refl}
 use Rattle.std.proofs.Common.{sym, ap, ◌∙◌, inl, inr}
 use Rattle.std.proofs.Math.Bool.{true, false, not}
 use Rattle.std.proofs.Math.Nat.{suc-mul, mul-le-mul_right, div-mul-le_self}
 use native.Mathlib.Omega.{arith}
 use borrow.Author.Tests.{eq-eqb, ne_eqb, eqb-true, lt-ltb, leb-true}
-use Rattle.rules.specs.Say.{if◌then◌else◌, listing}
+use Rattle.rules.specs.Say.{listing}
 use Rattle.rules.specs.Books.{Heap, at, memory_length, is_set, alignment_of, class, pool}
 use Rattle.rules.specs.Blocks.{size_of, last_class, start_of, is_start, block_no, capacity, size_at, live}
 use Rattle.rules.specs.Numbers.{block_size}

@@ -1,6 +1,6 @@
 -- A map word in both heaps: what is said of each bit that is set in either, and the blocks of a pool word by word.
 -- Assumes nothing.
-use Rattle.std.specs.Prelude.{◌≡◌, Bool, true, false, ◌&&◌, ◌⊎◌}
+use Rattle.std.specs.Prelude.{◌≡◌, Bool, true, false, ◌&&◌, ◌⊎◌, if◌then◌else◌}
 use Rattle.std.proofs.Math.Path.{refl, ap, ap₂}
 use Rattle.std.proofs.Common.{sym, ◌∙◌, inl, inr, add-mul, div-mul-le_self, mul-le-mul_right, arith, shr-shr, eq-eqb, ne_eqb}
 use mathlib.Core.List.{List, [], ◌++◌}
@@ -10,7 +10,6 @@ use Rattle.std.proofs.Math.Numerals.{add-one}
 use Rattle.std.specs.Int.Bits.{bit_or, or_step}
 use Rattle.std.proofs.lemmas.Nat.{or_shr}
 use Rattle.std.proofs.Math.Dec.{eqb}
-use Rattle.rules.specs.Say.{if◌then◌else◌}
 use Rattle.rules.specs.Books.{at, bit, is_set, offset_of}
 use Rattle.rules.specs.Blocks.{start_of, capacity}
 use Rattle.books.specs.Starts.{number_is}

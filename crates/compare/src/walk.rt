@@ -1,8 +1,8 @@
 // The walk through both heaps: each offset that differs, by rising offset, is noted in the list or only counted. A pool
 // whose blocks have one size goes from set bit to set bit of both maps. What is the second heap's ends in 2.
-ghost use Rattle.std.specs.Prelude.{◌≡◌, true, false, ◌+◌, ◌*◌, ◌%◌, ◌≤◌, ◌<◌, length};
+ghost use Rattle.std.specs.Prelude.{◌≡◌, true, false, ◌+◌, ◌*◌, ◌%◌, ◌≤◌, ◌<◌, length, if◌then◌else◌};
 ghost use Rattle.std.specs.Int.Bits.{bit_or};
-ghost use Rattle.rules.specs.Say.{if◌then◌else◌, listing};
+ghost use Rattle.rules.specs.Say.{listing};
 ghost use Rattle.rules.specs.Blocks.{capacity};
 ghost use Rattle.rules.specs.Outcome.{heap_of};
 ghost use Rattle.rules.specs.Compare.{kind_at};

@@ -69,8 +69,7 @@ pub extern "C" fn heskavern_ask(
     }
 }
 
-// An answer with an offset, in that layout. A function of its own where the plan of a call is written by hand; the
-// other calls lay their answer out themselves, and need no proof file.
+// An answer with an offset, in that layout.
 fn in_c(answered: Answer) -> HeskavernAnswer
     ensures { answer_in result ≡ answered }
 {
@@ -80,8 +79,7 @@ fn in_c(answered: Answer) -> HeskavernAnswer
     }
 }
 
-// Ask all: each request of the row is the ask for its size, one after the other; the value is 0. Its plan is written by
-// hand, as that of the call which it passes on.
+// Ask all: each request of the row is the ask for its size, one after the other; the value is 0.
 #[unsafe(no_mangle)]
 pub extern "C" fn heskavern_ask_all(
     memory: &mut [u8],

@@ -154,7 +154,8 @@ module _ (h : Heap) (row : List Request) where
       not_zero (inr e) = absurd (omega arith)
 
       go : (k : ℕ) → Low (in_order k 0 0 (room_number (length row) most_entries))
-          → passing (in_order k (size_number n) 0 0) (λ j. refused j h) (ask_step (alignment h) (arenas h) (pools h) h n)
+          → passing (in_order k (size_number n) 0 0) (λ j. refused j h)
+          (ask_step (alignment h) (arenas h) (pools h) h n)
           ≡ refused (in_order k 0 0 (room_number (length row) most_entries)) h
       go zero l =
           absurd (either (λ (k : ℕ). Low k → ⊥) (ltb most_entries (length row)) 7 0 (λ _. not_seven) (λ _. not_zero) l)

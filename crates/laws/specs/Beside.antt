@@ -1,6 +1,6 @@
 -- W-212, over any two heaps at all: what the list of compare says, by 01's live test and by what view shows.
 -- Assumes nothing.
-use Rattle.std.specs.Prelude.{◌≡◌, ◌≢◌, ◌↔◌, ◌⊎◌, Bool, ◌&&◌, ℕ, zero, suc, ◌+◌, ◌*◌, ◌≤◌, ◌<◌, eqb, ℤ, pos, neg_ℤ, drop}
+use Rattle.std.specs.Prelude.{◌≡◌, ◌≢◌, ◌↔◌, ◌⊎◌, Bool, ◌&&◌, ℕ, zero, suc, ◌+◌, ◌*◌, ◌≤◌, ◌<◌, eqb, ℤ, pos, neg_ℤ, drop, cond, if◌then◌else◌}
 use Rattle.std.proofs.Math.Path.{refl, ap, subst}
 use Rattle.std.proofs.Common.{sym, ap₂, ◌∙◌, inl, arith, ext_get_or}
 use Rattle.std.proofs.Math.Logic.{inr}
@@ -10,7 +10,7 @@ use Rattle.std.proofs.Math.Decide.{ℕ_discrete}
 use Rattle.std.proofs.Math.ListN.{length}
 use Rattle.std.proofs.Math.Seq.{get_or-take, get_or-drop}
 use borrow.Author.Tests.{eq-eqb, ne_eqb, eqb-true, eqb-false, not-false}
-use Rattle.rules.specs.Say.{if◌then◌else◌, all_below, listing}
+use Rattle.rules.specs.Say.{all_below, listing}
 use Rattle.rules.specs.Books.{Heap, at, memory_length, arenas, pools, edition, alignment_of, alignment}
 use Rattle.rules.specs.Blocks.{last_class, class_at}
 use Rattle.rules.specs.View.{part}
@@ -177,13 +177,13 @@ module _ (first second : Heap) where
     -- what each kind says, by its number
     abbrev Said : ℕ → Type 0
     Said k =
-        if eqb k 1 then (is_live first o ≡ true) × (is_live second o ≡ false)
-        else if eqb k 2 then (is_live first o ≡ false) × (is_live second o ≡ true)
-        else if eqb k 3 then (is_live first o ≡ true) × (is_live second o ≡ true)
-        × (block_size first o ≢ block_size second o)
-        else if eqb k 4 then (is_live first o ≡ true) × (is_live second o ≡ true)
-        × (block_size first o ≡ block_size second o) × (view first o ≢ view second o)
-        else Same o
+        cond (eqb k 1) ((is_live first o ≡ true) × (is_live second o ≡ false))
+        (cond (eqb k 2) ((is_live first o ≡ false) × (is_live second o ≡ true))
+        (cond (eqb k 3) ((is_live first o ≡ true) × (is_live second o ≡ true)
+        × (block_size first o ≢ block_size second o))
+        (cond (eqb k 4) ((is_live first o ≡ true) × (is_live second o ≡ true)
+        × (block_size first o ≡ block_size second o) × (view first o ≢ view second o))
+        (Same o))))
 
     -- and that is so of an offset's kind
     said : Said (kind_at first second o)

@@ -1,7 +1,7 @@
 -- The calls of 01 over a sound heap: the tests of 1 and 2 pass, ask and give back do the plain heap's step, which is
 -- never damage, and view shows what is held; and what they leave to be held.
 -- Assumes nothing.
-use Rattle.std.specs.Prelude.{◌≡◌, ◌≢◌, ◌⊎◌, Bool, ◌&&◌, List, [], ◌∷◌, ℕ, ◌+◌, ◌/◌, ◌≤◌, leb, ltb, eqb}
+use Rattle.std.specs.Prelude.{◌≡◌, ◌≢◌, ◌⊎◌, Bool, ◌&&◌, List, [], ◌∷◌, ℕ, ◌+◌, ◌/◌, ◌≤◌, leb, ltb, eqb, if◌then◌else◌}
 use Rattle.std.proofs.Math.Path.{refl}
 use Rattle.std.proofs.Common.{◌∙◌, inl, inr, arith}
 use Rattle.std.proofs.Math.Bool.{true, false}
@@ -11,7 +11,6 @@ use Rattle.rules.specs.declared.AskPlan.{AskPlan}
 use Rattle.rules.specs.declared.AskPlan.TheVariants.{NoRoom}
 use Rattle.rules.specs.declared.BackPlan.{BackPlan}
 use Rattle.rules.specs.declared.BackPlan.TheVariants.{Joins, Stays, Empties, Moves, Returns, Releases}
-use Rattle.rules.specs.Say.{if◌then◌else◌}
 use Rattle.rules.specs.Books.{Heap, arenas, pools, alignment}
 use Rattle.rules.specs.Blocks.{
   class_of,
@@ -62,7 +61,7 @@ use Rattle.sound.specs.Plain.{
 use Rattle.sound.specs.Sound.{Sound}
 use Rattle.sound.specs.Grounds.{shape_zero}
 use Rattle.sound.specs.Paths.{Asked, Backed}
-use Rattle.sound.specs.Emptied.{back_any}
+use Rattle.sound.proofs.Emptied.{back_any}
 use Rattle.sound.specs.Sources.{ask_any}
 use Rattle.laws.specs.Holding.{
   LiveAt,

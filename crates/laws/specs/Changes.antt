@@ -1,7 +1,7 @@
 -- W-212, over any two heaps at all: the changes in live blocks that compare gives, class by class. They add up to the
 -- difference of the two roll counts, because each block that roll call lists is of one class.
 -- Assumes nothing.
-use Rattle.std.specs.Prelude.{◌≡◌, ◌↔◌, ◌⊎◌, Bool, ◌&&◌, List, [], ◌∷◌, leb, eqb, ℤ, ◌+ℤ◌, ◌-ℤ◌}
+use Rattle.std.specs.Prelude.{◌≡◌, ◌↔◌, ◌⊎◌, Bool, ◌&&◌, List, [], ◌∷◌, leb, eqb, ℤ, ◌+ℤ◌, ◌-ℤ◌, if◌then◌else◌}
 use Rattle.std.proofs.Math.Path.{refl, sym, ap, ap₂}
 use Rattle.std.proofs.Common.{◌∙◌, mul-add, mul-one}
 use Rattle.std.proofs.Math.Logic.{inl, inr}
@@ -13,7 +13,7 @@ use Rattle.std.proofs.Math.Dec.{ltb}
 use Rattle.std.proofs.Math.IntN.{pos, neg_ℤ, nat_abs, +ℤ_assoc, +ℤ_comm, +ℤ_idl, +ℤ_idr, -ℤ-+ℤ_cancel, neg_ℤ-+ℤ, neg_ℤ-neg_ℤ}
 use Rattle.std.proofs.Math.ListN.{length, length-append}
 use borrow.Author.Tests.{eq-eqb, ne_eqb, le-leb, lt-leb, lt-ltb, le-ltb}
-use Rattle.rules.specs.Say.{if◌then◌else◌, how_many, total, listing}
+use Rattle.rules.specs.Say.{how_many, total, listing}
 use Rattle.rules.specs.Books.{
   Heap,
   memory_length,
@@ -306,7 +306,8 @@ sum_of (z ∷ zs) = z +ℤ sum_of zs
 module _ (first second : Heap) where
   -- the changes of n classes from class c on, and those of the classes below
   sum_from : (c n : ℕ)
-      → sum_of (changes_from first second c n) +ℤ change_from (total (live_of_class first) c) (total (live_of_class second) c)
+      → sum_of (changes_from first second c n) +ℤ change_from (total (live_of_class first) c)
+      (total (live_of_class second) c)
       ≡ change_from (total (live_of_class first) (c + n)) (total (live_of_class second) (c + n))
   unfolding changes_from total
   sum_from c zero = let z : c + 0 ≡ c = omega arith in rw z (+ℤ_idl _)
@@ -318,7 +319,8 @@ module _ (first second : Heap) where
       rw q
       (ap (λ (x : ℤ). x +ℤ below) (+ℤ_comm here rest)
       ∙ +ℤ_assoc rest here below
-      ∙ ap (λ (x : ℤ). rest +ℤ x) (change_plus (live_of_class first c) (live_of_class second c) (total (live_of_class first) c) (total (live_of_class second) c))
+      ∙ ap (λ (x : ℤ). rest +ℤ x) (change_plus (live_of_class first c) (live_of_class second c) (total (live_of_class first) c)
+      (total (live_of_class second) c))
       ∙ sum_from (suc c) n)
 
   -- "The changes add up to the difference of the two roll counts", which are what roll call answers

@@ -1,6 +1,6 @@
 -- W-212, over any two heaps, lists and changes at all: which number compare answers, and when; and what it gives.
 -- Assumes nothing.
-use Rattle.std.specs.Prelude.{◌≡◌, ◌≢◌, ◌↔◌, ◌⊎◌, Bool, true, false, ◌&&◌, ltb, eqb, ℤ, length, drop}
+use Rattle.std.specs.Prelude.{◌≡◌, ◌≢◌, ◌↔◌, ◌⊎◌, Bool, true, false, ◌&&◌, ltb, eqb, ℤ, length, drop, cond, if◌then◌else◌}
 use Rattle.std.proofs.Math.Path.{refl, subst}
 use Rattle.std.proofs.Common.{sym, ◌∙◌, inl, inr, arith}
 use mathlib.Core.List.{List, ◌++◌}
@@ -8,7 +8,6 @@ use Prim.Native.Nat.{ℕ, zero, suc, ◌+◌, ◌*◌, ◌/◌, ◌≤◌, ◌<�
 use Rattle.std.proofs.Math.Decide.{ℕ_discrete, dec_lt}
 use Rattle.std.proofs.Math.ListN.{get_or-append}
 use borrow.Author.Tests.{ne_eqb, lt-ltb, le-ltb}
-use Rattle.rules.specs.Say.{if◌then◌else◌}
 use Rattle.rules.specs.Books.{Heap, at, memory_length, arenas, pools, edition}
 use Rattle.rules.specs.Outcome.{passing}
 use Rattle.rules.specs.Numbers.{shape_number, room_number, ◌before◌}
@@ -73,10 +72,10 @@ module _ (first second : Heap) (list : List ℕ) (lent : List ℤ) where
   -- what each number says
   abbrev Said : ℕ → Type 0
   Said k =
-      if eqb k 12 then (shape_number first ≡ 0) × (shape_number second ≡ 0) × (unequal_number first second ≢ 0)
-      else if eqb k 7 then Alike first second × TooFew
-      else if eqb k 0 then Alike first second × Fits
-      else ((k ≡ 1) ⊎ (k ≡ 2))
+      cond (eqb k 12) ((shape_number first ≡ 0) × (shape_number second ≡ 0) × (unequal_number first second ≢ 0))
+      (cond (eqb k 7) (Alike first second × TooFew)
+      (cond (eqb k 0) (Alike first second × Fits)
+      ((k ≡ 1) ⊎ (k ≡ 2))))
 
   -- the tests go from the first heap to the changes
   said_of : Said (compare_tests first second (length list) (length lent))
@@ -146,7 +145,8 @@ module _ (first second : Heap) (list : List ℕ) (lent : List ℤ) where
       twelve d (inr e) = e
 
       few : TooFew
-          → room_number (length (differences first second)) (length list) before room_number (classes first) (length lent)
+          → room_number (length (differences first second)) (length list) before room_number (classes first)
+          (length lent)
           ≡ 7
       few (inl l) = rw (lt-ltb (length list) (length (differences first second)) l)
       few (inr l) = rw (lt-ltb (length lent) (classes first) l) (go (ltb (length list) (length (differences first second))))

@@ -2,7 +2,7 @@
 -- of memory lies in a block: a link at a block start that a rule has tested, a copy into the block that an ask hands
 -- out, a text in a live block.
 -- Assumes nothing.
-use Rattle.std.specs.Prelude.{◌≡◌, Bool, ltb, length, take, drop}
+use Rattle.std.specs.Prelude.{◌≡◌, Bool, ltb, length, take, drop, if◌then◌else◌}
 use Rattle.std.proofs.Math.Path.{refl, ap}
 use Rattle.std.proofs.Common.{◌∙◌, length-take, ltb-false}
 use Rattle.std.proofs.Math.Bool.{true, false}
@@ -17,7 +17,6 @@ use Rattle.rules.specs.declared.AskPlan.{AskPlan}
 use Rattle.rules.specs.declared.AskPlan.TheVariants.{NoRoom, Damaged, Follow, Ready, Last, Again, Anew}
 use Rattle.rules.specs.declared.BackPlan.{BackPlan}
 use Rattle.rules.specs.declared.BackPlan.TheVariants.{Damaged as Broken, Joins, Stays, Empties, Moves, Returns, Releases}
-use Rattle.rules.specs.Say.{if◌then◌else◌}
 use Rattle.rules.specs.Books.{Heap, at, in_range, arenas, pools, edition, alignment, offset_of}
 use Rattle.rules.specs.Blocks.{class_of, size_of, last_class, put_link, class_at, size_at, live, live_number}
 use Rattle.rules.specs.Outcome.{Outcome, heap_of, outcome, answer_of, done, refused, passing}

@@ -1,8 +1,36 @@
 -- What the theorems speak of: histories of calls, run by the rules; how they begin;
 -- their ledgers and editions, made from the calls and their answers; the usable list; and a heap with no room.
 -- Assumes nothing.
-use Rattle.std.specs.Prelude.{◌≢◌, ◌≡◌, Bool, true, false, not, ◌&&◌, ◌||◌, List, [], ◌∷◌, ◌++◌, ℕ, zero, suc, ◌+◌, ◌*◌, ◌/◌, ◌<◌, min, ltb, eqb, ℤ, length, set, take, drop}
-use Rattle.rules.specs.Say.{if◌then◌else◌}
+use Rattle.std.specs.Prelude.{
+  ◌≢◌,
+  ◌≡◌,
+  Bool,
+  true,
+  false,
+  not,
+  ◌&&◌,
+  ◌||◌,
+  List,
+  [],
+  ◌∷◌,
+  ◌++◌,
+  ℕ,
+  zero,
+  suc,
+  ◌+◌,
+  ◌*◌,
+  ◌/◌,
+  ◌<◌,
+  min,
+  ltb,
+  eqb,
+  ℤ,
+  length,
+  set,
+  take,
+  drop,
+  if◌then◌else◌,
+}
 use Rattle.rules.specs.Books.{
   Heap,
   at,

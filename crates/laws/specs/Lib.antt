@@ -1,6 +1,7 @@
 -- What holds after every history of calls, by way of the plain heap that crate sound has: the calls and what is held
--- (Holding to Usable), and the theorems, of any heap (Refused to Batched, and Yes), of any two (Changes to Compared)
--- and of every history (History to Code). Letters mean what they mean in crate sound.
+-- (Holding to Usable), the theorems of any heap (Refused to Batched) and of any two (Changes to Compared), and what a
+-- history is (History). What rests on its clauses stands in proofs/, so that a wrong ledger is refused by them: the
+-- theorems of every history. Letters mean what they mean in crate sound.
 pub mod Holding
 pub mod Calls
 pub mod Written
@@ -17,11 +18,4 @@ pub mod Changes
 pub mod Beside
 pub mod Compared
 pub mod History
-pub mod Tied
-pub mod Yes
-pub mod Dead
-pub mod Theorems
-pub mod Statement
-pub mod Points
 pub mod Reached
-pub mod Code

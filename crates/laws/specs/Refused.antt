@@ -2,7 +2,7 @@
 -- calls never give 6. It holds because a test that fails answers its number over the heap as it was, and so does a
 -- path that ends at a broken rule.
 -- Assumes nothing.
-use Rattle.std.specs.Prelude.{◌≡◌, ◌≢◌, ◌⊎◌, Bool, ◌&&◌, List, ltb, eqb, ℤ, length}
+use Rattle.std.specs.Prelude.{◌≡◌, ◌≢◌, ◌⊎◌, Bool, ◌&&◌, List, ltb, eqb, ℤ, length, if◌then◌else◌}
 use Rattle.std.proofs.Math.Path.{refl}
 use Rattle.std.proofs.Common.{sym, ap, ◌∙◌, inr, arith}
 use Rattle.std.proofs.Math.Logic.{inl}
@@ -13,7 +13,6 @@ use Rattle.rules.specs.declared.AskPlan.{AskPlan}
 use Rattle.rules.specs.declared.AskPlan.TheVariants.{NoRoom, Damaged, Follow, Ready, Last, Again, Anew}
 use Rattle.rules.specs.declared.BackPlan.{BackPlan}
 use Rattle.rules.specs.declared.BackPlan.TheVariants.{Damaged as Broken, Joins, Stays, Empties, Moves, Returns, Releases}
-use Rattle.rules.specs.Say.{if◌then◌else◌}
 use Rattle.rules.specs.Books.{Heap, in_range, exact, arenas, pools, edition_word, edition, is_edition, alignment}
 use Rattle.rules.specs.Blocks.{size_at, live, is_block, live_number}
 use Rattle.rules.specs.Outcome.{Outcome, outcome, answer_of, done, refused, passing}

@@ -1,7 +1,7 @@
 -- The roll, of any books and map: offset and size of what the live test finds at each offset, by rising offset. Roll
 -- call goes from pool to pool and block to block, and between the blocks the live test finds nothing.
 -- Assumes nothing.
-use Rattle.std.specs.Prelude.{◌≡◌, Bool, ◌&&◌}
+use Rattle.std.specs.Prelude.{◌≡◌, Bool, ◌&&◌, if◌then◌else◌}
 use Rattle.std.proofs.Math.Path.{refl, sym, ap, ap₂}
 use Rattle.std.proofs.Common.{◌∙◌, mul-le-mul_right, div-mul-le_self}
 use Rattle.std.proofs.Math.Bool.{true, false}
@@ -11,7 +11,7 @@ use Rattle.std.proofs.Math.Nat.{suc-mul}
 use native.Mathlib.Omega.{arith}
 use Rattle.std.proofs.Math.Dec.{leb}
 use borrow.Author.Tests.{leb-true, ne_eqb, lt-ltb}
-use Rattle.rules.specs.Say.{if◌then◌else◌, listing}
+use Rattle.rules.specs.Say.{listing}
 use Rattle.rules.specs.Books.{memory_length, is_set, class, pool, offset_of}
 use Rattle.rules.specs.Blocks.{size_of, last_class, start_of, is_start, block_no, capacity, size_at, live}
 use Rattle.rules.specs.View.{roll_blocks, roll_pool, roll_pools, roll}
@@ -72,7 +72,8 @@ module _ {al : ℕ} (L : Aligned al) (A P : ℕ) (b m : List ℕ) where
     s = size_of al (pool A b class p)
 
     at_pool : (x : ℕ) → x < 4096
-        → size_held (4096 * p + x) ≡ (if leb c (last_class al) && is_start s x && is_set m p (block_no s x) then s else 0)
+        → size_held (4096 * p + x) ≡ (if leb c (last_class al) && is_start s x
+        && is_set m p (block_no s x) then s else 0)
     unfolding size_held live
     at_pool x u =
         let d : (4096 * p + x) / 4096 ≡ p = omega arith in

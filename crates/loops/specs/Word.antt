@@ -1,6 +1,6 @@
 -- The set bits of a word, from the lowest up; the roll of a map word, and a pool's roll as that of its words.
 -- Assumes nothing.
-use Rattle.std.specs.Prelude.{◌≡◌, false, ◌⊎◌, eqb, length}
+use Rattle.std.specs.Prelude.{◌≡◌, false, ◌⊎◌, eqb, length, if◌then◌else◌}
 use Rattle.std.proofs.Math.Path.{refl, ap, ap₂}
 use Rattle.std.proofs.Common.{sym, ◌∙◌, inl, inr, not-suc-le-zero, le_of_suc-le-suc, zero-add, add-zero, suc-mul, le-div_iff_mul-le, div-lt_iff_lt-mul, shr-shr}
 use mathlib.Core.List.{List, [], ◌∷◌, ◌++◌, append_assoc}
@@ -9,7 +9,6 @@ use Rattle.std.proofs.Math.Nat.{suc-add, add-suc, add-mul-div_right, add-mul}
 use Rattle.std.proofs.Math.Numerals.{add-one}
 use native.Mathlib.Omega.{arith}
 use Rattle.std.specs.Int.Count.{ones_in, count_trailing_zeros}
-use Rattle.rules.specs.Say.{if◌then◌else◌}
 use Rattle.rules.specs.Books.{at, bit, is_set, offset_of}
 use Rattle.rules.specs.Blocks.{start_of, last_start, capacity}
 use Rattle.rules.specs.View.{roll_blocks}
@@ -59,8 +58,10 @@ module _ (said : ℕ → List ℕ) where
     where
       go : (w % 2 ≡ 1) ⊎ (w % 2 ≡ 0)
           → let t = count_trailing_zeros k (w / 2) in
-          (t < n → each_bit said (w / 2) (suc j) n ≡ said (suc j + t) ++ each_bit said (without_first (w / 2)) (suc j) n)
-          → each_bit said w j (suc n) ≡ said (j + count_trailing_zeros (suc k) w) ++ each_bit said (without_first w) j (suc n)
+          (t < n → each_bit said (w / 2) (suc j) n ≡ said (suc j + t)
+          ++ each_bit said (without_first (w / 2)) (suc j) n)
+          → each_bit said w j (suc n) ≡ said (j + count_trailing_zeros (suc k) w)
+          ++ each_bit said (without_first w) j (suc n)
       go (inl e) rest =
           let place : j ≡ j + count_trailing_zeros (suc k) w = rw (first_odd k w e) (omega arith) in
           odd w j n e ∙ ap₂ (λ (x : ℕ) (r : List ℕ). said x ++ r) place (sym (twice (w / 2) j n (without_odd w e)))

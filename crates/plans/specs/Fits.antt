@@ -181,7 +181,8 @@ module _ (al A P : ℕ) (h : Heap) (c : ℕ) (low : 8 ≤ size_of al c) where
       after N (spare al A P h c p 48) _ _ tt
       (λ first. after N (spare al A P h c p (48 + s)) _ _ tt (λ _. (source, spared p 48 there first)))
 
-  fits_same : (a p : ℕ) → p < A * P → pool A b class p ≡ c → FitsSource A P b (Freed a) p → N (same_class al A P h c a p)
+  fits_same : (a p : ℕ) → p < A * P → pool A b class p ≡ c → FitsSource A P b (Freed a) p
+      → N (same_class al A P h c a p)
   unfolding same_class
   fits_same a p there class source =
       after N (spare al A P h c p (pool A b freeblock p)) _ _ tt

@@ -5,7 +5,16 @@ ghost use Rattle.rules.specs.Books.{at, alignment_of, is_set, none?, unused_head
 ghost use Rattle.rules.specs.Blocks.{is_start, block_no};
 ghost use Rattle.rules.specs.Lists.{may_leave, arena_links};
 ghost use Rattle.rules.specs.Outcome.{heap_of};
-ghost use Rattle.rules.specs.Ask.{◌⇛◌, same_class, take_again, from_mark, from_freed, front_of, from_usable, from_unused};
+ghost use Rattle.rules.specs.Ask.{
+  ◌⇛◌,
+  same_class,
+  take_again,
+  from_mark,
+  from_freed,
+  front_of,
+  from_usable,
+  from_unused,
+};
 ghost use Rattle.books.specs.Known.{Shaped};
 ghost use Rattle.books.specs.Records.{pool_at};
 ghost use Rattle.plans.specs.Class.{Range, Class};

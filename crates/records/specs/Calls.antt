@@ -1,7 +1,7 @@
 -- What a replay needs to know of ask, give back and resize, whatever the heap holds: the number fits a byte, and A, P
 -- and the edition stay in the books; and that words at any places stay where the writes are to others.
 -- Assumes nothing.
-use Rattle.std.specs.Prelude.{◌≡◌, refl, Bool, ◌&&◌, ◌≢◌, ◌⊎◌, List, ℕ, zero, suc, ◌+◌, ◌/◌, ◌%◌, ◌≤◌, ◌<◌, min, leb, ltb, length, replicate}
+use Rattle.std.specs.Prelude.{◌≡◌, refl, Bool, ◌&&◌, ◌≢◌, ◌⊎◌, List, ℕ, zero, suc, ◌+◌, ◌/◌, ◌%◌, ◌≤◌, ◌<◌, min, leb, ltb, length, replicate, if◌then◌else◌}
 use Rattle.std.proofs.Common.{◌∙◌, inl, arith, get_or-set_other}
 use Rattle.std.proofs.Math.Bool.{true, false}
 use Rattle.std.proofs.lemmas.List.Edits.{sets}
@@ -11,7 +11,7 @@ use Rattle.rules.specs.declared.AskPlan.{AskPlan}
 use Rattle.rules.specs.declared.AskPlan.TheVariants.{NoRoom, Damaged, Follow, Ready, Last, Again, Anew}
 use Rattle.rules.specs.declared.BackPlan.{BackPlan}
 use Rattle.rules.specs.declared.BackPlan.TheVariants.{Damaged as Broken, Joins, Stays, Empties, Moves, Returns, Releases}
-use Rattle.rules.specs.Say.{if◌then◌else◌, only}
+use Rattle.rules.specs.Say.{only}
 use Rattle.rules.specs.Books.{
   Heap,
   in_range,

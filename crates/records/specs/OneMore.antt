@@ -1,14 +1,13 @@
 -- What one live block more makes of the roll: it is two words longer. The books and the map may be any, and the
 -- alignment any from 8 on.
 -- Assumes nothing.
-use Rattle.std.specs.Prelude.{◌≡◌, refl, ◌≢◌, Bool, true, false, List, [], ◌∷◌, ◌++◌, leb}
+use Rattle.std.specs.Prelude.{◌≡◌, refl, ◌≢◌, Bool, true, false, List, [], ◌∷◌, ◌++◌, leb, if◌then◌else◌}
 use Rattle.std.proofs.Common.{sym, ◌∙◌, mul-le-mul, arith, length-append}
 use Rattle.std.proofs.Math.Path.{ap}
 use Prim.Native.Nat.{ℕ, zero, suc, ◌+◌, ◌*◌, ◌≤◌, ◌<◌}
 use Rattle.std.proofs.Math.Decide.{ℕ_discrete}
 use Rattle.std.proofs.Math.ListN.{length}
 use borrow.Author.Tests.{le-leb}
-use Rattle.rules.specs.Say.{if◌then◌else◌}
 use Rattle.rules.specs.Books.{map_word, is_set, put_map_bit, class, pool, offset_of}
 use Rattle.rules.specs.Blocks.{size_of, last_class, start_of, capacity}
 use Rattle.rules.specs.View.{roll_blocks, roll_pool, roll_pools, roll}
@@ -144,7 +143,8 @@ module _ (al A : ℕ) (wide : 8 ≤ al) (b b' m m' : List ℕ) (p i : ℕ) (one 
       dead : (s : ℕ) → 8 ≤ s → length (roll_blocks m p s 0 (capacity s)) ≡ 0
       dead s low = let few = capacity_le s low in ap length (none_rolled m p s 0 (capacity s) (λ j u. clear j (omega arith)))
 
-      go : (t : Bool) (d : ℕ) → length (if t then roll_blocks m p (size_of al d) 0 (capacity (size_of al d)) else []) ≡ 0
+      go : (t : Bool) (d : ℕ) → length (if t then roll_blocks m p (size_of al d) 0 (capacity (size_of al d)) else
+          []) ≡ 0
       go true d = dead (size_of al d) (size_low d)
       go false d = refl
 

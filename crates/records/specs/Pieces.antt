@@ -1,6 +1,6 @@
 -- A piece of a replay: what it answers, and its replies one by one; and a replay that comes in pieces is the replay.
 -- Assumes nothing.
-use Rattle.std.specs.Prelude.{◌≡◌, refl, Bool, eqb, ltb, take}
+use Rattle.std.specs.Prelude.{◌≡◌, refl, Bool, eqb, ltb, take, if◌then◌else◌}
 use Rattle.std.proofs.Math.Path.{sym, ap, ap₂}
 use Rattle.std.proofs.Common.{◌∙◌, length-append, length-drop, take_all, drop-drop, lt-ltb, ne_eqb}
 use mathlib.Core.List.{List, [], ◌∷◌, ◌++◌, append-nil, append_assoc}
@@ -11,7 +11,6 @@ use native.Mathlib.Omega.{arith}
 use Rattle.std.proofs.Math.ListN.{length, drop}
 use Rattle.std.proofs.Math.Seq.{sets, length-sets}
 use Rattle.std.proofs.lemmas.List.{take-append-le, drop-append-le}
-use Rattle.rules.specs.Say.{if◌then◌else◌}
 use Rattle.rules.specs.Books.{Heap}
 use Rattle.rules.specs.Outcome.{Outcome, passing}
 use Rattle.rules.specs.Numbers.{in_order, shape_number, room_number, format, ask, give_back, resize, block_size}
@@ -249,7 +248,8 @@ module _ (h : Heap) (input output : List ℕ) where
 
   module _ (e : shape_number h ≡ 0) where
     -- an output that is too small
-    pub no_room_lem : length output < 16 * records_in (length input) → piece_of 7 0 output h ≡ replay_piece h input output
+    pub no_room_lem : length output < 16 * records_in (length input)
+        → piece_of 7 0 output h ≡ replay_piece h input output
     unfolding replay_piece
     no_room_lem l =
         let seven : in_order (shape_number h) 0 0 (room_number (length replies) (length output)) ≡ 7 =
@@ -259,7 +259,8 @@ module _ (h : Heap) (input output : List ℕ) where
     -- room enough
     module _ (l : 16 * records_in (length input) ≤ length output) where
       pub piece_done : replay_piece h input output
-          ≡ piece_of 0 (length replies) (replies ++ drop (length replies) output) (heap_after (length input / 16) h input)
+          ≡ piece_of 0 (length replies) (replies
+          ++ drop (length replies) output) (heap_after (length input / 16) h input)
       unfolding replay_piece
       piece_done =
           passed (λ k. piece_of k 0 output h) _ _

@@ -146,7 +146,7 @@ fn replay_all(
     Ok(())
 }
 
-// The status of a run: a stream that failed is told on standard error.
+// A stream that failed is told on standard error.
 fn told(rt: &HostRuntime, failure: &Failure) -> io::Result<()> {
     match failure {
         Failure::Input(reason) => eprintln!(rt; "replay: standard input: {reason}"),

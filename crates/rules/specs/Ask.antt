@@ -1,13 +1,13 @@
 -- 01, "Ask": the path, decided from the heap before, each rule of 6 where the path meets it;
 -- then the writes, in 01's order.
 -- Assumes nothing.
-use Rattle.std.specs.Prelude.{Bool, not, ◌&&◌, ◌||◌, ℕ, ◌+◌, ◌*◌, leb, ltb, eqb}
+use Rattle.std.specs.Prelude.{Bool, not, ◌&&◌, ◌||◌, ℕ, ◌+◌, ◌*◌, leb, ltb, eqb, if◌then◌else◌}
 use Rattle.rules.specs.declared.Answer.{Answer}
 use Rattle.rules.specs.declared.Source.{Source}
 use Rattle.rules.specs.declared.Source.TheVariants.{Freed, Carved, Opened}
 use Rattle.rules.specs.declared.AskPlan.{AskPlan}
 use Rattle.rules.specs.declared.AskPlan.TheVariants.{NoRoom, Damaged, Follow, Ready, Last, Again, Anew}
-use Rattle.rules.specs.Say.{if◌then◌else◌, ◌▷◌, only}
+use Rattle.rules.specs.Say.{◌▷◌, only}
 use Rattle.rules.specs.Books.{
   Heap,
   at,

@@ -2,7 +2,26 @@
 -- being those of the books and al the alignment of their edition (W-211); the answer is 0 for yes, or the number of the
 -- first rule that is broken.
 -- Assumes nothing.
-use Rattle.std.specs.Prelude.{Bool, true, false, not, ◌&&◌, ◌||◌, List, ℕ, zero, suc, ◌+◌, ◌*◌, ◌-◌, ◌/◌, leb, ltb, eqb}
+use Rattle.std.specs.Prelude.{
+  Bool,
+  true,
+  false,
+  not,
+  ◌&&◌,
+  ◌||◌,
+  List,
+  ℕ,
+  zero,
+  suc,
+  ◌+◌,
+  ◌*◌,
+  ◌-◌,
+  ◌/◌,
+  leb,
+  ltb,
+  eqb,
+  if◌then◌else◌,
+}
 use Rattle.rules.specs.declared.Verdict.{Verdict}
 use Rattle.rules.specs.declared.Verdict.TheVariants.{
   Yes,
@@ -16,7 +35,7 @@ use Rattle.rules.specs.declared.Verdict.TheVariants.{
   Blocks,
   Order,
 }
-use Rattle.rules.specs.Say.{if◌then◌else◌, ◌implies◌, all_below, how_many}
+use Rattle.rules.specs.Say.{◌implies◌, all_below, how_many}
 use Rattle.rules.specs.Books.{
   Heap,
   at,
@@ -157,7 +176,8 @@ module _ (next previous : ℕ → ℕ) (member : ℕ → Bool) (most : ℕ) (b :
 
 -- a list of pools, with this head
 abbrev pub pool_list : ℕ → ℕ → List ℕ → (ℕ → Bool) → Bool → ℕ → Bool
-pool_list A P b member doubly head = holds (pool_word A pool_next) (pool_word A pool_previous) member (A * P) b doubly head
+pool_list A P b member doubly head =
+    holds (pool_word A pool_next) (pool_word A pool_previous) member (A * P) b doubly head
 
 -- "freed-pool lists the own arena's carved pools not in use, with previous 0"
 abbrev pub freed_member : ℕ → List ℕ → List ℕ → ℕ → ℕ → Bool

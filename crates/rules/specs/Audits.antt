@@ -125,7 +125,8 @@ no_shape =
 
 -- ==== "(2) open 0 or 1, words 68 to 71, an arena record's last two and a pool record's last being 0"
 abbrev open_words : List Line
-open_words = one ++ arena_gives 0 open_word 1 2 2 ++ arena_gives 1 open_word 0 2 2 ++ arena_gives 1 open_word 0 1 4 ++ passes
+open_words = one ++ arena_gives 0 open_word 1 2 2 ++ arena_gives 1 open_word 0 2 2 ++ arena_gives 1 open_word 0 1 4
+    ++ passes
 
 abbrev last_words : List Line
 last_words =
@@ -161,7 +162,8 @@ marks =
 abbrev mark_zero : List Line
 mark_zero =
     opened
-    ++ (arena= 0 arena_next 2 ∷ arena= 1 arena_previous 1 ∷ arena= 1 carve_mark 0 ∷ arena= 1 freed_head 0 ∷ audits 4 ∷ [])
+    ++ (arena= 0 arena_next 2 ∷ arena= 1 arena_previous 1 ∷ arena= 1 carve_mark 0 ∷ arena= 1 freed_head 0
+    ∷ audits 4 ∷ [])
 
 abbrev free_ones : List Line
 free_ones =
@@ -277,7 +279,8 @@ past_the_last = word= unused_head 3 ∷ pool= 0 class 2 ∷ arena= 1 arena_previ
 
 -- ".. open arenas without free pools having both links 0", and on no list
 abbrev spent_links : List Line
-spent_links = spent ++ arena_gives 0 arena_next 0 2 6 ++ arena_gives 0 arena_previous 0 2 6 ++ word_gives usable_head 2 1 6
+spent_links = spent ++ arena_gives 0 arena_next 0 2 6 ++ arena_gives 0 arena_previous 0 2 6
+    ++ word_gives usable_head 2 1 6
 
 -- "each class list its pools with live and spare blocks"
 abbrev class_list : List Line
@@ -467,21 +470,6 @@ InLists m b k = T (every by_lists (fresh 2 2 0 m b k))
 abbrev InBlocks : List ℕ → List ℕ → List ℕ → Type 0
 InBlocks m b k = T (every by_blocks (fresh 2 2 0 m b k))
 
-words : (f g k : ℕ → ℕ)
-    → InWords (tab (memory_length 2 2) 0 f) (tab (books_length 2 2) 0 g) (tab (map_length 2 2) 0 k)
-unfolding every
-words f g k = tt
-
-lists : (f g k : ℕ → ℕ)
-    → InLists (tab (memory_length 2 2) 0 f) (tab (books_length 2 2) 0 g) (tab (map_length 2 2) 0 k)
-unfolding every
-lists f g k = tt
-
-blocks : (f g k : ℕ → ℕ)
-    → InBlocks (tab (memory_length 2 2) 0 f) (tab (books_length 2 2) 0 g) (tab (map_length 2 2) 0 k)
-unfolding every
-blocks f g k = tt
-
 abbrev pub Hold : List ℕ → List ℕ → List ℕ → Type 0
 Hold m b k = InWords m b k × InLists m b k × InBlocks m b k
 
@@ -489,6 +477,7 @@ Hold m b k = InWords m b k × InLists m b k × InBlocks m b k
 pub audits_hold : (m b k : List ℕ)
     → length m ≡ memory_length 2 2 → length b ≡ books_length 2 2 → length k ≡ map_length 2 2
     → Hold m b k
+unfolding every
 audits_hold =
     each_three Hold (memory_length 2 2) (books_length 2 2) (map_length 2 2)
-    (λ f g k. (words f g k, lists f g k, blocks f g k))
+    (λ f g k. (tt, tt, tt))

@@ -29,8 +29,8 @@ infixr 12 ◌in_front_of◌
 abbrev pub ◌in_front_of◌ : Request → Served → Served
 r in_front_of s = served s.heap (r ∷ s.row)
 
--- each by the call ask. That tests 1 and 2 again, and finds them as they were (theorem `shape_once_lem` of crate laws), so
--- that to test them once, as the call does, is the same
+-- each by the call ask. That tests 1 and 2 again, and finds them as they were (theorem `shape_once_lem` of crate laws),
+-- so that to test them once, as the call does, is the same
 unfoldable pub one_by_one : Heap → List Request → Served
 one_by_one h [] = served h []
 one_by_one h (r ∷ rest) = replied r (ask h r.size).answer in_front_of one_by_one (ask h r.size).heap rest

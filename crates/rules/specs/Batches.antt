@@ -90,13 +90,10 @@ batches =
 abbrev pub Holds : List ℕ → List ℕ → List ℕ → Type 0
 Holds m b k = T (every batches (fresh 1 2 0 m b k))
 
-computed : (f g k : ℕ → ℕ)
-    → Holds (tab (memory_length 1 2) 0 f) (tab (books_length 1 2) 0 g) (tab (map_length 1 2) 0 k)
-unfolding every
-computed f g k = tt
-
 -- every row, whatever memory, books and map of the right lengths held before format
 pub batches_hold : (m b k : List ℕ)
     → length m ≡ memory_length 1 2 → length b ≡ books_length 1 2 → length k ≡ map_length 1 2
     → Holds m b k
-batches_hold = each_three Holds (memory_length 1 2) (books_length 1 2) (map_length 1 2) computed
+unfolding every
+batches_hold =
+    each_three Holds (memory_length 1 2) (books_length 1 2) (map_length 1 2) (λ f g k. tt)

@@ -1,8 +1,8 @@
 -- 01, "Classes and blocks", at the alignment al (8 in 01; 8 or 16 by W-211): classes, block starts, a freed block's
 -- link, the live test; and 02's dead block (W-206).
 -- Assumes nothing.
-use Rattle.std.specs.Prelude.{Bool, ◌&&◌, List, ℕ, ◌+◌, ◌*◌, ◌-◌, ◌/◌, ◌%◌, leb, ltb, eqb}
-use Rattle.rules.specs.Say.{if◌then◌else◌, ◌▷◌}
+use Rattle.std.specs.Prelude.{Bool, ◌&&◌, List, ℕ, ◌+◌, ◌*◌, ◌-◌, ◌/◌, ◌%◌, leb, ltb, eqb, if◌then◌else◌}
+use Rattle.rules.specs.Say.{◌▷◌}
 use Rattle.rules.specs.Books.{at, put, memory_length, is_set, class, nextoffset, pool, carved}
 
 -- "Size n from 1 to 512 has class (n − 1) div 8 and block size 8 × (class + 1)."

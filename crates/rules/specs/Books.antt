@@ -1,8 +1,25 @@
 -- 01, "Memory, books, map": the three lent buffers, their lengths, and where each word and each bit stands. With it
 -- 02's edition (W-211) and its carved pool (W-201).
 -- Assumes nothing.
-use Rattle.std.specs.Prelude.{Bool, ◌&&◌, List, ℕ, ◌+◌, ◌*◌, ◌-◌, ◌/◌, ◌%◌, ◌^◌, leb, ltb, eqb, length, get_or, set}
-use Rattle.rules.specs.Say.{if◌then◌else◌}
+use Rattle.std.specs.Prelude.{
+  Bool,
+  ◌&&◌,
+  List,
+  ℕ,
+  ◌+◌,
+  ◌*◌,
+  ◌-◌,
+  ◌/◌,
+  ◌%◌,
+  ◌^◌,
+  leb,
+  ltb,
+  eqb,
+  length,
+  get_or,
+  set,
+  if◌then◌else◌,
+}
 
 -- A heap is what its three lent buffers hold.
 pub record Heap : Type 0 where

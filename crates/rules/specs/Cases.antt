@@ -47,13 +47,10 @@ cases =
 abbrev pub Holds : List ℕ → List ℕ → List ℕ → Type 0
 Holds m b k = T (every cases (fresh 1 16 0 m b k))
 
-computed : (f g k : ℕ → ℕ)
-    → Holds (tab (memory_length 1 16) 0 f) (tab (books_length 1 16) 0 g) (tab (map_length 1 16) 0 k)
-unfolding every
-computed f g k = tt
-
 -- K1 to K10, whatever memory, books and map of the right lengths held before format
 pub cases_hold : (m b k : List ℕ)
     → length m ≡ memory_length 1 16 → length b ≡ books_length 1 16 → length k ≡ map_length 1 16
     → Holds m b k
-cases_hold = each_three Holds (memory_length 1 16) (books_length 1 16) (map_length 1 16) computed
+unfolding every
+cases_hold =
+    each_three Holds (memory_length 1 16) (books_length 1 16) (map_length 1 16) (λ f g k. tt)

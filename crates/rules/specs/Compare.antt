@@ -1,9 +1,32 @@
 -- 02, W-212: two heaps side by side. What each offset is in the two, the list of those that differ, the change in live
 -- blocks of each class, and the call: its tests, and then list and changes.
 -- Assumes nothing.
-use Rattle.std.specs.Prelude.{Bool, not, ◌&&◌, List, [], ◌∷◌, ◌++◌, ℕ, zero, suc, ◌+◌, ◌*◌, ◌-◌, ◌/◌, leb, eqb, ℤ, pos, neg_ℤ, length, drop}
+use Rattle.std.specs.Prelude.{
+  Bool,
+  not,
+  ◌&&◌,
+  List,
+  [],
+  ◌∷◌,
+  ◌++◌,
+  ℕ,
+  zero,
+  suc,
+  ◌+◌,
+  ◌*◌,
+  ◌-◌,
+  ◌/◌,
+  leb,
+  eqb,
+  ℤ,
+  pos,
+  neg_ℤ,
+  length,
+  drop,
+  if◌then◌else◌,
+}
 use Rattle.rules.specs.declared.Compared.{Compared}
-use Rattle.rules.specs.Say.{if◌then◌else◌, all_below, how_many, total, listing}
+use Rattle.rules.specs.Say.{all_below, how_many, total, listing}
 use Rattle.rules.specs.Books.{
   Heap,
   at,

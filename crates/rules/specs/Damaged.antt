@@ -927,13 +927,10 @@ damaged =
 abbrev pub Holds : List ℕ → List ℕ → List ℕ → Type 0
 Holds m b k = T (every damaged (fresh 3 3 0 m b k))
 
-computed : (f g k : ℕ → ℕ)
-    → Holds (tab (memory_length 3 3) 0 f) (tab (books_length 3 3) 0 g) (tab (map_length 3 3) 0 k)
-unfolding every
-computed f g k = tt
-
 -- every row, whatever memory, books and map of the right lengths held before format
 pub damaged_hold : (m b k : List ℕ)
     → length m ≡ memory_length 3 3 → length b ≡ books_length 3 3 → length k ≡ map_length 3 3
     → Holds m b k
-damaged_hold = each_three Holds (memory_length 3 3) (books_length 3 3) (map_length 3 3) computed
+unfolding every
+damaged_hold =
+    each_three Holds (memory_length 3 3) (books_length 3 3) (map_length 3 3) (λ f g k. tt)

@@ -1,7 +1,6 @@
 -- 01, "Format": the books that it writes.
 -- Assumes nothing.
-use Rattle.std.specs.Prelude.{List, [], ◌∷◌, ◌++◌, ℕ, zero, suc, ◌+◌, ◌*◌, eqb, replicate}
-use Rattle.rules.specs.Say.{if◌then◌else◌}
+use Rattle.std.specs.Prelude.{List, [], ◌∷◌, ◌++◌, ℕ, zero, suc, ◌+◌, ◌*◌, eqb, replicate, if◌then◌else◌}
 use Rattle.rules.specs.Books.{no_class, link_to}
 
 -- "every arena record 0 but for its links, all closed and on the unused list, linked both ways, in rising order":

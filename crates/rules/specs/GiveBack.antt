@@ -1,12 +1,31 @@
 -- 01, "Give back", with 02's order of the usable arenas (W-203): the path, decided from the books before, each rule of
 -- 6 where the path meets it; then the writes, in the papers' order.
 -- Assumes nothing.
-use Rattle.std.specs.Prelude.{Bool, not, ◌&&◌, ◌||◌, List, ℕ, zero, suc, ◌+◌, ◌*◌, ◌-◌, ◌/◌, ◌%◌, leb, ltb, eqb, replicate}
+use Rattle.std.specs.Prelude.{
+  Bool,
+  not,
+  ◌&&◌,
+  ◌||◌,
+  List,
+  ℕ,
+  zero,
+  suc,
+  ◌+◌,
+  ◌*◌,
+  ◌-◌,
+  ◌/◌,
+  ◌%◌,
+  leb,
+  ltb,
+  eqb,
+  replicate,
+  if◌then◌else◌,
+}
 use Rattle.std.proofs.lemmas.List.Edits.{sets}
 use Rattle.rules.specs.declared.Answer.{Answer}
 use Rattle.rules.specs.declared.BackPlan.{BackPlan}
 use Rattle.rules.specs.declared.BackPlan.TheVariants.{Damaged, Joins, Stays, Empties, Moves, Returns, Releases}
-use Rattle.rules.specs.Say.{if◌then◌else◌, ◌▷◌}
+use Rattle.rules.specs.Say.{◌▷◌}
 use Rattle.rules.specs.Books.{
   Heap,
   put,

@@ -207,14 +207,14 @@ compares_as first second (over w c k n v d ∷ cs) =
 
 -- every line holds, each over the heap that those before it leave
 unfoldable pub runs : List Line → Heap → Bool
-unfolding in_range exact alignment_of bit put_bit carved is_start link_at put_link live is_block live_number leave_by join_by
-    fresh_books no_link from_freeblock from_listed set_anew same_class take_again from_mark from_freed from_usable from_unused
-    plan_ask take_from after_ask ask_answer ask_step walk emptying plan_back after_back back_answer back_step
-    give_old moved resize_step roll_blocks roll_pool roll_pools range_number edition_number length_number reach_number
-    fit_number shape_number size_number room_number
-    format ask give_back resize view view_size stand_in write roll_call one_by_one ask_all requests_in in_words ask_rows
-    all_below how_many in_use blocks_of has_spare bits_below rule1 arena_keeps2 rule2 arena_keeps3 arena_keeps4 pool_keeps5
-    leads meets pool_keeps6 arena_keeps6 rule6 all_else_zero is_dead chained is_divided pool_keeps8 arena_keeps9 audit_by
+unfolding in_range exact alignment_of bit put_bit carved is_start link_at put_link live is_block live_number leave_by
+    join_by fresh_books no_link from_freeblock from_listed set_anew same_class take_again from_mark from_freed
+    from_usable from_unused plan_ask take_from after_ask ask_answer ask_step walk emptying plan_back after_back
+    back_answer back_step give_old moved resize_step roll_blocks roll_pool roll_pools range_number edition_number
+    length_number reach_number fit_number shape_number size_number room_number format ask give_back resize view
+    view_size stand_in write roll_call one_by_one ask_all requests_in in_words ask_rows all_below how_many in_use
+    blocks_of has_spare bits_below rule1 arena_keeps2 rule2 arena_keeps3 arena_keeps4 pool_keeps5 leads meets
+    pool_keeps6 arena_keeps6 rule6 all_else_zero is_dead chained is_divided pool_keeps8 arena_keeps9 audit_by
     number_of total listing kind_at live_in_pool change_from changes_from unequal_number compare link bit_in
 runs [] h = true
 runs (formats A P e k ∷ ls) h = answers k 0 (format h A P e).answer && runs ls (format h A P e).heap

@@ -1,8 +1,8 @@
 -- 01, "The steps": to leave a list and to join it at the front, said once for the pools' lists and the arenas'. With it
 -- 02's going in after a member (W-203).
 -- Assumes nothing.
-use Rattle.std.specs.Prelude.{Bool, not, ◌&&◌, List, ℕ, ◌+◌, ◌*◌, leb}
-use Rattle.rules.specs.Say.{if◌then◌else◌, ◌▷◌, only}
+use Rattle.std.specs.Prelude.{Bool, not, ◌&&◌, List, ℕ, ◌+◌, ◌*◌, leb, if◌then◌else◌}
+use Rattle.rules.specs.Say.{◌▷◌, only}
 use Rattle.rules.specs.Books.{
   Heap,
   at,

@@ -1,10 +1,10 @@
 -- 01, "Numbers a call can return": the tests, with that of 02's edition (W-211), their order, and the calls: tests
 -- first, then the step. Beside view stands 02's stand-in (W-214).
 -- Assumes nothing.
-use Rattle.std.specs.Prelude.{◌&&◌, List, [], ◌++◌, ℕ, ◌+◌, ◌/◌, leb, ltb, length, drop, replicate}
+use Rattle.std.specs.Prelude.{◌&&◌, List, [], ◌++◌, ℕ, ◌+◌, ◌/◌, leb, ltb, length, drop, replicate, if◌then◌else◌}
 use Rattle.rules.specs.declared.Sized.{Sized}
 use Rattle.rules.specs.declared.Rolled.{Rolled}
-use Rattle.rules.specs.Say.{if◌then◌else◌, ◌▷◌}
+use Rattle.rules.specs.Say.{◌▷◌}
 use Rattle.rules.specs.Books.{
   Heap,
   in_range,
@@ -162,5 +162,6 @@ write h o text =
 -- 7: "fewer than two roll words for each live block". It "leaves the words after them, and returns how many"
 unfoldable pub roll_call : Heap → List ℕ → RollOutcome
 roll_call h words =
-    passing (in_order (shape_number h) 0 0 (room_number (length (roll_of h)) (length words))) (λ k. roll_outcome k 0 words)
+    passing (in_order (shape_number h) 0 0 (room_number (length (roll_of h)) (length words)))
+    (λ k. roll_outcome k 0 words)
     (roll_outcome 0 (length (roll_of h) / 2) (roll_of h ++ drop (length (roll_of h)) words))

@@ -138,13 +138,10 @@ Holds m b k = T (every order (ones 0 m b k))
 abbrev pub InBoth : List ℕ → List ℕ → List ℕ → Type 0
 InBoth m b k = Holds m b k × T (every order (ones 1 m b k))
 
-computed : (f g k : ℕ → ℕ)
-    → InBoth (tab (memory_length 3 3) 0 f) (tab (books_length 3 3) 0 g) (tab (map_length 3 3) 0 k)
-unfolding every
-computed f g k = (tt, tt)
-
 -- every row in both editions, whatever memory, books and map of the right lengths held before format
 pub order_holds : (m b k : List ℕ)
     → length m ≡ memory_length 3 3 → length b ≡ books_length 3 3 → length k ≡ map_length 3 3
     → InBoth m b k
-order_holds = each_three InBoth (memory_length 3 3) (books_length 3 3) (map_length 3 3) computed
+unfolding every
+order_holds =
+    each_three InBoth (memory_length 3 3) (books_length 3 3) (map_length 3 3) (λ f g k. (tt, tt))

@@ -1,7 +1,25 @@
 -- 01, "Replay records": one record in, one reply out; and a whole replay, bytes in and bytes out.
 -- Assumes nothing.
-use Rattle.std.specs.Prelude.{Bool, ◌&&◌, List, [], ◌∷◌, ◌++◌, ℕ, zero, suc, ◌/◌, ◌%◌, leb, ltb, eqb, length, take, drop}
-use Rattle.rules.specs.Say.{if◌then◌else◌}
+use Rattle.std.specs.Prelude.{
+  Bool,
+  ◌&&◌,
+  List,
+  [],
+  ◌∷◌,
+  ◌++◌,
+  ℕ,
+  zero,
+  suc,
+  ◌/◌,
+  ◌%◌,
+  leb,
+  ltb,
+  eqb,
+  length,
+  take,
+  drop,
+  if◌then◌else◌,
+}
 use Rattle.rules.specs.Books.{Heap, at}
 use Rattle.rules.specs.Blocks.{link_at}
 use Rattle.rules.specs.Outcome.{Outcome, passing}

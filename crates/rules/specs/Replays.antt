@@ -103,13 +103,10 @@ replays =
 abbrev pub Holds : List ℕ → List ℕ → List ℕ → Type 0
 Holds m b k = T (every replays (heap_of m b k))
 
-computed : (f g k : ℕ → ℕ)
-    → Holds (tab (memory_length 1 16) 0 f) (tab (books_length 1 16) 0 g) (tab (map_length 1 16) 0 k)
-unfolding every
-computed f g k = tt
-
 -- every replay of the table, whatever memory, books and map of the right lengths held before the program's format
 pub replays_hold : (m b k : List ℕ)
     → length m ≡ memory_length 1 16 → length b ≡ books_length 1 16 → length k ≡ map_length 1 16
     → Holds m b k
-replays_hold = each_three Holds (memory_length 1 16) (books_length 1 16) (map_length 1 16) computed
+unfolding every
+replays_hold =
+    each_three Holds (memory_length 1 16) (books_length 1 16) (map_length 1 16) (λ f g k. tt)

@@ -1,8 +1,8 @@
 -- 01, "Resize", and "The half-done resize".
 -- Assumes nothing.
-use Rattle.std.specs.Prelude.{Bool, ◌&&◌, ℕ, ◌*◌, min, leb, ltb, take, drop}
+use Rattle.std.specs.Prelude.{Bool, ◌&&◌, ℕ, ◌*◌, min, leb, ltb, take, drop, if◌then◌else◌}
 use Rattle.std.proofs.lemmas.List.Edits.{sets}
-use Rattle.rules.specs.Say.{if◌then◌else◌, ◌▷◌}
+use Rattle.rules.specs.Say.{◌▷◌}
 use Rattle.rules.specs.Books.{Heap, on_memory}
 use Rattle.rules.specs.Blocks.{size_at, live_number}
 use Rattle.rules.specs.Outcome.{Outcome, outcome, answer_of, done, refused, passing}

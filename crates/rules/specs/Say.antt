@@ -1,16 +1,11 @@
--- How the rules are said: a choice by a test, a chain of writes, a write that is made only where a test holds; of tests
--- of numbers, whether each number passes, and how many do; and of numbers that are known at each number, their sum, and
--- the list of those that are not 0.
+-- How the rules are said, beside the library's choice by a test: a chain of writes, a write that is made only where a
+-- test holds; of tests of numbers, whether each number passes, and how many do; and of numbers that are known at each
+-- number, their sum, and the list of those that are not 0.
 -- Assumes nothing.
-use Rattle.std.specs.Prelude.{Bool, true, false, ◌&&◌, List, [], ◌∷◌, ◌++◌, ℕ, zero, suc, ◌+◌, eqb}
+use Rattle.std.specs.Prelude.{Bool, true, false, ◌&&◌, List, [], ◌∷◌, ◌++◌, ℕ, zero, suc, ◌+◌, eqb, if◌then◌else◌}
 
 module _ {ℓ} {A : Type ℓ} where
-  infix 10 if◌then◌else◌
   infixl 15 ◌▷◌
-  abbrev pub if◌then◌else◌ : Bool → A → A → A
-  if◌then◌else◌ true x y = x
-  if◌then◌else◌ false x y = y
-
   -- `h ▷ f ▷ g`: first f, then g
   abbrev pub ◌▷◌ : A → (A → A) → A
   x ▷ f = f x

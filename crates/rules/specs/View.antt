@@ -1,8 +1,7 @@
 -- 01, "View", "Write" and "Roll call": what they hand back, copy and list, of a heap whose tests are passed.
 -- Assumes nothing.
-use Rattle.std.specs.Prelude.{List, [], ◌∷◌, ◌++◌, ℕ, zero, suc, ◌*◌, leb, take, drop}
+use Rattle.std.specs.Prelude.{List, [], ◌∷◌, ◌++◌, ℕ, zero, suc, ◌*◌, leb, take, drop, if◌then◌else◌}
 use Rattle.std.proofs.lemmas.List.Edits.{sets}
-use Rattle.rules.specs.Say.{if◌then◌else◌}
 use Rattle.rules.specs.Books.{Heap, on_memory, is_set, class, pool, offset_of}
 use Rattle.rules.specs.Blocks.{size_of, last_class, start_of, capacity}
 

@@ -1,7 +1,7 @@
 -- The laws of counting: `how_many test n` where the test changes at one number, and where it passes everywhere or
 -- nowhere. And of tests that every number below n passes, that of a pool's set bits among them.
 -- Assumes nothing.
-use Rattle.std.specs.Prelude.{◌≡◌, ◌≢◌, Bool, true, false, not, ◌&&◌, List, ℕ, zero, suc, ◌+◌, ◌≤◌, ◌<◌}
+use Rattle.std.specs.Prelude.{◌≡◌, ◌≢◌, Bool, true, false, not, ◌&&◌, List, ℕ, zero, suc, ◌+◌, ◌≤◌, ◌<◌, if◌then◌else◌}
 use Rattle.std.proofs.Math.Path.{refl}
 use Rattle.std.proofs.Common.{sym, ap, ◌∙◌, arith}
 use Rattle.std.proofs.lemmas.Bool.{false≢true}
@@ -9,7 +9,7 @@ use Rattle.std.proofs.Math.Numerals.{add-one}
 use Rattle.std.proofs.Math.Decide.{ℕ_discrete}
 use Rattle.std.proofs.Math.Dec.{ltb}
 use borrow.Author.Tests.{lt-ltb, ltb-true}
-use Rattle.rules.specs.Say.{if◌then◌else◌, ◌implies◌, all_below, how_many}
+use Rattle.rules.specs.Say.{◌implies◌, all_below, how_many}
 use Rattle.rules.specs.Books.{is_set}
 use Rattle.rules.specs.Audit.{bits_below}
 use Rattle.books.specs.Tests.{both}

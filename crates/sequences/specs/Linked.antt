@@ -1,7 +1,7 @@
 -- Sequences in the words of the books: the writes of joining and leaving a doubly linked list, and what they leave of
 -- it and of every other word; and the freed pools' lists, which are linked by next alone.
 -- Assumes nothing.
-use Rattle.std.specs.Prelude.{◌≡◌, ◌≢◌, not, List, [], ◌∷◌, ◌++◌, set}
+use Rattle.std.specs.Prelude.{◌≡◌, ◌≢◌, not, List, [], ◌∷◌, ◌++◌, set, if◌then◌else◌}
 use Rattle.std.proofs.Math.Path.{refl, ap}
 use Rattle.std.proofs.Common.{sym, ◌∙◌, length-set}
 use Prim.Native.Nat.{ℕ, zero, suc, ◌+◌, ◌*◌, ◌-◌, ◌<◌}
@@ -9,7 +9,7 @@ use native.Mathlib.Omega.{arith}
 use Rattle.std.proofs.Math.Dec.{eqb-suc-zero}
 use Rattle.std.proofs.Math.ListN.{length}
 use Rattle.std.proofs.Math.Seq.{get_or-set_same, get_or-set_other, lt-length-set}
-use Rattle.rules.specs.Say.{if◌then◌else◌, only}
+use Rattle.rules.specs.Say.{only}
 use Rattle.rules.specs.Books.{at, none?}
 use Rattle.rules.specs.Lists.{leave, join, go_in_after, leave_by, join_by}
 use Rattle.sequences.specs.Sequences.{

@@ -1,8 +1,21 @@
 -- The laws of a listing: what is held at each number, 0 where nothing is, as a list by rising number. And of one where
 -- only every s-th number can hold something, as in a pool, whose blocks start s bytes apart.
 -- Assumes nothing.
-use Rattle.std.specs.Prelude.{◌≡◌, refl, ◌≢◌, ◌↔◌, Bool, true, false, not, eqb, length}
-use Rattle.std.proofs.Common.{sym, ◌∙◌, subst, add-zero, mul-le-mul_right, div-mul-le_self, div-lt_iff_lt-mul, mod-eq_of_lt, length-append, get_or-append-add, eq-eqb, ne_eqb}
+use Rattle.std.specs.Prelude.{◌≡◌, refl, ◌≢◌, ◌↔◌, Bool, true, false, not, eqb, length, if◌then◌else◌}
+use Rattle.std.proofs.Common.{
+  sym,
+  ◌∙◌,
+  subst,
+  add-zero,
+  mul-le-mul_right,
+  div-mul-le_self,
+  div-lt_iff_lt-mul,
+  mod-eq_of_lt,
+  length-append,
+  get_or-append-add,
+  eq-eqb,
+  ne_eqb,
+}
 use Rattle.std.proofs.Math.Path.{ap, ap₂}
 use Rattle.std.proofs.Math.Bool.{and-false}
 use mathlib.Core.List.{List, [], ◌∷◌, ◌++◌, append_assoc, append-nil}
@@ -12,7 +25,7 @@ use Rattle.std.proofs.Math.Decide.{ℕ_discrete}
 use native.Mathlib.Omega.{arith}
 use Rattle.std.proofs.Math.Seq.{get_or-append_seam}
 use Rattle.std.proofs.lemmas.Bool.{lt-leb}
-use Rattle.rules.specs.Say.{if◌then◌else◌, how_many, listing}
+use Rattle.rules.specs.Say.{how_many, listing}
 use Rattle.rules.specs.Books.{at}
 use Rattle.rules.specs.Blocks.{last_start, is_start, capacity}
 use Rattle.sequences.specs.Counting.{many_rises}

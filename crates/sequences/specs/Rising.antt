@@ -1,10 +1,9 @@
 -- What follows a member of a sequence, and sequences that rise by a number of each member: none of them has more than
 -- one that follows it, which is to say more than the next.
 -- Assumes nothing.
-use Rattle.std.specs.Prelude.{◌≡◌, refl, ◌≢◌, List, [], ◌∷◌, ◌++◌, ℕ, suc, ◌-◌, ◌≤◌, eqb}
+use Rattle.std.specs.Prelude.{◌≡◌, refl, ◌≢◌, List, [], ◌∷◌, ◌++◌, ℕ, suc, ◌-◌, ◌≤◌, eqb, if◌then◌else◌}
 use Rattle.std.proofs.Math.Logic.{Ne-symm as flip}
 use Rattle.std.proofs.Common.{arith, eq-eqb, ne_eqb}
-use Rattle.rules.specs.Say.{if◌then◌else◌}
 use Rattle.rules.specs.Books.{linked}
 use Rattle.sequences.specs.Sequences.{
   All,

@@ -1,13 +1,12 @@
 -- Sequences: plain lists of numbers without repetition, and doubly linked lists read from the front over abstract
 -- links. A link to n is suc n; 0 is none.
 -- Assumes nothing.
-use Rattle.std.specs.Prelude.{◌≡◌, refl, ◌≢◌, ◌⊎◌, Bool, true, false, ◌||◌, List, [], ◌∷◌, ◌++◌, ℕ, zero, suc, ◌<◌, ◌≤◌, eqb, length}
+use Rattle.std.specs.Prelude.{◌≡◌, refl, ◌≢◌, ◌⊎◌, Bool, true, false, ◌||◌, List, [], ◌∷◌, ◌++◌, ℕ, zero, suc, ◌<◌, ◌≤◌, eqb, length, if◌then◌else◌}
 use Rattle.std.proofs.Common.{sym, ap, ◌∙◌, inl, inr, true≢false, arith, length-append, eq-eqb, ne_eqb}
 use Rattle.std.proofs.Math.Logic.{Ne-symm as flip}
 use Rattle.std.proofs.Math.Bool.{or-true}
 use Rattle.std.proofs.lemmas.Bool.{false≢true}
 use Rattle.std.proofs.Math.Decide.{ℕ_discrete}
-use Rattle.rules.specs.Say.{if◌then◌else◌}
 
 -- ---- what holds of every member; members, each once
 abbrev pub All : (ℕ → Type 0) → List ℕ → Type 0

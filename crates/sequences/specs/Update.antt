@@ -1,10 +1,9 @@
 -- A function with one value changed: how the plain heap writes. And tests: one that cannot hold, and one of numbers by
 -- their places.
 -- Assumes nothing.
-use Rattle.std.specs.Prelude.{◌≡◌, refl, ◌≢◌, Bool, true, false, ℕ, eqb}
+use Rattle.std.specs.Prelude.{◌≡◌, refl, ◌≢◌, Bool, true, false, ℕ, eqb, if◌then◌else◌}
 use Rattle.std.proofs.Common.{sym, ap, ap₂, ◌∙◌, eq-eqb, ne_eqb}
 use Rattle.std.proofs.Math.Decide.{ℕ_discrete}
-use Rattle.rules.specs.Say.{if◌then◌else◌}
 
 -- a test that cannot hold fails
 pub is_false : (t : Bool) → t ≢ true → t ≡ false

@@ -2,7 +2,7 @@
 -- walk reads, and that the list then has it, singly or doubly linked; and the other way round. A walk that ends meets
 -- none twice, for it would go on as it went before; so one that meets as many members as there are meets each of them.
 -- Assumes nothing.
-use Rattle.std.specs.Prelude.{◌≡◌, refl, ◌≢◌, Bool, true, false, not, ◌&&◌, length}
+use Rattle.std.specs.Prelude.{◌≡◌, refl, ◌≢◌, Bool, true, false, not, ◌&&◌, length, if◌then◌else◌}
 use Rattle.std.proofs.Common.{sym, ◌∙◌}
 use Rattle.std.proofs.Math.Path.{ap}
 use Rattle.std.proofs.Math.Bool.{and-true}
@@ -11,7 +11,7 @@ use Prim.Native.Nat.{ℕ, zero, suc, ◌+◌, ◌-◌, ◌≤◌, ◌<◌}
 use native.Mathlib.Omega.{arith}
 use Rattle.std.proofs.Math.Dec.{leb, eqb}
 use borrow.Author.Tests.{eq-eqb, ne_eqb, le-leb, leb-true, eqb-true, eqb-false, not-true, not-false}
-use Rattle.rules.specs.Say.{if◌then◌else◌, how_many}
+use Rattle.rules.specs.Say.{how_many}
 use Rattle.rules.specs.Books.{at, none?, linked}
 use Rattle.rules.specs.Audit.{leads, meets, holds}
 use Rattle.books.specs.Tests.{both}

@@ -1,6 +1,6 @@
 -- Ask, where the class list has a pool: by a link to follow, by another block set ready, as its last spare block.
 -- Assumes nothing.
-use Rattle.std.specs.Prelude.{◌≡◌, ◌≢◌, false, ◌||◌, length}
+use Rattle.std.specs.Prelude.{◌≡◌, ◌≢◌, false, ◌||◌, length, if◌then◌else◌}
 use Rattle.std.proofs.Math.Path.{refl}
 use Rattle.std.proofs.Common.{sym, ap, ◌∙◌, subst, inr, mul-le-mul_right, mul_comm, div-add-mod', mod-lt, arith}
 use Rattle.std.proofs.Math.Bool.{true, or-true}
@@ -11,7 +11,7 @@ use Rattle.std.proofs.Math.Dec.{eqb-suc-zero}
 use borrow.Author.Tests.{eq-eqb, ne_eqb, le-leb, lt-leb, lt-ltb, le-ltb}
 use Rattle.rules.specs.declared.AskPlan.{AskPlan}
 use Rattle.rules.specs.declared.AskPlan.TheVariants.{Follow, Ready, Last}
-use Rattle.rules.specs.Say.{if◌then◌else◌, ◌▷◌}
+use Rattle.rules.specs.Say.{◌▷◌}
 use Rattle.rules.specs.Books.{Heap, at, put_map_bit, class_head, pool, none?, offset_of}
 use Rattle.rules.specs.Blocks.{size_of, last_class, start_of, last_start, block_no, capacity, link_at}
 use Rattle.rules.specs.Ask.{front_of, plan_ask, spare, from_listed, from_freeblock, no_link, after_ask, ask_answer}

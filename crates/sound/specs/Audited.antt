@@ -1,7 +1,7 @@
 -- W-201's audit says yes exactly where a heap holds a plain heap soundly. Where it says yes, that is the plain heap
 -- which is read off it: its lists and chains as long as they should be, its virgin blocks from nextoffset on.
 -- Assumes nothing.
-use Rattle.std.specs.Prelude.{◌≡◌, Bool, ◌&&◌, List, ℕ, ◌*◌, ◌≤◌, ◌<◌, ltb}
+use Rattle.std.specs.Prelude.{◌≡◌, Bool, ◌&&◌, List, ℕ, ◌*◌, ◌≤◌, ◌<◌, ltb, if◌then◌else◌}
 use Rattle.std.proofs.Math.Path.{refl, sym}
 use Rattle.std.proofs.Common.{◌∙◌}
 use Rattle.std.proofs.Math.Logic.{inl, inr}
@@ -10,7 +10,7 @@ use Rattle.std.proofs.Math.Decide.{ℕ_discrete}
 use native.Mathlib.Omega.{arith}
 use Rattle.std.proofs.Math.Dec.{leb, eqb}
 use borrow.Author.Tests.{eq-eqb, ne_eqb, lt-ltb, le-ltb, leb-true, eqb-true}
-use Rattle.rules.specs.Say.{if◌then◌else◌, all_below}
+use Rattle.rules.specs.Say.{all_below}
 use Rattle.rules.specs.Books.{
   Heap,
   at,

@@ -1,14 +1,28 @@
 -- What the books say, record by record and list by list, and one law for each kind of write: a path of 01 is a chain
 -- of these laws.
 -- Assumes nothing.
-use Rattle.std.specs.Prelude.{◌≡◌, refl, ◌≢◌, true, ◌&&◌, ℕ, suc, ◌+◌, ◌*◌, ◌<◌, ◌≤◌, eqb, length, set}
+use Rattle.std.specs.Prelude.{◌≡◌, refl, ◌≢◌, true, ◌&&◌, ℕ, suc, ◌+◌, ◌*◌, ◌<◌, ◌≤◌, eqb, length, set, if◌then◌else◌}
 use Rattle.std.proofs.Common.{sym, ap, ◌∙◌, subst, arith, length-set, get_or-set_same, get_or-set_other, lt-length-set, eq-eqb, ne_eqb, le-leb}
 use Rattle.std.proofs.Math.Logic.{Ne-symm as flip}
 use mathlib.Core.List.{List, [], ◌∷◌, ◌++◌, append_assoc}
 use Rattle.std.proofs.Math.Decide.{ℕ_discrete}
-use Rattle.std.proofs.lemmas.List.{set_comm}
-use Rattle.rules.specs.Say.{if◌then◌else◌, ◌▷◌}
-use Rattle.rules.specs.Books.{at, put, class_head, freed_head, arena_next, arena_previous, arena_word, arena, pool_next, pool_previous, pool_word, pool, link_to}
+use Rattle.std.proofs.lemmas.List.{set_comm, set-get_or}
+use Rattle.rules.specs.Say.{◌▷◌}
+use Rattle.rules.specs.Books.{
+  at,
+  put,
+  class_head,
+  freed_head,
+  arena_next,
+  arena_previous,
+  arena_word,
+  arena,
+  pool_next,
+  pool_previous,
+  pool_word,
+  pool,
+  link_to,
+}
 use Rattle.rules.specs.Lists.{next_at, previous_at, leave, join, go_in_after, may_leave, arena_links, pool_links}
 use Rattle.sequences.specs.Update.{to, to_same, to_other}
 use Rattle.sequences.specs.Sequences.{All, Not, In, Split, split, erase, erase_front, after, after_is, last_link, last_link_lem, all_map, all_every}
@@ -374,7 +388,8 @@ module _ {A N : ℕ} {b : List ℕ} {U : View} (K : Books A N b U) (c p : ℕ) (
       → Books A N (join (pool_links A) (class_head c) p b) (U ▷ home_to p (class_head c) ▷ listed_to c (p ∷ U.listed c))
   pool_joins_lem e =
       rw (join_is (pool_word A 2) (pool_word A 3) (pool_links A) (λ y. omega arith) (λ y. omega arith) (class_head c) p b)
-      (pool_moved (joined (pool_word A 2) (pool_word A 3) (class_head c) 0 p b) (class_head c) (joined_length (pool_word A 2) (pool_word A 3) (class_head c) 0 p b)
+      (pool_moved (joined (pool_word A 2) (pool_word A 3) (class_head c) 0 p b) (class_head c)
+      (joined_length (pool_word A 2) (pool_word A 3) (class_head c) 0 p b)
       (λ i f d. joined_other (pool_word A 2) (pool_word A 3) (class_head c) 0 p i b (f p).0 (f p).1 d (λ y _. (f y).0) (λ y _. (f y).1))
       (join_keeps K.listed c lc p l (λ j k. omega arith) classes_apart 0 [] (U.listed c) refl refl)
       (λ a k. omega arith) (λ q. absurd (omega arith)) (p ∷ U.listed c)
@@ -382,7 +397,8 @@ module _ {A N : ℕ} {b : List ℕ} {U : View} (K : Books A N b U) (c p : ℕ) (
 
   -- "The pool goes alone on the class list": the same, where the list is empty
   pub pool_alone : U.home p < 2 → U.listed c ≡ []
-      → Books A N (b ▷ put (class_head c) (link_to p) ▷ put (pool_word A pool_next p) 0 ▷ put (pool_word A pool_previous p) 0)
+      → Books A N (b ▷ put (class_head c) (link_to p) ▷ put (pool_word A pool_next p) 0
+      ▷ put (pool_word A pool_previous p) 0)
       (U ▷ home_to p (class_head c) ▷ listed_to c (p ∷ []))
   unfolding joined_by
   pool_alone e none =
@@ -446,7 +462,8 @@ module _ {A N : ℕ} {b : List ℕ} {U : View} (K : Books A N b U) (a : ℕ) (la
     -- ".. goes to the front of its arena's freed pools, linked by next alone (own previous 0, ..)": a pool that is on
     -- no list
     pub freed_comes : U.home p < 2
-        → Books A N (b ▷ put (pool_word A pool_next p) (at b (arena_word freed_head a)) ▷ put (pool_word A pool_previous p) 0
+        → Books A N (b ▷ put (pool_word A pool_next p) (at b (arena_word freed_head a))
+        ▷ put (pool_word A pool_previous p) 0
         ▷ put (arena_word freed_head a) (link_to p))
         (U ▷ home_to p (arena_word freed_head a) ▷ freed_to a (p ∷ U.freed a))
     freed_comes e =
@@ -492,7 +509,8 @@ module _ {A N : ℕ} {b : List ℕ} {U : View} (K : Books A N b U) (a : ℕ) (la
         head_is =
             let q : link_to p ≡ suc p = omega arith in
             let u : arena_word 3 a < length b = inb _ (omega arith) in
-            get_or-set_same (b ▷ put (pool_word A 2 p) (at b (arena_word 3 a)) ▷ put (pool_word A 3 p) 0) (arena_word 3 a) (link_to p) 0 (search (lt-length-set, u))
+            get_or-set_same (b ▷ put (pool_word A 2 p) (at b (arena_word 3 a))
+            ▷ put (pool_word A 3 p) 0) (arena_word 3 a) (link_to p) 0 (search (lt-length-set, u))
             ∙ q
 
         new : Singly (pool_word A 2) (pool_word A 3) b' (arena_word 3 a) (to a (p ∷ U.freed a) U.freed a)
@@ -670,7 +688,8 @@ module _ {A N : ℕ} {b : List ℕ} {U : View} (K : Books A N b U) (h a : ℕ) (
       (joins K.lists h hh a la (λ j k. omega arith) heads_apart p pre post s q)
 
   -- "To join at the front": an arena that is on no list
-  pub arena_joins_lem : U.base a ≡ 0 → Books A N (join arena_links h a b) (U ▷ base_to a h ▷ arenas_to h (a ∷ U.arenas h))
+  pub arena_joins_lem : U.base a ≡ 0 → Books A N (join arena_links h a b) (U ▷ base_to a h
+      ▷ arenas_to h (a ∷ U.arenas h))
   arena_joins_lem e =
       rw (join_is (arena_word 4) (arena_word 5) arena_links (λ y. omega arith) (λ y. omega arith) h a b)
       (arena_joins_at 0 [] (U.arenas h) refl refl (omega arith) (head_link K.lists h hh) e)
@@ -690,3 +709,7 @@ module _ {A N : ℕ} {b : List ℕ} {U : View} (K : Books A N b U) (h a : ℕ) (
       is =
           append_assoc s.pre (q ∷ []) (a ∷ s.post)
           ∙ sym (ap (after q a) s.is ∙ after_is q a s.pre s.post (rw s.is at (K.lists.row h hh).row.once))
+
+-- a word that is put as it stands
+pub put_zero : (b : List ℕ) (i : ℕ) → at b i ≡ 0 → put i 0 b ≡ b
+put_zero b i e = ap (λ (x : ℕ). put i x b) (sym e) ∙ set-get_or b i 0

@@ -2,7 +2,24 @@
 -- makes of one.
 -- Assumes nothing.
 use Rattle.std.specs.Prelude.{◌≡◌, refl, ◌⊎◌, List, [], ◌∷◌, ◌++◌, ℕ, suc, ◌+◌, ◌-◌, ◌≤◌, ◌<◌, length, set, take, drop}
-use Rattle.std.proofs.Common.{sym, ap, ◌∙◌, inl, inr, append_assoc, arith, length-drop, ext_get_or, get_or-take, get_or-drop, drop_at, take-add, drop-drop, get_or-set_other, length-take-le}
+use Rattle.std.proofs.Common.{
+  sym,
+  ap,
+  ◌∙◌,
+  inl,
+  inr,
+  append_assoc,
+  arith,
+  length-drop,
+  ext_get_or,
+  get_or-take,
+  get_or-drop,
+  drop_at,
+  take-add,
+  drop-drop,
+  get_or-set_other,
+  length-take-le,
+}
 use Rattle.std.proofs.lemmas.List.Edits.{sets, sets-eq}
 use Rattle.std.proofs.Math.Seq.{take-append-add, take-set-lt}
 use Rattle.std.proofs.lemmas.List.{drop-set-add}

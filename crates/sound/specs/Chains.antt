@@ -2,7 +2,26 @@
 -- it. Once for every block size.
 -- Assumes nothing.
 use Rattle.std.specs.Prelude.{◌≡◌, refl, ◌≢◌, Bool, true, false, not, List, [], ◌∷◌, ℕ, zero, suc, ◌+◌, ◌*◌, ◌/◌, ◌%◌, ◌<◌, ◌≤◌, length}
-use Rattle.std.proofs.Common.{sym, ap, ◌∙◌, inl, inr, true≢false, mul-le-mul_right, suc-mul, add-zero, div-mul-le_self, le-div_iff_mul-le, arith, length-set, get_or-set_same, get_or-set_other, lt-length-set, eq-eqb, ne_eqb}
+use Rattle.std.proofs.Common.{
+  sym,
+  ap,
+  ◌∙◌,
+  inl,
+  inr,
+  true≢false,
+  mul-le-mul_right,
+  suc-mul,
+  add-zero,
+  div-mul-le_self,
+  le-div_iff_mul-le,
+  arith,
+  length-set,
+  get_or-set_same,
+  get_or-set_other,
+  lt-length-set,
+  eq-eqb,
+  ne_eqb,
+}
 use Rattle.std.proofs.Math.Nat.{div-div-eq-div-mul}
 use Rattle.std.proofs.Math.Decide.{ℕ_discrete, dec_le, dec_lt}
 use Rattle.std.proofs.lemmas.Bool.{not-true}

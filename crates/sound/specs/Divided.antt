@@ -2,7 +2,7 @@
 -- from memory is the sequence of the freed blocks; and it passes wherever there is such a sequence. For a chain that
 -- ends meets none twice, and it has as many blocks as are neither live nor virgin.
 -- Assumes nothing.
-use Rattle.std.specs.Prelude.{◌≡◌, refl, Bool, true, false, ◌&&◌, ◌||◌, leb, ltb, length}
+use Rattle.std.specs.Prelude.{◌≡◌, refl, Bool, true, false, ◌&&◌, ◌||◌, leb, ltb, length, if◌then◌else◌}
 use Rattle.std.proofs.Common.{sym, ◌∙◌, inl, inr, arith}
 use Rattle.std.proofs.Math.Path.{ap}
 use Rattle.std.proofs.Math.Bool.{not}
@@ -12,7 +12,7 @@ use Prim.Native.Nat.{ℕ, zero, suc, ◌≤◌, ◌<◌}
 use Rattle.std.proofs.Math.Decide.{dec_lt}
 use Rattle.std.proofs.Math.Dec.{eqb}
 use borrow.Author.Tests.{eq-eqb, ne_eqb, le-leb, lt-ltb, leb-true, ltb-true, ltb-false, eqb-true}
-use Rattle.rules.specs.Say.{if◌then◌else◌, how_many}
+use Rattle.rules.specs.Say.{how_many}
 use Rattle.rules.specs.Books.{is_set, freeblock, class, nextoffset, maxnextoffset, pool, offset_of, carved}
 use Rattle.rules.specs.Blocks.{size_of, last_class, start_of, last_start, is_start, block_no, capacity, link_at}
 use Rattle.rules.specs.Audit.{

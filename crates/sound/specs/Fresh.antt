@@ -1,6 +1,30 @@
 -- Format: the books that it writes, word by word, and that they hold the fresh plain heap, whatever the buffers held.
 -- Assumes nothing.
-use Rattle.std.specs.Prelude.{◌≡◌, refl, ◌≢◌, ◌⊎◌, Bool, true, false, List, [], ◌∷◌, ◌++◌, ℕ, zero, suc, ◌+◌, ◌*◌, ◌-◌, ◌%◌, ◌≤◌, ◌<◌, eqb, replicate}
+use Rattle.std.specs.Prelude.{
+  ◌≡◌,
+  refl,
+  ◌≢◌,
+  ◌⊎◌,
+  Bool,
+  true,
+  false,
+  List,
+  [],
+  ◌∷◌,
+  ◌++◌,
+  ℕ,
+  zero,
+  suc,
+  ◌+◌,
+  ◌*◌,
+  ◌-◌,
+  ◌%◌,
+  ◌≤◌,
+  ◌<◌,
+  eqb,
+  replicate,
+  if◌then◌else◌,
+}
 use Rattle.std.proofs.Common.{sym, ◌∙◌, inl, inr, eq-eqb, ne_eqb, le-ltb, ltb-true}
 use Rattle.std.proofs.Math.Path.{ap}
 use Rattle.std.proofs.lemmas.Bool.{false≢true}
@@ -9,7 +33,6 @@ use native.Mathlib.Omega.{arith}
 use Rattle.std.proofs.Math.ListN.{length, length-append, get_or-append}
 use Rattle.std.proofs.lemmas.List.{length-replicate, get_or-replicate}
 use Rattle.std.proofs.Math.Seq.{get_or-append-add}
-use Rattle.rules.specs.Say.{if◌then◌else◌}
 use Rattle.rules.specs.Books.{
   Heap,
   at,
@@ -142,7 +165,8 @@ module _ (A P e : ℕ) where
       ∙ get_or-append (fresh_arenas 0 A) (fresh_pools (A * P)) 0 (8 * a + w) (omega (arith, length_arenas 0 A))
       ∙ arena_words 0 A a w l u
 
-  pool_word_lem : (w n : ℕ) → w < 8 → n < A * P → at (fresh_books A P e) (pool_word A w n) ≡ (if eqb w 4 then no_class else 0)
+  pool_word_lem : (w n : ℕ) → w < 8 → n < A * P
+      → at (fresh_books A P e) (pool_word A w n) ≡ (if eqb w 4 then no_class else 0)
   unfolding fresh_books
   pool_word_lem w n u l =
       let q : pool_word A w n ≡ 72 + (8 * A + (8 * n + w)) = omega arith in

@@ -1,13 +1,13 @@
 -- Give back, where the pool stays in use: it was full and joins its class list, or it keeps its place.
 -- Assumes nothing.
-use Rattle.std.specs.Prelude.{◌≡◌, ◌≢◌, true, ◌||◌, List, [], ◌∷◌, ℕ, suc, ◌+◌, ◌*◌, ◌-◌, ◌≤◌, ◌<◌, eqb, length}
+use Rattle.std.specs.Prelude.{◌≡◌, ◌≢◌, true, ◌||◌, List, [], ◌∷◌, ℕ, suc, ◌+◌, ◌*◌, ◌-◌, ◌≤◌, ◌<◌, eqb, length, if◌then◌else◌}
 use Rattle.std.proofs.Math.Path.{refl}
 use Rattle.std.proofs.Common.{sym, ap, ◌∙◌, subst, inr, arith}
 use Rattle.std.proofs.Math.Bool.{false}
 use borrow.Author.Tests.{eq-eqb, ne_eqb, le-leb}
 use Rattle.rules.specs.declared.BackPlan.{BackPlan}
 use Rattle.rules.specs.declared.BackPlan.TheVariants.{Joins, Stays}
-use Rattle.rules.specs.Say.{if◌then◌else◌, ◌▷◌}
+use Rattle.rules.specs.Say.{◌▷◌}
 use Rattle.rules.specs.Books.{Heap, at, put, put_map_bit, class_head, freeblock, pool_word, pool, offset_of}
 use Rattle.rules.specs.Blocks.{size_of, start_of, is_start, block_no, capacity, put_link}
 use Rattle.rules.specs.Lists.{may_join}

@@ -2,14 +2,14 @@
 -- for any plain heap that has the heap's marks, classes and live blocks. Such a one has the same pools in use, for a
 -- set bit is only in a carved pool.
 -- Assumes nothing.
-use Rattle.std.specs.Prelude.{◌≡◌, ◌⊎◌, Bool, not, ◌&&◌, List, ℕ, suc, ◌+◌, ◌*◌, ◌/◌, ◌%◌, ◌≤◌, ◌<◌, ltb, length}
+use Rattle.std.specs.Prelude.{◌≡◌, ◌⊎◌, Bool, not, ◌&&◌, List, ℕ, suc, ◌+◌, ◌*◌, ◌/◌, ◌%◌, ◌≤◌, ◌<◌, ltb, length, if◌then◌else◌}
 use Rattle.std.proofs.Math.Path.{refl, sym}
 use Rattle.std.proofs.Common.{ap, ◌∙◌, inl, inr, mul-le-mul_right, suc-mul, arith}
 use Rattle.std.proofs.Math.Bool.{true, false, and-false}
 use Rattle.std.proofs.Math.Decide.{ℕ_discrete}
 use Rattle.std.proofs.Math.Dec.{leb, eqb}
 use borrow.Author.Tests.{eq-eqb, le-leb, lt-ltb, le-ltb, leb-true, ltb-true, eqb-true}
-use Rattle.rules.specs.Say.{if◌then◌else◌, all_below}
+use Rattle.rules.specs.Say.{all_below}
 use Rattle.rules.specs.Books.{
   Heap,
   at,
@@ -127,7 +127,8 @@ module _ (A P : ℕ) (b : List ℕ) where
           go (yes q) = inl q
           go (no q) = inr (omega arith)
 
-      spare : (i : ℕ) → at b 69 ≡ 0 → at b 70 ≡ 0 → at b 71 ≡ 0 → edition_word < i → i < 72 → Dec (i ≡ 69) → Dec (i ≡ 70)
+      spare : (i : ℕ) → at b 69 ≡ 0 → at b 70 ≡ 0 → at b 71 ≡ 0 → edition_word < i → i < 72 → Dec (i ≡ 69)
+          → Dec (i ≡ 70)
           → at b i ≡ 0
       spare i e f g k l (yes q) d = rw q e
       spare i e f g k l (no q) (yes d) = rw d f

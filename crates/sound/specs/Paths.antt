@@ -2,12 +2,12 @@
 -- heap after, and no byte of a live block nor of a pool's first 48 is touched. And a step inside a pool that is in
 -- use before and after.
 -- Assumes nothing.
-use Rattle.std.specs.Prelude.{◌≡◌, refl, ◌≢◌, ◌⊎◌, true, false, not, List, ℕ, suc, ◌+◌, ◌*◌, ◌/◌, ◌%◌, ◌≤◌, ◌<◌, ltb, eqb, length}
+use Rattle.std.specs.Prelude.{◌≡◌, refl, ◌≢◌, ◌⊎◌, true, false, not, List, ℕ, suc, ◌+◌, ◌*◌, ◌/◌, ◌%◌, ◌≤◌, ◌<◌, ltb, eqb, length, if◌then◌else◌}
 use Rattle.std.proofs.Common.{sym, ap, ap₂, ◌∙◌, inl, true≢false, arith, eq-eqb, ne_eqb, lt-ltb}
 use Rattle.std.proofs.Math.Decide.{ℕ_discrete}
 use Rattle.rules.specs.declared.AskPlan.{AskPlan}
 use Rattle.rules.specs.declared.BackPlan.{BackPlan}
-use Rattle.rules.specs.Say.{if◌then◌else◌, ◌▷◌}
+use Rattle.rules.specs.Say.{◌▷◌}
 use Rattle.rules.specs.Books.{Heap, at, offset_of, put_map_bit}
 use Rattle.rules.specs.Blocks.{size_of, last_class, start_of, capacity, put_link}
 use Rattle.rules.specs.Ask.{plan_ask, after_ask, ask_answer}
@@ -207,7 +207,8 @@ module _ {al A P p : ℕ} {U : View} {m k : List ℕ} {r : Plain} (L : Aligned a
       go (no q) = rw (ne_eqb y p q)
 
   free_still : (x : ℕ) → free P (r ▷ set_live p j (eqb d 1)) x ≡ free P r x
-  free_still x = many_same (λ i. not (in_use r (x * P + i))) (λ i. not (in_use (r ▷ set_live p j (eqb d 1)) (x * P + i))) P (λ i l. ap not (in_use_lem (x * P + i)))
+  free_still x = many_same (λ i. not (in_use r (x * P + i))) (λ i. not (in_use (r
+      ▷ set_live p j (eqb d 1)) (x * P + i))) P (λ i l. ap not (in_use_lem (x * P + i)))
 
   -- ks is the pool's chain then, virgins and listed are the plain heap's, and pools, homes and lists the view's
   pub inner : (ks : List ℕ) (virgins : ℕ → ℕ) (listed : ℕ → List ℕ)

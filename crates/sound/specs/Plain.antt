@@ -1,7 +1,7 @@
 -- The plain heap: sequences instead of links, and no bytes. Blocks go by their number in the pool. Its steps decide
 -- the same paths as 01's, with 02's order of the usable arenas, and none of them is damage.
 -- Assumes nothing.
-use Rattle.std.specs.Prelude.{Bool, true, false, not, List, [], ◌∷◌, ℕ, zero, suc, ◌+◌, ◌*◌, ◌/◌, ◌%◌, ltb, eqb}
+use Rattle.std.specs.Prelude.{Bool, true, false, not, List, [], ◌∷◌, ℕ, zero, suc, ◌+◌, ◌*◌, ◌/◌, ◌%◌, ltb, eqb, if◌then◌else◌}
 use Rattle.rules.specs.declared.Answer.{Answer}
 use Rattle.rules.specs.declared.Source.{Source}
 use Rattle.rules.specs.declared.Source.TheVariants.{Freed, Carved, Opened}
@@ -9,7 +9,7 @@ use Rattle.rules.specs.declared.AskPlan.{AskPlan}
 use Rattle.rules.specs.declared.AskPlan.TheVariants.{NoRoom, Damaged, Follow, Ready, Last, Again, Anew}
 use Rattle.rules.specs.declared.BackPlan.{BackPlan}
 use Rattle.rules.specs.declared.BackPlan.TheVariants.{Damaged as Broken, Joins, Stays, Empties, Moves, Returns, Releases}
-use Rattle.rules.specs.Say.{if◌then◌else◌, ◌▷◌, how_many}
+use Rattle.rules.specs.Say.{◌▷◌, how_many}
 use Rattle.rules.specs.Books.{no_class}
 use Rattle.rules.specs.Blocks.{class_of, size_of, start_of, capacity}
 use Rattle.rules.specs.Outcome.{answer_of}

@@ -1,8 +1,7 @@
 -- The heap h holds the plain heap r, soundly: W-201's rules 1 to 8, and W-203's as the ninth, each as a part of its
 -- own, in that order, al being the alignment of the books' edition.
 -- Assumes nothing.
-use Rattle.std.specs.Prelude.{◌≡◌, ◌⊎◌, Bool, true, false, List, ℕ, ◌*◌, ◌/◌, ◌≤◌, ◌<◌, ltb, eqb, length}
-use Rattle.rules.specs.Say.{if◌then◌else◌}
+use Rattle.std.specs.Prelude.{◌≡◌, ◌⊎◌, Bool, true, false, List, ℕ, ◌*◌, ◌/◌, ◌≤◌, ◌<◌, ltb, eqb, length, if◌then◌else◌}
 use Rattle.rules.specs.Books.{
   Heap,
   at,

@@ -74,6 +74,7 @@ use Rattle.sound.specs.Books.{
   base_to,
   freed_to,
   arenas_to,
+  put_zero,
 }
 use Rattle.sound.specs.Plain.{
   Plain,
@@ -94,7 +95,6 @@ use Rattle.sound.specs.Chains.{Blocks}
 use Rattle.sound.specs.Sound.{Sound}
 use Rattle.sound.specs.Held.{Held, held, InClassOf, classed, use_class, usable_word, no_freed, freed_is, unused_is, home_freed, home_away, base_usable}
 use Rattle.sound.specs.Paths.{quiet_same, Hand, hand_out_lem, Grows, grows_same, Asked, asked}
-use Rattle.sound.specs.Emptied.{put_zero}
 use Rattle.sound.specs.AskListed.{front_of_lem, ask_listed}
 use Rattle.sound.specs.Taken.{no_live, spent_books, spend_is, spent_usable, spend_rows, with_arenas, From, new_rows, set_anew_lem, taken_again_lem}
 
@@ -295,7 +295,8 @@ module _ {al A P c : ℕ} {h : Heap} {r : Plain} (L : Aligned al)
               let z = spend_is al A P c a (take_from al A P c (Freed a) p h) in
               asked (Again a p (start_of s k) (start_of s j)) r' plan (rw (lst, us, fr, eq-eqb (r.class p) c cls, e))
               (rw (fr, e)
-              (ap (λ (x : Plain). x ▷ set_listed c (p ∷ []) ▷ set_chain p (j ∷ js) ▷ set_live p k true) (spend_rows (eqb (free P r a) 1) a (r ▷ set_freed a ps))))
+              (ap (λ (x : Plain). x ▷ set_listed c (p ∷ []) ▷ set_chain p (j ∷ js)
+              ▷ set_live p k true) (spend_rows (eqb (free P r a) 1) a (r ▷ set_freed a ps))))
               (rw z (taken_again_lem L F from_freed_lem lc lst k j js cls B (rw cls at J.maxnextoffset_is) (λ w. refl))) (rw z (quiet_same {r = r'}))
               (λ _. hand_out_lem p k lp (omega (arith, B.below.0, B.fits)) cls (no_live L F p lp was.0 k) refl refl) (grows_same refl refl)
             where
@@ -385,7 +386,8 @@ module _ {al A P c : ℕ} {h : Heap} {r : Plain} (L : Aligned al)
       up_is : up ≡ r.mark a + 1
       up_is = ap (λ (x : ℕ). x + 1) ((put_pool_lem K 4 mark_pool no_class (omega arith) mark_inside).arenas 1 a (omega arith) la ∙ (F.arenas a la).mark_is)
 
-      from_mark_lem : From al A P mark_pool a (put (arena_word carve_mark a) up (put (pool_word A 4 mark_pool) no_class b)) U
+      from_mark_lem : From al A P mark_pool a
+          (put (arena_word carve_mark a) up (put (pool_word A 4 mark_pool) no_class b)) U
           (U ▷ pool_to 4 mark_pool no_class ▷ arena_to 1 a up) r
           r.usable r.unused (to a (r.mark a + 1) r.mark) r.freed
       from_mark_lem =

@@ -2,12 +2,12 @@
 -- after it says the plain heap after it. What the view says of the others it said before, for their words, sequences
 -- and bytes stand.
 -- Assumes nothing.
-use Rattle.std.specs.Prelude.{◌≡◌, refl, ◌≢◌, Bool, true, not, List, ℕ, ◌+◌, ◌*◌, ◌/◌, ◌≤◌, ◌<◌, ltb, eqb, length}
+use Rattle.std.specs.Prelude.{◌≡◌, refl, ◌≢◌, Bool, true, not, List, ℕ, ◌+◌, ◌*◌, ◌/◌, ◌≤◌, ◌<◌, ltb, eqb, length, if◌then◌else◌}
 use Rattle.std.proofs.Common.{sym, ap, ap₂, ◌∙◌, inl, inr, arith, eq-eqb, ne_eqb}
 use Rattle.std.proofs.Math.Logic.{Ne-symm as flip}
 use Rattle.std.proofs.Math.Decide.{ℕ_discrete, dec_le}
 use Rattle.std.proofs.Math.Arith.{digits_div}
-use Rattle.rules.specs.Say.{if◌then◌else◌, how_many}
+use Rattle.rules.specs.Say.{how_many}
 use Rattle.rules.specs.Books.{at, is_set, edition_word, is_edition, alignment_of, offset_of, put_map_bit}
 use Rattle.rules.specs.Blocks.{size_of, start_of, link_at, put_link}
 use Rattle.bits.specs.Map.{put_block, length_put}

@@ -1,12 +1,12 @@
 -- Ask, where the class list is empty: once a pool is taken from its source, its arena has one free pool fewer, and
 -- the pool is set to the class, or taken again for its own.
 -- Assumes nothing.
-use Rattle.std.specs.Prelude.{◌≡◌, refl, ◌≢◌, Bool, true, false, not, ◌&&◌, List, [], ◌∷◌, ℕ, suc, ◌+◌, ◌*◌, ◌-◌, ◌/◌, ◌%◌, ◌≤◌, ◌<◌, eqb}
+use Rattle.std.specs.Prelude.{◌≡◌, refl, ◌≢◌, Bool, true, false, not, ◌&&◌, List, [], ◌∷◌, ℕ, suc, ◌+◌, ◌*◌, ◌-◌, ◌/◌, ◌%◌, ◌≤◌, ◌<◌, eqb, if◌then◌else◌}
 use Rattle.std.proofs.Common.{sym, ap, ◌∙◌, subst, inr, true≢false, div-add-mod', mod-lt, arith, eq-eqb, ne_eqb, lt-ltb, le-ltb}
 use Rattle.std.proofs.Math.Logic.{Ne-symm as flip}
 use Rattle.std.proofs.Math.Bool.{and-false}
 use Rattle.std.proofs.Math.Decide.{ℕ_discrete}
-use Rattle.rules.specs.Say.{if◌then◌else◌, ◌▷◌, only}
+use Rattle.rules.specs.Say.{◌▷◌, only}
 use Rattle.rules.specs.Books.{
   Heap,
   at,
@@ -273,7 +273,8 @@ module _ {al A P p a c : ℕ} {b m q us un : List ℕ} {U U₁ : View} {r : Plai
       T = record { marks = O.marks; classes = others-c; chains = λ y d. rw (ne_eqb y p d); virgins = others-v; lives = λ y d. rw (ne_eqb y p d) }
 
       free_now_lem : (new_view pools).arena 2 a ≡ free P r' a
-      free_now_lem = let e : (new_view pools).arena 2 a ≡ at b (arena_word free_pools a) - 1 = rw (eq-eqb a a refl) in omega (arith, free_word_lem, one_less k lk)
+      free_now_lem = let e : (new_view pools).arena 2 a ≡ at b (arena_word free_pools a) - 1 = rw (eq-eqb a a refl) in omega
+          (arith, free_word_lem, one_less k lk)
 
       base_now : Dec (free P r a ≡ 1) → (new_view pools).base a ≡ base P r' a
       base_now (yes z) = let e : (new_view pools).base a ≡ 0 = rw (z, eq-eqb a a refl) in e ∙ sym (base_spent P r' a O.marked (omega (arith, one_less k lk)))
@@ -343,7 +344,8 @@ module _ {al A P p a c : ℕ} {b m q us un : List ℕ} {U U₁ : View} {r : Plai
 
       K' : Books A (A * P) h'.books U'
       K' =
-          put_pool_lem (put_pool_lem (put_pool_lem (put_pool_lem alone_books 4 p c (omega arith) lp) 5 p (48 + 2 * s) (omega arith) lp) 6 p (last_start s) (omega arith) lp) 1 p
+          put_pool_lem (put_pool_lem (put_pool_lem (put_pool_lem alone_books 4 p c (omega arith) lp) 5 p (48 + 2 * s) (omega arith) lp) 6 p (last_start s)
+          (omega arith) lp) 1 p
           (48 + s) (omega arith) lp
 
       I : InClassOf al U' h'.memory r' p
@@ -372,7 +374,8 @@ module _ {al A P p a c : ℕ} {b m q us un : List ℕ} {U U₁ : View} {r : Plai
       → Blocks s p m (U.pool 1 p) (U.pool 5 p) (r.live p) (k ∷ j ∷ js) (r.virgin p) → U.pool 6 p ≡ last_start s
       → ((w : ℕ) → U₁.pool w p ≡ U.pool w p)
       → Sound al A P (take_for (start_of s k) (start_of s j) (heap_of m (spent_books a b) q))
-      (with_arenas (spent_usable (eqb (free P r a) 1) a us) un mark freed r ▷ set_listed c (p ∷ []) ▷ set_chain p (j ∷ js)
+      (with_arenas (spent_usable (eqb (free P r a) 1) a us) un mark freed r ▷ set_listed c (p ∷ [])
+      ▷ set_chain p (j ∷ js)
       ▷ set_live p k true)
   taken_again_lem k j js cls B max words = sound {h = h'} L K' F'
     where

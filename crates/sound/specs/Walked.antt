@@ -1,7 +1,7 @@
 -- W-203's walk, by which an arena moves back in the usable list: on a heap that holds a plain heap it is the plain
 -- heap's walk over what follows the arena; and where it ends, the arenas rising.
 -- Assumes nothing.
-use Rattle.std.specs.Prelude.{◌≡◌, refl, ◌≢◌, true, leb, length}
+use Rattle.std.specs.Prelude.{◌≡◌, refl, ◌≢◌, true, leb, length, if◌then◌else◌}
 use Rattle.std.proofs.Math.Path.{ap}
 use Rattle.std.proofs.Common.{◌∙◌}
 use Rattle.std.proofs.Math.Logic.{Ne-symm as flip}
@@ -13,7 +13,6 @@ use Rattle.std.proofs.Math.Dec.{ltb, eqb-suc-zero}
 use borrow.Author.Tests.{eq-eqb, ne_eqb, le-leb, lt-ltb, le-ltb}
 use Rattle.rules.specs.declared.BackPlan.{BackPlan}
 use Rattle.rules.specs.declared.BackPlan.TheVariants.{Empties, Moves}
-use Rattle.rules.specs.Say.{if◌then◌else◌}
 use Rattle.rules.specs.Books.{Heap, at, usable_head, arena_next, arena_previous, arena_word, arena}
 use Rattle.rules.specs.GiveBack.{free_now, goes_in, walk}
 use Rattle.books.specs.Sizes.{Aligned}

@@ -1,10 +1,10 @@
 -- The path of a give-back by the tests that its functions make, of which the rules' definitions are a chain.
 -- Assumes nothing.
-use Rattle.std.specs.Prelude.{◌≡◌, refl, ◌≢◌, Bool, true, false, ◌&&◌, ◌||◌, List, ℕ, ◌*◌, ◌-◌, ◌/◌, ◌%◌, leb, eqb}
+use Rattle.std.specs.Prelude.{◌≡◌, refl, ◌≢◌, Bool, true, false, ◌&&◌, ◌||◌, List, ℕ, ◌*◌, ◌-◌, ◌/◌, ◌%◌, leb, eqb, if◌then◌else◌}
 use Rattle.std.proofs.Common.{sym, ap, ◌∙◌, eq-eqb, ne_eqb}
 use Rattle.rules.specs.declared.BackPlan.{BackPlan}
 use Rattle.rules.specs.declared.BackPlan.TheVariants.{Damaged, Joins, Stays, Empties, Moves, Returns, Releases}
-use Rattle.rules.specs.Say.{if◌then◌else◌, ◌▷◌}
+use Rattle.rules.specs.Say.{◌▷◌}
 use Rattle.rules.specs.Books.{Heap, on_books, class_head, free_pools, freed_head, arena, none?}
 use Rattle.rules.specs.Blocks.{size_of, is_start, class_at}
 use Rattle.rules.specs.Lists.{may_join}

@@ -90,7 +90,8 @@ pub record FitsEmpty (A P p : ℕ) (q : Pool) (b : List ℕ) : Type 0 where
   pub head : arena b freed_head (p / P) ≤ A * P
   pub free : arena b free_pools (p / P) ≤ P - 1
 
-pub fits_empty : (A P a p free : ℕ) (q : Pool) (b : List ℕ) → q ≡ pool_at A b p → a ≡ p / P → free ≡ arena b free_pools a
+pub fits_empty : (A P a p free : ℕ) (q : Pool) (b : List ℕ) → q ≡ pool_at A b p → a ≡ p / P
+    → free ≡ arena b free_pools a
     → may_empty A P a q free b ≡ true
     → FitsEmpty A P p q b
 fits_empty A P a p free q b loaded home so-many e =

@@ -1,7 +1,6 @@
 -- `audit::first_broken` makes the tests in their order, and stops at the first that fails.
 use mathlib.Core.Path.{◌≡◌, sym, ◌∙◌}
 use mathlib.Core.Bool.{true, false}
-use borrow.Author.Rules.{rules}
 use Rattle.rules.specs.Books.{alignment_of}
 use Rattle.rules.specs.Audit.{
   rule1,
@@ -16,8 +15,16 @@ use Rattle.rules.specs.Audit.{
   audit_by,
   number_of,
 }
-use Rattle.books.specs.Tests.{held, failed}
-use Rattle.audit.proofs.first_broken.Goals.{Else-not-arenas_keep, Else-not-arenas_keep-2, Else-not-arenas_keep-3, Else-not-pools_keep, Else-not-pools_keep-2, Else-not-pools_keep-3, Else-not-rule_2, Else-not-rule_6}
+use Rattle.audit.proofs.first_broken.Goals.{
+  Else-not-arenas_keep,
+  Else-not-arenas_keep-2,
+  Else-not-arenas_keep-3,
+  Else-not-pools_keep,
+  Else-not-pools_keep-2,
+  Else-not-pools_keep-3,
+  Else-not-rule_2,
+  Else-not-rule_6,
+}
 use Rattle.audit.proofs.first_broken.Goals as goal
 
 pub returns-then-not-rule_2 : goal.returns-then-not-rule_2
@@ -50,7 +57,12 @@ unfolding audit_by rule1 number_of
 returns-then-not-arenas_keep-2 c =
     let a = c.args in
     let broken : rule4 a.s.arenas a.s.pools a.books.now a.map.now ≡ false = (sym c.arenas_keep-2.ensures ∙ c.if-not-arenas_keep-2.true) in
-    rw (c.requires.2, kept2 (goal.at.returns-then-not-arenas_keep-2 c).Else-not-rule_2, kept3 (goal.at.returns-then-not-arenas_keep-2 c).Else-not-arenas_keep, broken)
+    rw (
+      c.requires.2,
+      kept2 (goal.at.returns-then-not-arenas_keep-2 c).Else-not-rule_2,
+      kept3 (goal.at.returns-then-not-arenas_keep-2 c).Else-not-arenas_keep,
+      broken,
+    )
 
 kept4 : (c : Else-not-arenas_keep-2)
     → let a = c.args in
@@ -125,7 +137,8 @@ pub returns-then-not-pools_keep-3 : goal.returns-then-not-pools_keep-3
 unfolding audit_by rule1 number_of
 returns-then-not-pools_keep-3 c =
     let a = c.args in
-    let broken : rule8 (alignment_of a.s.edition) a.s.arenas a.s.pools a.memory.now a.books.now a.map.now ≡ false = (sym c.pools_keep-3.ensures ∙ c.if-not-pools_keep-3.true) in
+    let broken : rule8 (alignment_of a.s.edition) a.s.arenas a.s.pools a.memory.now a.books.now a.map.now ≡ false = (sym c.pools_keep-3.ensures
+    ∙ c.if-not-pools_keep-3.true) in
     rw (
       c.requires.2,
       kept2 (goal.at.returns-then-not-pools_keep-3 c).Else-not-rule_2,

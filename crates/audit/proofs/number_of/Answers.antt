@@ -1,5 +1,4 @@
 -- `audit::number_of` has the number of each verdict.
-use borrow.Author.Rules.{rules}
 use Rattle.rules.specs.Audit.{number_of}
 use Rattle.audit.proofs.number_of.Goals as goal
 

@@ -3,7 +3,7 @@ use mathlib.Core.Path.{subst, ◌∙◌}
 use Prim.Native.Nat.{ℕ, ◌<◌, ◌≤◌}
 use lib.ListN.{length}
 use Rattle.rules.specs.Outcome.{heap_of, passing}
-use Rattle.batch.specs.Left.{begin, as_long, in_row, still_tested, turn, end}
+use Rattle.batch.specs.Left.{turn, end}
 use Rattle.batch.proofs.ask_all.Goals.{In-loop-i}
 use Rattle.batch.proofs.ask_all.Goals as goal
 

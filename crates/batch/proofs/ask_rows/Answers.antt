@@ -1,11 +1,10 @@
 -- `batch::ask_rows` meets its contract: each turn serves the next request of the words, and at the end none is left.
-use mathlib.Core.Path.{◌≡◌, refl, subst, ◌∙◌}
-use Prim.Native.Nat.{ℕ, ◌-◌, ◌*◌, ◌/◌, ◌<◌, ◌≤◌, ◌^◌}
+use mathlib.Core.Path.{refl, subst, ◌∙◌}
+use Prim.Native.Nat.{ℕ, ◌-◌, ◌*◌, ◌/◌, ◌<◌, ◌≤◌}
 use native.Mathlib.Omega.{arith}
 use lib.ListN.{length, length-set}
-use borrow.Author.Rules.{rules}
 use Rattle.rules.specs.Outcome.{heap_of, passing}
-use Rattle.batch.specs.Words.{Rows, rows_begin, rows_long, rows_in, rows_tested, rows_turn, rows_end}
+use Rattle.batch.specs.Words.{rows_begin, rows_long, rows_in, rows_tested, rows_turn, rows_end}
 use Rattle.batch.proofs.ask_rows.Goals.{In-loop-i}
 use Rattle.batch.proofs.ask_rows.Goals as goal
 

@@ -2,7 +2,6 @@
 -- shape as it was.
 use mathlib.Core.Path.{◌≡◌, sym, ap, ◌∙◌, subst}
 use native.Mathlib.Omega.{arith}
-use borrow.Author.Rules.{rules}
 use Rattle.rules.specs.declared.Answer.{Answer}
 use Rattle.rules.specs.Books.{alignment}
 use Rattle.rules.specs.Outcome.{Outcome, heap_of, outcome}

@@ -4,7 +4,6 @@ use Prim.Native.Nat.{◌%◌, ◌<◌}
 use Rattle.rules.specs.Books.{map_word}
 use Rattle.bits.specs.Bit.{code_clear}
 use native.Mathlib.Omega.{arith}
-use borrow.Author.Rules.{rules}
 use Rattle.bits.proofs.clear_bit.Goals as goal
 
 pub returns : goal.returns

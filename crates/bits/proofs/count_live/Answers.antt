@@ -4,7 +4,6 @@ use mathlib.Core.Path.{sym, ap, ◌∙◌}
 use native.Mathlib.Nat.{mod-lt, lt_of_le_of_lt}
 use native.Mathlib.Omega.{arith}
 use lib.Count.{ones_in, ones-le}
-use borrow.Author.Rules.{rules}
 use Rattle.bits.specs.Halves.{no_ones, code_count}
 use Rattle.bits.proofs.count_live.Goals as goal
 

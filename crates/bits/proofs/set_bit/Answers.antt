@@ -2,7 +2,6 @@
 use Prim.Native.Nat.{◌%◌, ◌<◌}
 use Rattle.bits.specs.Bit.{code_set}
 use native.Mathlib.Omega.{arith}
-use borrow.Author.Rules.{rules}
 use Rattle.bits.proofs.set_bit.Goals as goal
 
 pub returns : goal.returns

@@ -7,7 +7,6 @@ use native.Mathlib.Nat.{zero-add}
 use native.Mathlib.Omega.{arith}
 use lib.ListN.{length}
 use lib.Seq.{sets}
-use borrow.Author.Rules.{rules}
 use borrow.Author.Tests.{leb-true, leb-false}
 use Rattle.rules.specs.Say.{listing}
 use Rattle.rules.specs.Books.{Heap, alignment_of}
@@ -18,7 +17,6 @@ use Rattle.rules.specs.Compare.{kind_at, differences, classes, unequal_number, C
 use Rattle.rules.specs.Promises.{◌beside◌}
 use Rattle.books.specs.declared.words.Shape.{Shape}
 use Rattle.books.specs.Known.{Shaped}
-use Rattle.books.specs.Tests.{held, failed}
 use Rattle.loops.specs.Sets.{sets_front}
 use Rattle.compare.specs.Most.{list_most}
 use Rattle.compare.specs.Pools.{Beside}
@@ -35,7 +33,16 @@ use Rattle.compare.specs.Order.{
   changes_stored,
   same_outcome,
 }
-use Rattle.compare.proofs.compare.Goals.{After-has_room, After-unequal_number-unequal, Else-changes-classes, Else-not-has_room, Else-number-ne0, Else-number2-ne0, Else-unequal-ne0, Start}
+use Rattle.compare.proofs.compare.Goals.{
+  After-has_room,
+  After-unequal_number-unequal,
+  Else-changes-classes,
+  Else-not-has_room,
+  Else-number-ne0,
+  Else-number2-ne0,
+  Else-unequal-ne0,
+  Start,
+}
 use Rattle.compare.proofs.compare.Goals as goal
 
 -- both heaps
@@ -64,7 +71,8 @@ pub returns-then-number2-ne0 : goal.returns-then-number2-ne0
 returns-then-number2-ne0 c =
     let at-start = (goal.at.returns-then-number2-ne0 c).Start in
     let a = c.args in
-    sym (ap (left at-start) (stops_second (one at-start) (other at-start) a.list.now a.changes.now (first_passes (goal.at.returns-then-number2-ne0 c).Else-number-ne0) _
+    sym (ap (left at-start) (stops_second (one at-start) (other at-start) a.list.now a.changes.now
+    (first_passes (goal.at.returns-then-number2-ne0 c).Else-number-ne0) _
     c.shape_number-number2.ensures.0 c.if-number2-ne0.true))
 
 -- the second does
@@ -79,7 +87,8 @@ pub shape_of-requires : goal.shape_of-requires
 shape_of-requires c =
     omega (arith, (c.shape_number-number2.ensures.1 c.if-number2-ne0.false).0.books)
 
-unequal_found : (c : After-unequal_number-unequal) → c.unequal_number-unequal.result ≡ unequal_number (one (goal.at.After-unequal_number-unequal c).Start) (other (goal.at.After-unequal_number-unequal c).Start)
+unequal_found : (c : After-unequal_number-unequal) → c.unequal_number-unequal.result ≡ unequal_number (one (goal.at.After-unequal_number-unequal c).Start)
+    (other (goal.at.After-unequal_number-unequal c).Start)
 unequal_found c =
     c.unequal_number-unequal.ensures.0
     ∙ ap₂ unequal_by c.shape_of-s.ensures c.shape_of.ensures
@@ -89,8 +98,10 @@ pub returns-then-unequal-ne0 : goal.returns-then-unequal-ne0
 returns-then-unequal-ne0 c =
     let at-start = (goal.at.returns-then-unequal-ne0 c).Start in
     let a = c.args in
-    sym (ap (left at-start) (stops_unequal (one at-start) (other at-start) a.list.now a.changes.now (first_passes (goal.at.returns-then-unequal-ne0 c).Else-number-ne0)
-    (second_passes (goal.at.returns-then-unequal-ne0 c).Else-number2-ne0) _ (unequal_found (goal.at.returns-then-unequal-ne0 c).After-unequal_number-unequal) c.if-unequal-ne0.true))
+    sym (ap (left at-start) (stops_unequal (one at-start) (other at-start) a.list.now a.changes.now
+    (first_passes (goal.at.returns-then-unequal-ne0 c).Else-number-ne0)
+    (second_passes (goal.at.returns-then-unequal-ne0 c).Else-number2-ne0) _ (unequal_found (goal.at.returns-then-unequal-ne0 c).After-unequal_number-unequal)
+    c.if-unequal-ne0.true))
 
 -- both are of one shape
 one_shape : (c : Else-unequal-ne0) → Beside c.shape_of-s.result (one (goal.at.Else-unequal-ne0 c).Start) (other (goal.at.Else-unequal-ne0 c).Start)
@@ -135,12 +146,11 @@ module _ (c : After-has_room) where
   classes_are = sym (ap (λ (t : Shape). last_class (alignment_of t.edition) + 1) (one_shape equal).first_is)
 
   passes : (shape_number (one entered) ≡ 0) × (shape_number (other entered) ≡ 0) × (unequal_number (one entered) (other entered) ≡ 0)
-  passes =
-      (
-        first_passes (goal.at.After-has_room c).Else-number-ne0,
-        second_passes (goal.at.After-has_room c).Else-number2-ne0,
-        sym (unequal_found (goal.at.After-has_room c).After-unequal_number-unequal) ∙ equal.if-unequal-ne0.false,
-      )
+  passes = (
+    first_passes (goal.at.After-has_room c).Else-number-ne0,
+    second_passes (goal.at.After-has_room c).Else-number2-ne0,
+    sym (unequal_found (goal.at.After-has_room c).After-unequal_number-unequal) ∙ equal.if-unequal-ne0.false,
+  )
 
 pub returns-then-not-has_room : goal.returns-then-not-has_room
 returns-then-not-has_room c =
@@ -158,7 +168,8 @@ fits : (c : Else-not-has_room)
     → let at-start = entered (goal.at.Else-not-has_room c).After-has_room in
     length (differences (one at-start) (other at-start)) ≤ length at-start.args.list.now
 fits c =
-    let long = leb-true (wanted (goal.at.Else-not-has_room c).After-has_room) (there (goal.at.Else-not-has_room c).After-has_room) (sym c.has_room.ensures.0 ∙ c.if-not-has_room.false) in
+    let long = leb-true (wanted (goal.at.Else-not-has_room c).After-has_room) (there (goal.at.Else-not-has_room c).After-has_room) (sym c.has_room.ensures.0
+    ∙ c.if-not-has_room.false) in
     omega (arith, long, ap length (list_is (goal.at.Else-not-has_room c).After-has_room))
 
 pub returns-then-changes-classes : goal.returns-then-changes-classes
@@ -168,7 +179,8 @@ returns-then-changes-classes c =
     let a = at-start.args in
     let p = passes at_room in
     ap (λ (l : List ℕ). left at-start (compare_outcome 7 0 l a.changes.now)) c.has_room.ensures.1
-    ∙ sym (ap (left at-start) (stops_changes (one at-start) (other at-start) a.list.now a.changes.now p.0 p.1 p.2 (fits (goal.at.returns-then-changes-classes c).Else-not-has_room)
+    ∙ sym (ap (left at-start) (stops_changes (one at-start) (other at-start) a.list.now a.changes.now p.0 p.1 p.2
+    (fits (goal.at.returns-then-changes-classes c).Else-not-has_room)
     (omega (arith, c.if-changes-classes.true, c.classes.ensures.0, classes_are at_room))))
 
 pub walk_pools-words-requires : goal.walk_pools-words-requires
@@ -184,7 +196,8 @@ walk_pools-words-requires c =
 
 -- the changes have room
 changes_fit : (c : Else-changes-classes)
-    → classes (one (entered (goal.at.Else-changes-classes c).After-has_room)) ≤ length (entered (goal.at.Else-changes-classes c).After-has_room).args.changes.now
+    → classes (one (entered (goal.at.Else-changes-classes c).After-has_room)) ≤ length
+    (entered (goal.at.Else-changes-classes c).After-has_room).args.changes.now
 changes_fit c =
     omega (arith, c.if-changes-classes.false, c.classes.ensures.0, classes_are (goal.at.Else-changes-classes c).After-has_room)
 

@@ -1,8 +1,8 @@
 -- `compare::unequal_number` makes the definition's own test; where it passes, the shapes are one.
+use Rattle.std.specs.Prelude.{if◌then◌else◌}
 use mathlib.Core.Path.{sym, ap}
 use mathlib.Core.Bool.{Bool}
 use native.Mathlib.Omega.{arith}
-use Rattle.rules.specs.Say.{if◌then◌else◌}
 use Rattle.compare.specs.Order.{equal_shape}
 use Rattle.compare.proofs.unequal_number.Goals as goal
 

@@ -8,7 +8,6 @@ use Rattle.rules.specs.Numbers.{ask}
 use Rattle.rules.specs.Outcome.{heap_of, outcome}
 use Rattle.books.specs.declared.words.Shape.{Shape}
 use Rattle.books.specs.Passing.{refusal, step}
-use borrow.Author.Rules.{rules}
 use Rattle.heap.proofs.ask.Goals as goal
 
 pub returns-then-number-ne0 : goal.returns-then-number-ne0

@@ -1,6 +1,5 @@
 -- `heap::block_size` meets its contract: it is `size_at` at the arenas and the edition of the books.
 use mathlib.Core.Path.{ap, ◌∙◌}
-use borrow.Author.Rules.{rules}
 use Rattle.rules.specs.Books.{alignment_of}
 use Rattle.rules.specs.Blocks.{size_at}
 use Rattle.books.specs.declared.words.Shape.{Shape}

@@ -4,7 +4,6 @@ use mathlib.Core.Path.{ap, ap₂, ◌∙◌}
 use Prim.Native.Nat.{ℕ}
 use lib.ListN.{replicate}
 use native.Mathlib.Omega.{arith}
-use borrow.Author.Rules.{rules}
 use Rattle.rules.specs.Numbers.{format}
 use Rattle.rules.specs.Outcome.{heap_of, done}
 use Rattle.books.specs.Passing.{refusal, step}

@@ -10,7 +10,6 @@ use Rattle.rules.specs.Resize.{give_old}
 use Rattle.books.specs.declared.words.Shape.{Shape}
 use Rattle.books.specs.Passing.{stopped, passed, refusal}
 use Rattle.heap.specs.Order.{shape_first}
-use borrow.Author.Rules.{rules}
 use Rattle.heap.proofs.give_back.Goals as goal
 
 pub returns-then-number-ne0 : goal.returns-then-number-ne0

@@ -6,16 +6,14 @@ use Rattle.rules.specs.Books.{alignment_of}
 use Rattle.rules.specs.Blocks.{live_number}
 use Rattle.books.specs.declared.words.Shape.{Shape}
 use Rattle.books.specs.Passing.{stopped, passed, last_test}
-use borrow.Author.Rules.{rules}
 use Rattle.heap.proofs.offset_test.Goals as goal
 
 pub returns-then-number-ne0 : goal.returns-then-number-ne0
-returns-then-number-ne0 c =
-    (
-      c.shape_number-number.ensures.0
-          ∙ sym (stopped (λ n. n) _ _ (λ z. c.if-number-ne0.true (c.shape_number-number.ensures.0 ∙ z))),
-      λ z. absurd (c.if-number-ne0.true z),
-    )
+returns-then-number-ne0 c = (
+  c.shape_number-number.ensures.0
+      ∙ sym (stopped (λ n. n) _ _ (λ z. c.if-number-ne0.true (c.shape_number-number.ensures.0 ∙ z))),
+  λ z. absurd (c.if-number-ne0.true z),
+)
 
 pub shape_of-s-requires : goal.shape_of-s-requires
 shape_of-s-requires c = let s = c.shape_number-number.ensures.1 c.if-number-ne0.false in omega (arith, s.0.books)

@@ -9,7 +9,6 @@ use Rattle.rules.specs.Resize.{resize_step}
 use Rattle.books.specs.declared.words.Shape.{Shape}
 use Rattle.books.specs.Passing.{stopped, passed, refusal, step}
 use Rattle.heap.specs.Order.{offset_after}
-use borrow.Author.Rules.{rules}
 use Rattle.heap.proofs.resize.Goals as goal
 
 pub returns-then-number-ne0 : goal.returns-then-number-ne0

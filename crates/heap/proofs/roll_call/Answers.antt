@@ -8,7 +8,6 @@ use native.Mathlib.Omega.{arith}
 use lib.Dec.{leb}
 use lib.ListN.{length}
 use lib.Seq.{sets}
-use borrow.Author.Rules.{rules}
 use borrow.Author.Tests.{leb-true, leb-false}
 use Rattle.rules.specs.Numbers.{RollOutcome, in_order, shape_number, room_number, roll_of, roll_outcome, roll_call}
 use Rattle.rules.specs.Promises.{◌beside◌}
@@ -21,7 +20,6 @@ use Rattle.books.specs.declared.words.Shape.{Shape}
 use Rattle.books.specs.Sizes.{aligned}
 use Rattle.books.specs.Known.{Shaped}
 use Rattle.books.specs.Passing.{stopped, passed, too_little, enough}
-use Rattle.books.specs.Tests.{held, failed}
 use Rattle.heap.proofs.roll_call.Goals.{After-has_room, After-shape_of-s, Else-not-has_room}
 use Rattle.heap.proofs.roll_call.Goals as goal
 

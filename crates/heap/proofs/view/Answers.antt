@@ -2,7 +2,6 @@
 use mathlib.Core.List.{List}
 use mathlib.Core.Path.{ap, ◌∙◌}
 use Prim.Native.Nat.{ℕ}
-use borrow.Author.Rules.{rules}
 use Rattle.rules.specs.Books.{Heap}
 use Rattle.rules.specs.Outcome.{heap_of}
 use Rattle.rules.specs.Promises.{◌beside◌}

@@ -3,7 +3,6 @@
 use mathlib.Core.Path.{◌≡◌, sym, ap, ◌∙◌}
 use Prim.Native.Nat.{ℕ}
 use native.Mathlib.Omega.{arith}
-use borrow.Author.Rules.{rules}
 use Rattle.rules.specs.declared.Sized.{Sized}
 use Rattle.rules.specs.Books.{alignment_of}
 use Rattle.rules.specs.Blocks.{live_number}

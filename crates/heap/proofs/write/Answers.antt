@@ -4,7 +4,6 @@ use mathlib.Core.Path.{refl, sym, ap, ◌∙◌}
 use Prim.Native.Nat.{ℕ}
 use native.Mathlib.Omega.{arith}
 use lib.ListN.{length}
-use borrow.Author.Rules.{rules}
 use Rattle.rules.specs.Numbers.{shape_number, offset_number, room_number, block_size, write}
 use Rattle.rules.specs.Outcome.{heap_of, done}
 use Rattle.books.specs.Passing.{stopped, passed, refusal, step, too_little, enough}

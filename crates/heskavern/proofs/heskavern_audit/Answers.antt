@@ -1,7 +1,6 @@
 -- `heskavern::heskavern_audit` has the number of the audit's verdict.
 use mathlib.Core.Path.{ap, ◌∙◌}
 use Prim.Native.Nat.{ℕ}
-use borrow.Author.Rules.{rules}
 use Rattle.rules.specs.Outcome.{heap_of}
 use Rattle.rules.specs.Promises.{◌beside◌}
 use Rattle.heskavern.proofs.heskavern_audit.Goals as goal

@@ -1,9 +1,7 @@
 -- `loops::copy_in` stores the text: at turn i the text from byte i on is left.
-use mathlib.Core.Path.{◌≡◌, refl}
-use Prim.Native.Nat.{◌+◌, ◌-◌, ◌≤◌}
+use mathlib.Core.Path.{refl}
 use native.Mathlib.Omega.{arith}
-use lib.ListN.{length, drop}
-use Rattle.loops.specs.Left.{Left, listed, begin, turn, done}
+use Rattle.loops.specs.Left.{listed, begin, turn, done}
 use Rattle.loops.proofs.copy_in.Goals as goal
 
 pub loop-i-init : goal.loop-i-init

@@ -1,11 +1,11 @@
 -- `loops::copy_within` stores the bytes as they stood: at turn i those from byte i on are left,
 -- and none that is still to be read was written.
 use mathlib.Core.Path.{ap}
-use Prim.Native.Nat.{◌+◌, ◌-◌, ◌≤◌}
+use Prim.Native.Nat.{◌+◌}
 use native.Mathlib.Omega.{arith}
-use lib.ListN.{set, drop}
+use lib.ListN.{set}
 use Rattle.rules.specs.View.{part}
-use Rattle.loops.specs.Left.{Left, listed, begin, turn, done}
+use Rattle.loops.specs.Left.{listed, begin, turn, done}
 use Rattle.loops.specs.Copy.{length_part, still}
 use Rattle.loops.proofs.copy_within.Goals as goal
 

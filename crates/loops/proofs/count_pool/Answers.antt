@@ -3,7 +3,6 @@ use mathlib.Core.Path.{sym, ap, ◌∙◌}
 use Prim.Native.Nat.{ℕ}
 use native.Mathlib.Omega.{arith}
 use lib.ListN.{length}
-use borrow.Author.Rules.{rules}
 use Rattle.rules.specs.Blocks.{capacity}
 use Rattle.rules.specs.View.{roll_blocks}
 use Rattle.books.specs.Sizes.{aligned}

@@ -1,9 +1,7 @@
 -- `loops::count_words` counts the words of the roll: at each turn those of the pools from this one on are left.
-use mathlib.Core.Path.{◌≡◌, ap}
-use Prim.Native.Nat.{◌+◌, ◌-◌, ◌≤◌}
+use mathlib.Core.Path.{ap}
 use native.Mathlib.Omega.{arith}
 use lib.ListN.{length}
-use Rattle.rules.specs.View.{roll_pools}
 use Rattle.rules.specs.Books.{alignment_of}
 use Rattle.books.specs.Sizes.{aligned}
 use Rattle.loops.specs.Left.{fewer, none_left}

@@ -1,13 +1,9 @@
 -- `loops::count_words` counts the words of the roll: at each turn those of the pools from this one on are left.
-use mathlib.Core.Path.{◌≡◌, ap}
+use mathlib.Core.Path.{◌≡◌}
 use Prim.Native.Nat.{◌+◌, ◌-◌, ◌≤◌}
-use native.Mathlib.Omega.{arith}
 use lib.ListN.{length}
 use Rattle.rules.specs.View.{roll_pools}
 use Rattle.rules.specs.Books.{alignment_of}
-use Rattle.books.specs.Sizes.{aligned}
-use Rattle.loops.specs.Left.{fewer, none_left}
-use Rattle.loops.specs.Roll.{roll_parts, length_roll}
 use Rattle.loops.proofs.count_words.Given as goal
 
 abbrev pub invariant-loop-pool : goal.invariant-loop-pool

@@ -1,10 +1,9 @@
 -- `loops::fresh_arenas` stores the arena records: at turn i those from arena i on are left.
 use mathlib.Core.Path.{refl, ap, ◌∙◌}
-use Prim.Native.Nat.{ℕ, ◌+◌, ◌*◌, ◌-◌, ◌≤◌}
+use Prim.Native.Nat.{ℕ, ◌+◌, ◌*◌}
 use native.Mathlib.Omega.{arith}
 use lib.Seq.{sets}
-use Rattle.rules.specs.Format.{fresh_arenas}
-use Rattle.loops.specs.Left.{Left, begin, turn, done}
+use Rattle.loops.specs.Left.{begin, turn, done}
 use Rattle.loops.specs.Fresh.{record_of, arena_parts}
 use Rattle.loops.proofs.fresh_arenas.Goals as goal
 

@@ -4,7 +4,6 @@ use mathlib.Core.Path.{ap, ◌∙◌}
 use mathlib.Core.List.{List}
 use Prim.Native.Nat.{ℕ, ◌+◌, ◌*◌}
 use lib.Seq.{sets}
-use borrow.Author.Rules.{rules}
 use Rattle.rules.specs.Format.{fresh_arenas, fresh_pools}
 use Rattle.loops.specs.Fresh.{fresh_whole}
 use Rattle.loops.proofs.fresh_books.Goals as goal

@@ -1,13 +1,11 @@
 -- `loops::fresh_pools` stores the pool records: at turn i those from pool i on are left.
-use mathlib.Core.Path.{◌≡◌, refl, ap, ◌∙◌}
-use Prim.Native.Nat.{◌+◌, ◌*◌, ◌-◌, ◌≤◌}
+use mathlib.Core.Path.{refl, ap, ◌∙◌}
+use Prim.Native.Nat.{◌+◌, ◌*◌}
 use native.Mathlib.Omega.{arith}
 use lib.ListN.{length}
 use lib.Seq.{sets}
-use Rattle.rules.specs.Books.{no_class}
-use Rattle.rules.specs.Format.{fresh_pools}
-use Rattle.loops.specs.Left.{Left, begin, turn, done}
-use Rattle.loops.specs.Fresh.{record_of, pool_parts}
+use Rattle.loops.specs.Left.{begin, turn, done}
+use Rattle.loops.specs.Fresh.{pool_parts}
 use Rattle.loops.proofs.fresh_pools.Goals as goal
 
 pub loop-i-init : goal.loop-i-init

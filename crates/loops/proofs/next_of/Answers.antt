@@ -1,7 +1,6 @@
 -- `loops::next_of` answers the link: 0 for the last arena.
 use native.Mathlib.Omega.{arith}
 use borrow.Author.Tests.{eq-eqb, ne_eqb}
-use borrow.Author.Rules.{rules}
 use Rattle.loops.proofs.next_of.Goals as goal
 
 pub returns-then-k-eq0 : goal.returns-then-k-eq0

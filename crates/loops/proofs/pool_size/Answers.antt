@@ -2,7 +2,6 @@
 use mathlib.Core.Path.{◌≡◌, sym, ap, ◌∙◌}
 use Prim.Native.Nat.{ℕ, ◌*◌, ◌/◌}
 use native.Mathlib.Omega.{arith}
-use borrow.Author.Rules.{rules}
 use Rattle.rules.specs.Books.{class, pool, alignment_of}
 use Rattle.rules.specs.Blocks.{size_of}
 use Rattle.books.specs.Sizes.{aligned, no_class_lem, a_class}

@@ -1,11 +1,8 @@
 -- `loops::put_roll` stores the roll: at each turn that of the pools from this one on is left.
-use mathlib.Core.Path.{refl}
 use Prim.Native.Nat.{◌-◌, ◌≤◌}
-use native.Mathlib.Omega.{arith}
 use Rattle.rules.specs.View.{roll_pools}
 use Rattle.rules.specs.Books.{alignment_of}
-use Rattle.loops.specs.Left.{Left, fewer, begin, turn, done}
-use Rattle.loops.specs.Roll.{roll_parts}
+use Rattle.loops.specs.Left.{Left}
 use Rattle.loops.proofs.put_roll.Given as goal
 
 abbrev pub invariant-loop-pool : goal.invariant-loop-pool

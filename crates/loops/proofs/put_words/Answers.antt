@@ -1,9 +1,7 @@
 -- `loops::put_words` stores the words: at turn i those from word i on are left.
-use mathlib.Core.Path.{◌≡◌, refl}
-use Prim.Native.Nat.{◌+◌, ◌-◌, ◌≤◌}
+use mathlib.Core.Path.{refl}
 use native.Mathlib.Omega.{arith}
-use lib.ListN.{length, drop}
-use Rattle.loops.specs.Left.{Left, listed, begin, turn, done}
+use Rattle.loops.specs.Left.{listed, begin, turn, done}
 use Rattle.loops.proofs.put_words.Goals as goal
 
 pub loop-i-init : goal.loop-i-init

@@ -1,9 +1,8 @@
 -- `loops::put_words` stores the words: at turn i those from word i on are left.
-use mathlib.Core.Path.{◌≡◌, refl}
-use Prim.Native.Nat.{◌+◌, ◌-◌, ◌≤◌}
-use native.Mathlib.Omega.{arith}
+use mathlib.Core.Path.{◌≡◌}
+use Prim.Native.Nat.{◌+◌, ◌≤◌}
 use lib.ListN.{length, drop}
-use Rattle.loops.specs.Left.{Left, listed, begin, turn, done}
+use Rattle.loops.specs.Left.{Left}
 use Rattle.loops.proofs.put_words.Given as goal
 
 abbrev pub invariant-loop-i : goal.invariant-loop-i

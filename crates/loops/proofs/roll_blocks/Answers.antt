@@ -1,13 +1,12 @@
 -- `loops::roll_blocks` stores the words of the live blocks: at turn i those of the map words from word i on are left.
 use mathlib.Core.Path.{◌≡◌, refl}
-use Prim.Native.Nat.{◌*◌, ◌-◌, ◌≤◌, ◌<◌}
+use Prim.Native.Nat.{◌*◌, ◌≤◌, ◌<◌}
 use native.Mathlib.Nat.{mul-le-mul}
 use native.Mathlib.Omega.{arith}
 use Rattle.rules.specs.Books.{offset_of}
 use Rattle.rules.specs.Blocks.{start_of, last_start, capacity}
-use Rattle.rules.specs.View.{roll_blocks}
 use Rattle.books.specs.Starts.{capacity_le}
-use Rattle.loops.specs.Left.{Left, fewer, begin, turn, finish}
+use Rattle.loops.specs.Left.{fewer, begin, turn, finish}
 use Rattle.loops.specs.Word.{in_word, up_to, some_there, none_there, up_to_last, none_after, word_parts}
 use Rattle.loops.proofs.roll_blocks.Goals.{Else-last-first, In-loop-i}
 use Rattle.loops.proofs.roll_blocks.Goals as goal

@@ -1,13 +1,13 @@
 -- `loops::roll_word` stores the words of the live blocks: at each turn those of the bits that are still set are left.
 use mathlib.Core.Path.{◌≡◌, ap, ◌∙◌}
 use mathlib.Core.List.{◌∷◌}
-use Prim.Native.Nat.{◌+◌, ◌*◌, ◌^◌, ◌≤◌, ◌<◌}
+use Prim.Native.Nat.{◌+◌, ◌*◌, ◌≤◌}
 use native.Mathlib.Nat.{mul-le-mul}
 use native.Mathlib.Omega.{arith}
 use lib.Count.{count_trailing_zeros, trailing_le, trailing_of_zero}
 use lib.ListN.{length, length-set}
 use Rattle.bits.specs.Halves.{first_there, without_first, without_less}
-use Rattle.loops.specs.Left.{Left, unstored, store, finish, two}
+use Rattle.loops.specs.Left.{unstored, store, finish, two}
 use Rattle.loops.specs.Word.{two_words, roll_word, first_live, none_live, up_to, not_past, past}
 use Rattle.loops.proofs.roll_word.Goals.{Else-last-offset, In-loop-left}
 use Rattle.loops.proofs.roll_word.Goals as goal

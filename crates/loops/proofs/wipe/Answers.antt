@@ -1,10 +1,9 @@
 -- `loops::wipe` leaves zeros: at turn i those from word i on are left.
-use mathlib.Core.Path.{◌≡◌, refl, ◌∙◌}
-use Prim.Native.Nat.{◌-◌, ◌≤◌}
+use mathlib.Core.Path.{refl, ◌∙◌}
 use native.Mathlib.Omega.{arith}
 use lib.ListN.{length, replicate, length-replicate}
 use Rattle.loops.specs.Sets.{sets_all}
-use Rattle.loops.specs.Left.{Left, begin, turn, done}
+use Rattle.loops.specs.Left.{begin, turn, done}
 use Rattle.loops.specs.Fresh.{zero_parts}
 use Rattle.loops.proofs.wipe.Goals as goal
 

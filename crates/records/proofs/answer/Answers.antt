@@ -3,8 +3,6 @@ use mathlib.Core.Path.{ap, ◌∙◌, sym}
 use Prim.Native.Nat.{ℕ}
 use borrow.Author.Tests.{lt-ltb, le-ltb}
 use Rattle.rules.specs.Replay.{replay_record}
-use borrow.Author.Rules.{rules}
-use Rattle.books.specs.Tests.{held, failed}
 use Rattle.records.specs.declared.Reply.{Reply}
 use Rattle.records.specs.Replies.{reply_of, refusal_of, replied_with, chosen, passed_over}
 use Rattle.records.proofs.answer.Goals as goal

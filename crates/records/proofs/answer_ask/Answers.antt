@@ -1,7 +1,6 @@
 -- `records::answer_ask` asks, and replies with what the ask answered and the heap that it left.
 use mathlib.Core.Path.{ap, ◌∙◌}
 use Prim.Native.Nat.{ℕ}
-use borrow.Author.Rules.{rules}
 use Rattle.rules.specs.Outcome.{Outcome, heap_of, outcome}
 use Rattle.rules.specs.Numbers.{ask, block_size}
 use Rattle.rules.specs.Replay.{called_for}

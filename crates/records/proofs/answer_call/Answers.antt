@@ -1,7 +1,6 @@
 -- `records::answer_call` goes by the op: 1 asks, 2 gives back, and any other resizes, as in the rules.
 use mathlib.Core.Path.{◌∙◌}
 use borrow.Author.Tests.{eq-eqb, ne_eqb}
-use borrow.Author.Rules.{rules}
 use Rattle.rules.specs.Replay.{replay_call}
 use Rattle.records.specs.Replies.{chosen, passed_over}
 use Rattle.records.proofs.answer_call.Goals as goal

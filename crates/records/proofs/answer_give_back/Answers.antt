@@ -2,7 +2,6 @@
 -- and replies with what that answered and the heap that it left.
 use mathlib.Core.Path.{ap, ◌∙◌}
 use Prim.Native.Nat.{ℕ}
-use borrow.Author.Rules.{rules}
 use Rattle.rules.specs.Outcome.{Outcome, heap_of, outcome}
 use Rattle.rules.specs.Numbers.{give_back, block_size}
 use Rattle.rules.specs.Replay.{called}

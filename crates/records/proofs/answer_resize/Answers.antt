@@ -1,7 +1,6 @@
 -- `records::answer_resize` resizes, and replies with what the resize answered and the heap that it left.
 use mathlib.Core.Path.{ap, ap₂, ◌∙◌}
 use Prim.Native.Nat.{ℕ}
-use borrow.Author.Rules.{rules}
 use Rattle.rules.specs.Outcome.{Outcome, heap_of, outcome}
 use Rattle.rules.specs.Numbers.{resize, block_size}
 use Rattle.rules.specs.Replay.{called_for}

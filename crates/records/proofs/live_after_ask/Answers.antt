@@ -1,7 +1,5 @@
 -- `records::live_after_ask` counts one more where the ask is done and its block carries the count, and anew otherwise.
 use native.Mathlib.Omega.{arith}
-use borrow.Author.Rules.{rules}
-use borrow.Author.Tests.{not-false}
 use Rattle.records.specs.Replies.{few_live}
 use Rattle.records.proofs.live_after_ask.Goals as goal
 

@@ -2,7 +2,6 @@
 use mathlib.Core.Path.{ap, ◌∙◌}
 use native.Mathlib.Omega.{arith}
 use lib.ListN.{length-set}
-use borrow.Author.Rules.{rules}
 use Rattle.rules.specs.Blocks.{put_link}
 use Rattle.records.specs.Replies.{put_bytes}
 use Rattle.records.proofs.put_reply.Goals as goal

@@ -1,7 +1,6 @@
 -- `records::refusal` is the record's op, the number and the offset that a refusal repeats.
 use mathlib.Core.Path.{ap}
 use Prim.Native.Nat.{ℕ}
-use borrow.Author.Rules.{rules}
 use Rattle.rules.specs.Replay.{op_of}
 use Rattle.records.specs.Replies.{reply_of}
 use Rattle.records.proofs.refusal.Goals as goal

@@ -1,6 +1,5 @@
 -- `records::repeated` is 0 for an ask, and otherwise the number in the record's bytes 8 to 11.
 use borrow.Author.Tests.{eq-eqb, ne_eqb}
-use borrow.Author.Rules.{rules}
 use Rattle.records.proofs.repeated.Goals as goal
 
 pub returns-then-op-eq1 : goal.returns-then-op-eq1

@@ -2,7 +2,6 @@
 use mathlib.Core.Path.{ap, ◌∙◌}
 use Prim.Native.Nat.{◌*◌}
 use lib.Seq.{sets}
-use borrow.Author.Rules.{rules}
 use Rattle.rules.specs.Outcome.{heap_of}
 use Rattle.rules.specs.Replay.{Replied, replay_record}
 use Rattle.records.specs.Pieces.{part_is}

@@ -1,13 +1,11 @@
 -- `records::replay_records` tests the shape and the room, and then answers record by record:
 -- at turn i the replies from record i on are left.
-use mathlib.Core.Path.{◌≡◌, refl, sym, ◌∙◌}
-use Prim.Native.Nat.{◌-◌, ◌≤◌}
+use mathlib.Core.Path.{refl, sym, ◌∙◌}
+use Prim.Native.Nat.{◌-◌}
 use native.Mathlib.Omega.{arith}
-use lib.ListN.{length}
-use borrow.Author.Rules.{rules}
 use Rattle.rules.specs.Outcome.{heap_of}
-use Rattle.records.specs.Replies.{Whole, live_in, counted, still_whole}
-use Rattle.records.specs.Pieces.{Going, begin, turn, stored, record_sent, record_at, no_heap, no_room_lem, all_done}
+use Rattle.records.specs.Replies.{counted, still_whole}
+use Rattle.records.specs.Pieces.{begin, turn, stored, record_sent, record_at, no_heap, no_room_lem, all_done}
 use Rattle.records.proofs.replay_records.Goals as goal
 
 pub returns-then-number-ne0 : goal.returns-then-number-ne0

@@ -1,6 +1,5 @@
 -- `records::reply_to` is a refusal where the call's number is not 0, and otherwise what it answered.
 use mathlib.Core.Path.{sym, ◌∙◌}
-use borrow.Author.Rules.{rules}
 use Rattle.books.specs.Passing.{stopped, passed}
 use Rattle.records.proofs.reply_to.Goals as goal
 

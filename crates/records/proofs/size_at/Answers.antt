@@ -1,7 +1,6 @@
 -- `records::size_at` reads the class of the offset's pool by the books' own A, and goes by their own edition.
 use mathlib.Core.Path.{ap, ap₂, ◌∙◌}
 use Prim.Native.Nat.{ℕ, ◌/◌, ◌%◌}
-use borrow.Author.Rules.{rules}
 use Rattle.rules.specs.Books.{alignment_of, class, pool}
 use Rattle.rules.specs.Blocks.{size_of}
 use Rattle.records.proofs.size_at.Goals as goal

@@ -1,6 +1,5 @@
 -- `records::well_made` makes the tests of the rules, in their order.
 use mathlib.Core.Path.{refl}
-use borrow.Author.Rules.{rules}
 use Rattle.rules.specs.Replay.{well_made}
 use Rattle.records.proofs.well_made.Goals as goal
 

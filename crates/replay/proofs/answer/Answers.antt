@@ -2,7 +2,6 @@
 -- and the shape stays.
 use Prim.Native.Nat.{◌/◌}
 use lib.ListN.{length}
-use borrow.Author.Rules.{rules}
 use Rattle.rules.specs.Outcome.{heap_of}
 use Rattle.records.specs.Replies.{still_whole}
 use Rattle.records.specs.Pieces.{after_kept}

@@ -5,7 +5,6 @@ use Prim.Native.Nat.{ℕ, ◌-◌, ◌%◌}
 use native.Mathlib.Omega.{arith}
 use lib.ListN.{take, drop}
 use lib.Seq.{length-take-le, take_at}
-use borrow.Author.Rules.{rules}
 use Rattle.rules.specs.View.{part}
 use Rattle.loops.specs.Sets.{sets_front}
 use Rattle.loops.specs.Copy.{length_part}

@@ -8,7 +8,6 @@ use Rattle.rules.specs.Ask.{plan_ask, ask_answer, after_ask, ask_step}
 use Rattle.rules.specs.Outcome.{heap_of}
 use Rattle.plans.specs.Class.{Class}
 use Rattle.plans.specs.Fits.{fits_new}
-use borrow.Author.Rules.{rules}
 use Rattle.asks.proofs.ask.ask_step.Goals.{After-size_for-size}
 use Rattle.asks.proofs.ask.ask_step.Goals as goal
 

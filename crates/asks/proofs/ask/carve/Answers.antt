@@ -3,7 +3,6 @@ use Prim.Native.Nat.{◌+◌, ◌*◌}
 use native.Mathlib.Omega.{arith}
 use lib.Seq.{get_or-set_other}
 use lib.ListN.{length-set}
-use borrow.Author.Rules.{rules}
 use Rattle.asks.proofs.ask.carve.Goals as goal
 
 pub bounds-books-mark : goal.bounds-books-mark

@@ -4,7 +4,6 @@ use mathlib.Core.Path.{refl, ap}
 use mathlib.Core.List.{List}
 use Prim.Native.Nat.{ℕ}
 use lib.ListN.{length-set}
-use borrow.Author.Rules.{rules}
 use Rattle.rules.specs.Books.{put, class_head, link_to}
 use Rattle.rules.specs.Outcome.{heap_of}
 use Rattle.books.specs.Records.{again_stored}

@@ -1,7 +1,6 @@
 -- `asks::ask::open_arena` joins an empty list: the usable head was 0, and leaving the unused list did not write it.
 use native.Mathlib.Omega.{arith}
 use lib.ListN.{length-set}
-use borrow.Author.Rules.{rules}
 use Rattle.asks.specs.HandOut.{usable_stays}
 use Rattle.asks.proofs.ask.open_arena.Goals as goal
 

@@ -4,7 +4,6 @@ use mathlib.Core.List.{List}
 use Prim.Native.Nat.{ℕ}
 use native.Mathlib.Omega.{arith}
 use lib.ListN.{length-set}
-use borrow.Author.Rules.{rules}
 use Rattle.rules.specs.Outcome.{heap_of}
 use Rattle.asks.specs.HandOut.{spend_stays, spend_leaves, spend_links}
 use Rattle.asks.proofs.ask.spend.Goals as goal

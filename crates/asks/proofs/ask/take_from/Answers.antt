@@ -3,7 +3,6 @@
 use mathlib.Core.Path.{◌≡◌, ◌∙◌, refl, ap, subst}
 use mathlib.Core.List.{[]}
 use native.Mathlib.Omega.{arith}
-use borrow.Author.Rules.{rules}
 use Rattle.rules.specs.declared.Source.{Source}
 use Rattle.rules.specs.Books.{carve_mark, arena, Heap}
 use Rattle.rules.specs.Ask.{carve, take_from}

@@ -1,13 +1,8 @@
 -- `asks::ask::write_new` writes, in each arm, the arm's chain of changes in its order: what the path knows of its
 -- numbers meets each callee, and the callees' changes are chained. No path of a new pool is one of a listed pool.
 use mathlib.Core.Path.{◌≡◌, refl, subst}
-use mathlib.Core.Logic.{inl, inr}
-use mathlib.Core.List.{[], ◌∷◌}
-use Prim.Native.Nat.{ℕ, ◌≤◌}
-use types.Run.{OneOf}
+use Prim.Native.Nat.{ℕ}
 use native.Mathlib.Omega.{arith}
-use denote.Enum.Declared.{tag_of}
-use Rattle.rules.specs.contracts.AskPlan.{the_type}
 use Rattle.rules.specs.declared.AskPlan.{AskPlan}
 use Rattle.rules.specs.declared.Source.{Source}
 use Rattle.rules.specs.declared.AskPlan.TheVariants.{NoRoom, Damaged, Follow, Ready, Last, Again, Anew}

@@ -7,10 +7,8 @@ use Rattle.rules.specs.Books.{alignment_of}
 use Rattle.rules.specs.Ask.{asked, ask_answer, after_ask}
 use Rattle.rules.specs.Outcome.{heap_of}
 use Rattle.books.specs.Records.{may_serve}
-use Rattle.books.specs.Tests.{held, failed}
 use Rattle.asks.specs.AskPath.{Front, damaged, not_serving, front, not_spare, unlinked, linked_wrong, follows}
 use Rattle.asks.specs.HandOut.{take_writes, handed}
-use borrow.Author.Rules.{rules}
 use Rattle.asks.proofs.ask_listed.ask_listed.Goals.{Else-not-may_serve, Else-not-spare}
 use Rattle.asks.proofs.ask_listed.ask_listed.Goals as goal
 
@@ -88,14 +86,13 @@ store_pool-requires c =
     omega (arith, c.requires.2, c.requires.0.books)
 
 pub hand_out-requires : goal.hand_out-requires
-hand_out-requires c =
-    (
-      omega (arith, c.requires.1.size),
-      omega (arith, c.requires.1.size, c.requires.1.class),
-      rw c.index-f.ensures.0 (passed (goal.at.hand_out-requires c).Else-not-spare).start,
-      omega (arith, c.requires.2, c.requires.0.all),
-      omega (arith, c.requires.2, c.requires.0.map),
-    )
+hand_out-requires c = (
+  omega (arith, c.requires.1.size),
+  omega (arith, c.requires.1.size, c.requires.1.class),
+  rw c.index-f.ensures.0 (passed (goal.at.hand_out-requires c).Else-not-spare).start,
+  omega (arith, c.requires.2, c.requires.0.all),
+  omega (arith, c.requires.2, c.requires.0.map),
+)
 
 pub returns : goal.returns
 unfolding ask_answer after_ask

@@ -9,10 +9,8 @@ use Rattle.rules.specs.Blocks.{put_link}
 use Rattle.rules.specs.Outcome.{heap_of}
 use Rattle.books.specs.Records.{leads}
 use Rattle.books.specs.Starts.{Start}
-use Rattle.books.specs.Tests.{held, failed}
 use Rattle.asks.specs.AskPath.{damaged, begins, not_ready, is_ready, stuck, is_last}
 use Rattle.asks.specs.HandOut.{with_link, expose_writes, last_writes, handed}
-use borrow.Author.Rules.{rules}
 use Rattle.asks.proofs.ask_listed.ask_unlinked.Goals.{Else-not-spare}
 use Rattle.asks.proofs.ask_listed.ask_unlinked.Goals as goal
 
@@ -41,14 +39,13 @@ put_link-requires c =
     omega (arith, (next (goal.at.put_link-requires c).Else-not-spare).ends, c.requires.1.size, c.requires.2.there, c.requires.0.memory)
 
 pub hand_out-requires : goal.hand_out-requires
-hand_out-requires c =
-    (
-      omega (arith, c.requires.1.size),
-      omega (arith, c.requires.1.size, c.requires.1.class),
-      rw c.index-f.ensures.0 c.requires.2.start,
-      omega (arith, c.requires.2.there, c.requires.0.all),
-      omega (arith, c.requires.2.there, c.requires.0.map),
-    )
+hand_out-requires c = (
+  omega (arith, c.requires.1.size),
+  omega (arith, c.requires.1.size, c.requires.1.class),
+  rw c.index-f.ensures.0 c.requires.2.start,
+  omega (arith, c.requires.2.there, c.requires.0.all),
+  omega (arith, c.requires.2.there, c.requires.0.map),
+)
 
 pub returns-then-pool : goal.returns-then-pool
 unfolding ask_answer after_ask
@@ -84,14 +81,13 @@ leave_by-requires c =
     rw c.pool_links.ensures (omega (arith, l.0, l.1, c.requires.0.books, c.requires.2.there, c.requires.1.class))
 
 pub hand_out-requires-2 : goal.hand_out-requires-2
-hand_out-requires-2 c =
-    (
-      omega (arith, c.requires.1.size),
-      omega (arith, c.requires.1.size, c.requires.1.class),
-      rw c.index-f.ensures.0 c.requires.2.start,
-      omega (arith, c.requires.2.there, c.requires.0.all),
-      omega (arith, c.requires.2.there, c.requires.0.map),
-    )
+hand_out-requires-2 c = (
+  omega (arith, c.requires.1.size),
+  omega (arith, c.requires.1.size, c.requires.1.class),
+  rw c.index-f.ensures.0 c.requires.2.start,
+  omega (arith, c.requires.2.there, c.requires.0.all),
+  omega (arith, c.requires.2.there, c.requires.0.map),
+)
 
 pub returns : goal.returns
 unfolding ask_answer after_ask

@@ -1,6 +1,5 @@
 -- `asks::ask_listed::hand_out` sets the bit of a block whose start passes the test, and answers its offset.
 use mathlib.Core.Path.{refl}
-use borrow.Author.Rules.{rules}
 use Rattle.asks.specs.HandOut.{starts}
 use Rattle.asks.proofs.ask_listed.hand_out.Goals as goal
 

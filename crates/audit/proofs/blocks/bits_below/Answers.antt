@@ -1,10 +1,9 @@
 -- `audit::blocks::bits_below` shifts the blocks below v out of their word, and looks at the later words: a word that is
 -- not 0 then has a bit at v or past it. At turn i the words between that of block v and word i were 0.
-use mathlib.Core.Path.{◌≡◌, sym}
-use Prim.Native.Nat.{ℕ, ◌+◌, ◌*◌, ◌-◌, ◌/◌, ◌%◌, ◌≤◌, ◌<◌}
+use mathlib.Core.Path.{sym}
+use Prim.Native.Nat.{◌+◌, ◌*◌, ◌-◌, ◌/◌, ◌%◌}
 use native.Mathlib.Omega.{arith}
 use borrow.Author.Count.{below_more}
-use Rattle.rules.specs.Books.{at}
 use Rattle.audit.specs.Bits.{bits_past, bits_end}
 use Rattle.audit.proofs.blocks.bits_below.Goals as goal
 

@@ -4,10 +4,8 @@ use mathlib.Core.Path.{◌≡◌, refl, sym, ap, ◌∙◌}
 use mathlib.Core.Bool.{true}
 use Prim.Native.Nat.{◌-◌}
 use native.Mathlib.Omega.{arith}
-use borrow.Author.Rules.{rules}
 use Rattle.rules.specs.Books.{is_set}
 use Rattle.rules.specs.Audit.{is_dead, chained}
-use Rattle.books.specs.Tests.{held, failed}
 use Rattle.books.specs.Starts.{Start, start}
 use Rattle.audit.specs.Turns.{chain_end, chain_goes, chain_fails, dead_starts}
 use Rattle.audit.proofs.blocks.chained.Goals.{Else-not-is_dead}

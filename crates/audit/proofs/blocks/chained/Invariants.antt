@@ -1,15 +1,9 @@
 -- `audit::blocks::chained` walks: at each turn the answer is that of the k blocks that are left to meet from the link l
 -- on. A block that is met lies in its pool, so that its link can be read.
-use mathlib.Core.Path.{◌≡◌, refl, sym, ap, ◌∙◌}
-use mathlib.Core.Bool.{true}
+use mathlib.Core.Path.{◌≡◌}
 use Prim.Native.Nat.{◌-◌}
-use native.Mathlib.Omega.{arith}
-use borrow.Author.Rules.{rules}
 use Rattle.rules.specs.Books.{is_set}
-use Rattle.rules.specs.Audit.{is_dead, chained}
-use Rattle.books.specs.Tests.{held, failed}
-use Rattle.books.specs.Starts.{Start, start}
-use Rattle.audit.specs.Turns.{chain_end, chain_goes, chain_fails, dead_starts}
+use Rattle.rules.specs.Audit.{chained}
 use Rattle.audit.proofs.blocks.chained.Given as goal
 
 abbrev pub invariant-loop-k : goal.invariant-loop-k

@@ -4,10 +4,8 @@ use mathlib.Core.Bool.{Bool, not, ◌&&◌}
 use Prim.Native.Nat.{ℕ}
 use native.Mathlib.Omega.{arith}
 use lib.Dec.{ltb}
-use borrow.Author.Rules.{rules}
 use Rattle.rules.specs.Books.{is_set}
 use Rattle.rules.specs.Blocks.{block_no}
-use Rattle.books.specs.Tests.{held, failed}
 use Rattle.audit.specs.Turns.{no_start, a_start}
 use Rattle.audit.proofs.blocks.is_dead.Goals as goal
 

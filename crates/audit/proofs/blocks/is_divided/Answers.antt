@@ -5,11 +5,9 @@ use mathlib.Core.Bool.{Bool, ◌&&◌, ◌||◌}
 use Prim.Native.Nat.{ℕ, ◌≤◌}
 use native.Mathlib.Omega.{arith}
 use lib.Dec.{eqb}
-use borrow.Author.Tests.{not-false}
-use borrow.Author.Rules.{rules}
 use Rattle.rules.specs.Blocks.{start_of, last_start, is_start, block_no, capacity}
 use Rattle.rules.specs.Audit.{bits_below}
-use Rattle.books.specs.Tests.{both, held, failed}
+use Rattle.books.specs.Tests.{both}
 use Rattle.books.specs.Starts.{next_is, capacity_le}
 use Rattle.audit.specs.Divided.{bits_few}
 use Rattle.audit.proofs.blocks.is_divided.Goals.{After-bits_below, After-is_next, Else-not-index-size}
@@ -60,11 +58,16 @@ below c =
 
 pub returns-then-not-bits_below : goal.returns-then-not-bits_below
 returns-then-not-bits_below c =
-    rw ((sym (tested (goal.at.returns-then-not-bits_below c).After-is_next) ∙ c.if-not-index-size.false), (sym (below (goal.at.returns-then-not-bits_below c).After-bits_below) ∙ c.if-not-bits_below.true))
+    rw (
+      (sym (tested (goal.at.returns-then-not-bits_below c).After-is_next)
+          ∙ c.if-not-index-size.false),
+      (sym (below (goal.at.returns-then-not-bits_below c).After-bits_below) ∙ c.if-not-bits_below.true),
+    )
 
 pub overflow_sub-count : goal.overflow_sub-count
 overflow_sub-count c =
-    let few = bits_few _ _ _ (omega (arith, starts (goal.at.overflow_sub-count c).Else-not-index-size)) (sym c.bits_below.ensures ∙ c.if-not-bits_below.false) in
+    let few = bits_few _ _ _ (omega (arith, starts (goal.at.overflow_sub-count c).Else-not-index-size)) (sym c.bits_below.ensures
+    ∙ c.if-not-bits_below.false) in
     omega (arith, few)
 
 pub returns : goal.returns

@@ -1,7 +1,6 @@
 -- `audit::blocks::is_next` makes the two tests of its contract. The last block ends in its pool, so no number wraps.
 use native.Mathlib.Nat.{div-mul-le_self}
 use native.Mathlib.Omega.{arith}
-use borrow.Author.Rules.{rules}
 use Rattle.audit.proofs.blocks.is_next.Goals as goal
 
 pub overflow_mul-result : goal.overflow_mul-result

@@ -1,7 +1,6 @@
 -- `audit::blocks::least_on_chain` asks whether no block is live, where its definition asks whether any is.
 use native.Mathlib.Omega.{arith}
 use borrow.Author.Tests.{lt-ltb, le-ltb}
-use borrow.Author.Rules.{rules}
 use Rattle.audit.proofs.blocks.least_on_chain.Goals as goal
 
 pub returns-then-live-eq0 : goal.returns-then-live-eq0

@@ -1,6 +1,5 @@
 -- `audit::keeps::arena_keeps` makes the rule's test.
 use mathlib.Core.Path.{◌∙◌}
-use borrow.Author.Rules.{rules}
 use borrow.Author.Tests.{ne_eqb}
 use Rattle.audit.proofs.keeps.arena_keeps.Goals as goal
 

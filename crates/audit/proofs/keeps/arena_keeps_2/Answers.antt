@@ -1,5 +1,4 @@
 -- `audit::keeps::arena_keeps_2` makes the tests of `arena_keeps2`.
-use borrow.Author.Rules.{rules}
 use Rattle.rules.specs.Audit.{arena_keeps2}
 use Rattle.audit.proofs.keeps.arena_keeps_2.Goals as goal
 

@@ -1,6 +1,5 @@
 -- `audit::keeps::arena_keeps_3` makes the tests of `arena_keeps3`.
 use mathlib.Core.Path.{◌∙◌}
-use borrow.Author.Rules.{rules}
 use Rattle.rules.specs.Audit.{arena_keeps3}
 use Rattle.audit.proofs.keeps.arena_keeps_3.Goals as goal
 

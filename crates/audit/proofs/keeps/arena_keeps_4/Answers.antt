@@ -1,6 +1,5 @@
 -- `audit::keeps::arena_keeps_4` makes the tests of `arena_keeps4`.
 use mathlib.Core.Path.{◌∙◌}
-use borrow.Author.Rules.{rules}
 use Rattle.rules.specs.Audit.{arena_keeps4}
 use Rattle.audit.proofs.keeps.arena_keeps_4.Goals as goal
 

@@ -1,6 +1,5 @@
 -- `audit::keeps::arena_keeps_6` makes the tests of `arena_keeps6`.
 use mathlib.Core.Path.{◌∙◌}
-use borrow.Author.Rules.{rules}
 use Rattle.rules.specs.Audit.{arena_keeps6}
 use Rattle.audit.proofs.keeps.arena_keeps_6.Goals as goal
 

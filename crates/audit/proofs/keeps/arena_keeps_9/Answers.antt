@@ -4,9 +4,7 @@ use mathlib.Core.Path.{sym, ap, ap₂, ◌∙◌}
 use Prim.Native.Nat.{ℕ, ◌+◌, ◌*◌, ◌-◌}
 use native.Mathlib.Omega.{arith}
 use lib.Dec.{leb}
-use borrow.Author.Rules.{rules}
 use Rattle.rules.specs.Books.{at}
-use Rattle.books.specs.Tests.{held, failed}
 use Rattle.audit.specs.Keeps.{rises_away, rises_is, followed}
 use Rattle.audit.proofs.keeps.arena_keeps_9.Goals as goal
 

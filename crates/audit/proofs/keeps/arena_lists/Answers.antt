@@ -3,7 +3,6 @@ use mathlib.Core.Path.{ap₂, ◌∙◌}
 use mathlib.Core.Bool.{◌&&◌}
 use native.Mathlib.Omega.{arith}
 use lib.ListN.{get_or-replicate}
-use borrow.Author.Rules.{rules}
 use Rattle.audit.specs.Lists.{usable_is, unused_is}
 use Rattle.audit.proofs.keeps.arena_lists.Goals as goal
 
@@ -12,24 +11,22 @@ tally-requires c =
     (omega (arith, c.find_arena_homes.auto.homes), omega arith, omega arith, λ h l. get_or-replicate 256 h 0 0 l)
 
 pub holds-requires : goal.holds-requires
-holds-requires c =
-    (
-      omega (arith, c.find_arena_homes.auto.homes),
-      omega arith,
-      omega arith,
-      c.kept.ensures.0 ∙ c.tally.ensures 2
-          (omega arith),
-    )
+holds-requires c = (
+  omega (arith, c.find_arena_homes.auto.homes),
+  omega arith,
+  omega arith,
+  c.kept.ensures.0 ∙ c.tally.ensures 2
+      (omega arith),
+)
 
 pub holds-requires-2 : goal.holds-requires-2
-holds-requires-2 c =
-    (
-      omega (arith, c.find_arena_homes.auto.homes),
-      omega arith,
-      omega arith,
-      c.kept-2.ensures.0 ∙ c.tally.ensures 3
-          (omega arith),
-    )
+holds-requires-2 c = (
+  omega (arith, c.find_arena_homes.auto.homes),
+  omega arith,
+  omega arith,
+  c.kept-2.ensures.0 ∙ c.tally.ensures 3
+      (omega arith),
+)
 
 pub returns : goal.returns
 returns c =

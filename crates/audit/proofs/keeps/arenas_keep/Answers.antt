@@ -1,11 +1,10 @@
 -- `audit::keeps::arenas_keep` asks them in turn: at turn a the answer is that of the arenas before a.
-use mathlib.Core.Path.{◌≡◌, refl, sym, ap, ap₂, ◌∙◌}
+use mathlib.Core.Path.{refl, sym, ap, ap₂, ◌∙◌}
 use mathlib.Core.Bool.{◌&&◌}
-use Prim.Native.Nat.{◌-◌, ◌≤◌}
+use Prim.Native.Nat.{◌-◌}
 use native.Mathlib.Omega.{arith}
 use Rattle.rules.specs.Say.{all_below}
 use Rattle.sequences.specs.Counting.{all_none, all_more}
-use Rattle.audit.specs.Keeps.{arena_keeps}
 use Rattle.audit.proofs.keeps.arenas_keep.Goals as goal
 
 pub loop-a-init : goal.loop-a-init

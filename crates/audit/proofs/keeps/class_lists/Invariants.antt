@@ -1,11 +1,9 @@
 -- `audit::keeps::class_lists` walks them in turn: at turn c the answer is that of the classes before c.
-use mathlib.Core.Path.{◌≡◌, sym, ap, ap₂, ◌∙◌}
-use mathlib.Core.Bool.{true, ◌&&◌}
+use mathlib.Core.Path.{◌≡◌}
+use mathlib.Core.Bool.{true}
 use Prim.Native.Nat.{◌-◌, ◌≤◌}
-use native.Mathlib.Omega.{arith}
 use Rattle.rules.specs.Say.{all_below}
 use Rattle.rules.specs.Books.{class_head}
-use Rattle.sequences.specs.Counting.{all_none, all_more}
 use Rattle.audit.specs.Lists.{list_holds}
 use Rattle.audit.proofs.keeps.class_lists.Given as goal
 

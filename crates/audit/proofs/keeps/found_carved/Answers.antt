@@ -4,7 +4,6 @@ use mathlib.Core.Bool.{not}
 use Prim.Native.Nat.{ℕ}
 use native.Mathlib.Omega.{arith}
 use lib.Dec.{eqb}
-use borrow.Author.Rules.{rules}
 use Rattle.books.specs.Sizes.{aligned}
 use Rattle.audit.specs.Survey.{home_is}
 use Rattle.audit.proofs.keeps.found_carved.Goals as goal

@@ -1,5 +1,4 @@
 -- `audit::keeps::is_followed` makes the three tests.
-use borrow.Author.Rules.{rules}
 use Rattle.audit.proofs.keeps.is_followed.Goals as goal
 
 pub returns : goal.returns

@@ -1,8 +1,7 @@
 -- `audit::keeps::not_in_use` counts: at turn i the pools of the arena before its pool i.
 use mathlib.Core.Path.{◌≡◌, refl, sym, ap, ◌∙◌}
-use mathlib.Core.Logic.{⊎_elim}
 use mathlib.Core.Bool.{Bool, true, false, not}
-use Prim.Native.Nat.{ℕ, ◌+◌, ◌*◌, ◌-◌, ◌≤◌, ◌<◌}
+use Prim.Native.Nat.{ℕ, ◌+◌, ◌*◌, ◌-◌, ◌<◌}
 use native.Mathlib.Nat.{mul-le-mul_right, suc-mul}
 use native.Mathlib.Omega.{arith}
 use Rattle.rules.specs.Say.{how_many}
@@ -42,12 +41,12 @@ loop-i-preserved c =
     let a = c.args in
     let f : ℕ → Bool = λ i. not (in_use a.s.pools a.books.now a.map.now (a.a * a.s.pools + i)) in
     elim c.if-not-found_used.branch [
-      then-not-found_used w ↦
-        let t : f x.i ≡ true = ap not (sym c.found_used.ensures ∙ w.if-not-found_used.true) in
-        (omega (arith, w.k-is, counts f x.i t, x.invariant.0), omega arith, omega (arith, w.k-is), refl)
+      | then-not-found_used w ↦
+          let t : f x.i ≡ true = ap not (sym c.found_used.ensures ∙ w.if-not-found_used.true) in
+          (omega (arith, w.k-is, counts f x.i t, x.invariant.0), omega arith, omega (arith, w.k-is), refl)
       | else-not-found_used w ↦
-        let t : f x.i ≡ false = ap not (sym c.found_used.ensures ∙ w.if-not-found_used.false) in
-        (omega (arith, w.k-is, passes f x.i t, x.invariant.0), omega arith, omega (arith, w.k-is), refl)
+          let t : f x.i ≡ false = ap not (sym c.found_used.ensures ∙ w.if-not-found_used.false) in
+          (omega (arith, w.k-is, passes f x.i t, x.invariant.0), omega arith, omega (arith, w.k-is), refl)
     ]
 
 pub returns : goal.returns

@@ -1,13 +1,9 @@
 -- `audit::keeps::not_in_use` counts: at turn i the pools of the arena before its pool i.
-use mathlib.Core.Path.{◌≡◌, refl, sym, ap, ◌∙◌}
-use mathlib.Core.Logic.{⊎_elim}
-use mathlib.Core.Bool.{Bool, true, false, not}
-use Prim.Native.Nat.{ℕ, ◌+◌, ◌*◌, ◌-◌, ◌≤◌, ◌<◌}
-use native.Mathlib.Nat.{mul-le-mul_right, suc-mul}
-use native.Mathlib.Omega.{arith}
+use mathlib.Core.Path.{◌≡◌}
+use mathlib.Core.Bool.{not}
+use Prim.Native.Nat.{◌+◌, ◌*◌, ◌-◌, ◌≤◌}
 use Rattle.rules.specs.Say.{how_many}
 use Rattle.rules.specs.Audit.{in_use}
-use Rattle.audit.specs.Turns.{none_counted, counts, passes}
 use Rattle.audit.proofs.keeps.not_in_use.Given as goal
 
 abbrev pub invariant-loop-i : goal.invariant-loop-i

@@ -1,10 +1,9 @@
--- `audit::keeps::pool_keeps_5` makes the test of `pool_keeps5`: a pool with no set bit has none where there is no block.
+-- `audit::keeps::pool_keeps_5` makes the test of `pool_keeps5`: a pool with no set bit has none where there is no
+-- block.
 use mathlib.Core.Path.{sym, ap, ◌∙◌}
 use native.Mathlib.Omega.{arith}
-use borrow.Author.Rules.{rules}
 use Rattle.rules.specs.Books.{alignment_of}
 use Rattle.rules.specs.Audit.{blocks_of, bits_below}
-use Rattle.books.specs.Tests.{held, failed}
 use Rattle.audit.specs.Divided.{none_stray, some_stray, at_blocks}
 use Rattle.audit.proofs.keeps.pool_keeps_5.Goals as goal
 

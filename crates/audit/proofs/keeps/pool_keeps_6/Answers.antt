@@ -3,7 +3,6 @@ use mathlib.Core.Path.{sym, ap, ◌∙◌}
 use Prim.Native.Nat.{ℕ}
 use native.Mathlib.Omega.{arith}
 use lib.Dec.{eqb}
-use borrow.Author.Rules.{rules}
 use Rattle.rules.specs.Audit.{pool_keeps6}
 use Rattle.books.specs.Sizes.{aligned}
 use Rattle.audit.specs.Survey.{home_is}

@@ -5,7 +5,6 @@ use mathlib.Core.Bool.{◌&&◌}
 use Prim.Native.Nat.{ℕ, ◌≤◌}
 use native.Mathlib.Omega.{arith}
 use lib.Dec.{eqb}
-use borrow.Author.Rules.{rules}
 use borrow.Author.Tests.{eqb-true}
 use Rattle.rules.specs.Books.{alignment_of, class, no_class, pool}
 use Rattle.rules.specs.Blocks.{size_of}
@@ -13,7 +12,7 @@ use Rattle.rules.specs.Audit.{set_bits}
 use Rattle.books.specs.declared.pool.Pool.{Pool}
 use Rattle.books.specs.Records.{pool_at}
 use Rattle.books.specs.Sizes.{aligned, class_size, no_class_lem, a_class}
-use Rattle.books.specs.Tests.{both, held, failed}
+use Rattle.books.specs.Tests.{both}
 use Rattle.audit.specs.Divided.{else_zero, divided, keeps_away, keeps_unset, keeps_no_class, keeps_divided}
 use Rattle.audit.proofs.keeps.pool_keeps_8.Goals as goal
 

@@ -3,7 +3,6 @@ use mathlib.Core.Path.{ap, ◌∙◌}
 use Prim.Native.Nat.{ℕ}
 use native.Mathlib.Omega.{arith}
 use lib.Dec.{eqb}
-use borrow.Author.Rules.{rules}
 use Rattle.rules.specs.Books.{at}
 use Rattle.rules.specs.Lists.{next_at, previous_at}
 use Rattle.rules.specs.Audit.{holds}

@@ -1,11 +1,8 @@
 -- `audit::keeps::pools_keep` asks them in turn: at turn n the answer is that of the pools before n.
-use mathlib.Core.Path.{◌≡◌, refl, sym, ap, ap₂, ◌∙◌}
-use mathlib.Core.Bool.{◌&&◌}
+use mathlib.Core.Path.{◌≡◌}
 use Prim.Native.Nat.{◌*◌, ◌-◌, ◌≤◌}
-use native.Mathlib.Omega.{arith}
 use Rattle.rules.specs.Say.{all_below}
 use Rattle.rules.specs.Books.{alignment_of}
-use Rattle.sequences.specs.Counting.{all_none, all_more}
 use Rattle.audit.specs.Keeps.{pool_keeps}
 use Rattle.audit.proofs.keeps.pools_keep.Given as goal
 

@@ -2,7 +2,6 @@
 use mathlib.Core.Path.{◌∙◌}
 use native.Mathlib.Omega.{arith}
 use lib.ListN.{get_or-replicate}
-use borrow.Author.Rules.{rules}
 use Rattle.rules.specs.Say.{all_below}
 use Rattle.rules.specs.Books.{usable_head, unused_head}
 use Rattle.rules.specs.Audit.{freed_list, usable_member, unused_member, arena_list, rule6}

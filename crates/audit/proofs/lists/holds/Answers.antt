@@ -2,13 +2,12 @@
 -- on.
 use mathlib.Core.Path.{◌≡◌, sym, ap₂, ◌∙◌}
 use mathlib.Core.Bool.{true}
-use Prim.Native.Nat.{ℕ, ◌-◌, ◌≤◌, ◌<◌}
+use Prim.Native.Nat.{ℕ, ◌-◌, ◌≤◌}
 use native.Mathlib.Omega.{arith}
 use lib.Dec.{eqb}
 use Rattle.rules.specs.Books.{at}
 use Rattle.rules.specs.Lists.{next_at, previous_at}
 use Rattle.rules.specs.Audit.{leads, meets, holds}
-use Rattle.books.specs.Tests.{held, failed}
 use Rattle.sequences.specs.Walks.{leads_is}
 use Rattle.audit.specs.Turns.{meets_end, meets_goes, meets_fails}
 use Rattle.audit.proofs.lists.holds.Goals.{Else-not-leads}

@@ -1,16 +1,11 @@
 -- `audit::lists::holds` walks: at each turn the answer is that of the k members that are left to meet from the link l
 -- on.
-use mathlib.Core.Path.{◌≡◌, sym, ap₂, ◌∙◌}
-use mathlib.Core.Bool.{true}
-use Prim.Native.Nat.{ℕ, ◌-◌, ◌≤◌, ◌<◌}
-use native.Mathlib.Omega.{arith}
+use mathlib.Core.Path.{◌≡◌}
+use Prim.Native.Nat.{◌-◌, ◌<◌}
 use lib.Dec.{eqb}
 use Rattle.rules.specs.Books.{at}
 use Rattle.rules.specs.Lists.{next_at, previous_at}
-use Rattle.rules.specs.Audit.{leads, meets, holds}
-use Rattle.books.specs.Tests.{held, failed}
-use Rattle.sequences.specs.Walks.{leads_is}
-use Rattle.audit.specs.Turns.{meets_end, meets_goes, meets_fails}
+use Rattle.rules.specs.Audit.{meets, holds}
 use Rattle.audit.proofs.lists.holds.Given as goal
 
 abbrev pub invariant-loop-k : goal.invariant-loop-k

@@ -4,7 +4,6 @@ use mathlib.Core.Bool.{◌&&◌}
 use Prim.Native.Nat.{ℕ}
 use native.Mathlib.Omega.{arith}
 use lib.Dec.{eqb}
-use borrow.Author.Rules.{rules}
 use Rattle.rules.specs.Books.{at}
 use Rattle.rules.specs.Lists.{previous_at}
 use Rattle.audit.specs.Turns.{none_led, far_led, near_led}

@@ -1,7 +1,6 @@
 -- `audit::survey::arena_home_of` makes the tests of `arena_home_of` in turn.
 use mathlib.Core.Path.{sym, ◌∙◌}
 use native.Mathlib.Omega.{arith}
-use borrow.Author.Rules.{rules}
 use borrow.Author.Tests.{eq-eqb, ne_eqb}
 use Rattle.rules.specs.Books.{open_word, free_pools, arena}
 use Rattle.audit.specs.Survey.{arena_home_of}

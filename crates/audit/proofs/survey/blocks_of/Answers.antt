@@ -2,7 +2,6 @@
 use mathlib.Core.Path.{ap}
 use Prim.Native.Nat.{ℕ, ◌/◌}
 use native.Mathlib.Omega.{arith}
-use borrow.Author.Rules.{rules}
 use Rattle.rules.specs.Audit.{blocks_of}
 use Rattle.books.specs.Sizes.{aligned, no_class_lem, a_class}
 use Rattle.books.specs.Starts.{capacity_le}

@@ -1,10 +1,10 @@
 -- `audit::survey::count_bits` keeps the counts: at turn n those of the pools before n.
 use mathlib.Core.Path.{◌≡◌, refl, ◌∙◌}
-use Prim.Native.Nat.{◌-◌, ◌≤◌}
+use Prim.Native.Nat.{◌-◌}
 use native.Mathlib.Omega.{arith}
-use lib.ListN.{length, length-set}
+use lib.ListN.{length-set}
 use Rattle.rules.specs.Audit.{set_bits}
-use Rattle.audit.specs.Survey.{Filled, filled_more}
+use Rattle.audit.specs.Survey.{filled_more}
 use Rattle.audit.proofs.survey.count_bits.Goals as goal
 
 pub loop-n-init : goal.loop-n-init

@@ -1,10 +1,9 @@
 -- `audit::survey::count_bits` keeps the counts: at turn n those of the pools before n.
-use mathlib.Core.Path.{◌≡◌, refl, ◌∙◌}
+use mathlib.Core.Path.{◌≡◌}
 use Prim.Native.Nat.{◌-◌, ◌≤◌}
-use native.Mathlib.Omega.{arith}
-use lib.ListN.{length, length-set}
+use lib.ListN.{length}
 use Rattle.rules.specs.Audit.{set_bits}
-use Rattle.audit.specs.Survey.{Filled, filled_more}
+use Rattle.audit.specs.Survey.{Filled}
 use Rattle.audit.proofs.survey.count_bits.Given as goal
 
 abbrev pub invariant-loop-n : goal.invariant-loop-n

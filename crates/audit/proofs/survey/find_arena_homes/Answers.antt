@@ -1,9 +1,9 @@
 -- `audit::survey::find_arena_homes` keeps the heads: at turn a those of the arenas before a.
 use mathlib.Core.Path.{◌≡◌, refl, ◌∙◌}
-use Prim.Native.Nat.{◌-◌, ◌≤◌}
+use Prim.Native.Nat.{◌-◌}
 use native.Mathlib.Omega.{arith}
-use lib.ListN.{length, length-set}
-use Rattle.audit.specs.Survey.{Filled, arena_home_of, filled_more}
+use lib.ListN.{length-set}
+use Rattle.audit.specs.Survey.{arena_home_of, filled_more}
 use Rattle.audit.proofs.survey.find_arena_homes.Goals as goal
 
 pub loop-a-init : goal.loop-a-init

@@ -1,9 +1,8 @@
 -- `audit::survey::find_arena_homes` keeps the heads: at turn a those of the arenas before a.
-use mathlib.Core.Path.{◌≡◌, refl, ◌∙◌}
+use mathlib.Core.Path.{◌≡◌}
 use Prim.Native.Nat.{◌-◌, ◌≤◌}
-use native.Mathlib.Omega.{arith}
-use lib.ListN.{length, length-set}
-use Rattle.audit.specs.Survey.{Filled, arena_home_of, filled_more}
+use lib.ListN.{length}
+use Rattle.audit.specs.Survey.{Filled, arena_home_of}
 use Rattle.audit.proofs.survey.find_arena_homes.Given as goal
 
 abbrev pub invariant-loop-a : goal.invariant-loop-a

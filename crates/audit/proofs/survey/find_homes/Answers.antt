@@ -1,10 +1,10 @@
 -- `audit::survey::find_homes` keeps the heads: at turn n those of the pools before n.
 use mathlib.Core.Path.{◌≡◌, refl, ap, ◌∙◌}
-use Prim.Native.Nat.{ℕ, ◌*◌, ◌-◌, ◌≤◌}
+use Prim.Native.Nat.{ℕ, ◌*◌, ◌-◌}
 use native.Mathlib.Omega.{arith}
-use lib.ListN.{length, length-set}
+use lib.ListN.{length-set}
 use Rattle.rules.specs.Books.{at, alignment_of}
-use Rattle.audit.specs.Survey.{Filled, home_by, filled_more}
+use Rattle.audit.specs.Survey.{home_by, filled_more}
 use Rattle.audit.proofs.survey.find_homes.Goals as goal
 
 pub loop-n-init : goal.loop-n-init

@@ -1,10 +1,9 @@
 -- `audit::survey::find_homes` keeps the heads: at turn n those of the pools before n.
-use mathlib.Core.Path.{◌≡◌, refl, ap, ◌∙◌}
-use Prim.Native.Nat.{ℕ, ◌*◌, ◌-◌, ◌≤◌}
-use native.Mathlib.Omega.{arith}
-use lib.ListN.{length, length-set}
+use mathlib.Core.Path.{◌≡◌}
+use Prim.Native.Nat.{◌*◌, ◌-◌, ◌≤◌}
+use lib.ListN.{length}
 use Rattle.rules.specs.Books.{at, alignment_of}
-use Rattle.audit.specs.Survey.{Filled, home_by, filled_more}
+use Rattle.audit.specs.Survey.{Filled, home_by}
 use Rattle.audit.proofs.survey.find_homes.Given as goal
 
 abbrev pub invariant-loop-n : goal.invariant-loop-n

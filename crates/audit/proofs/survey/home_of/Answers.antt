@@ -1,12 +1,10 @@
 -- `audit::survey::home_of` makes the tests of `home_by` in turn.
 use mathlib.Core.Path.{◌≡◌, ap, ◌∙◌, sym}
 use native.Mathlib.Omega.{arith}
-use borrow.Author.Rules.{rules}
 use borrow.Author.Tests.{eq-eqb, ne_eqb, lt-ltb, le-ltb}
 use Rattle.rules.specs.Books.{alignment_of, class_head, arena_word, freed_head, class, pool}
 use Rattle.rules.specs.Audit.{blocks_of}
 use Rattle.books.specs.Sizes.{aligned}
-use Rattle.books.specs.Tests.{held, failed}
 use Rattle.audit.specs.Survey.{home_by, has_blocks}
 use Rattle.audit.proofs.survey.home_of.Goals as goal
 use Rattle.audit.proofs.survey.home_of.Goals as goal

@@ -1,8 +1,7 @@
 -- `audit::survey::set_bits` counts: at turn i it has counted the first 64i bits.
 use mathlib.Core.Path.{◌≡◌, sym, ap, ◌∙◌}
-use Prim.Native.Nat.{◌+◌, ◌*◌, ◌-◌, ◌≤◌}
+use Prim.Native.Nat.{◌+◌, ◌*◌, ◌-◌}
 use native.Mathlib.Omega.{arith}
-use borrow.Author.Rules.{rules}
 use Rattle.rules.specs.Say.{how_many}
 use Rattle.rules.specs.Books.{is_set}
 use Rattle.bits.specs.Map.{not_set}
@@ -13,12 +12,11 @@ use Rattle.audit.proofs.survey.set_bits.Goals.{After-count_live-k}
 use Rattle.audit.proofs.survey.set_bits.Goals as goal
 
 pub returns-then-none_set : goal.returns-then-none_set
-returns-then-none_set c =
-    (
-      sym (many_none (is_set c.args.map.now c.args.n) 512
-          (not_set c.args.map.now c.args.n (sym c.none_set.ensures ∙ c.if-none_set.true))),
-      omega arith,
-    )
+returns-then-none_set c = (
+  sym (many_none (is_set c.args.map.now c.args.n) 512
+      (not_set c.args.map.now c.args.n (sym c.none_set.ensures ∙ c.if-none_set.true))),
+  omega arith,
+)
 
 pub loop-i-init : goal.loop-i-init
 loop-i-init c = (sym (none_counted _), omega arith)

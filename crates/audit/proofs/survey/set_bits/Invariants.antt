@@ -1,14 +1,8 @@
 -- `audit::survey::set_bits` counts: at turn i it has counted the first 64i bits.
-use mathlib.Core.Path.{◌≡◌, sym, ap, ◌∙◌}
-use Prim.Native.Nat.{◌+◌, ◌*◌, ◌-◌, ◌≤◌}
-use native.Mathlib.Omega.{arith}
-use borrow.Author.Rules.{rules}
+use mathlib.Core.Path.{◌≡◌}
+use Prim.Native.Nat.{◌*◌, ◌-◌, ◌≤◌}
 use Rattle.rules.specs.Say.{how_many}
 use Rattle.rules.specs.Books.{is_set}
-use Rattle.bits.specs.Map.{not_set}
-use Rattle.sequences.specs.Counting.{many_none, many_le}
-use Rattle.audit.specs.Turns.{none_counted}
-use Rattle.audit.specs.Bits.{word_bits}
 use Rattle.audit.proofs.survey.set_bits.Given as goal
 
 abbrev pub invariant-loop-i : goal.invariant-loop-i

@@ -1,15 +1,14 @@
 -- `audit::survey::tally` counts: at turn i the records before i. A turn adds one to the head of record i, and leaves
 -- the others.
 use mathlib.Core.Path.{◌≡◌, refl, sym, ◌∙◌}
-use Prim.Native.Nat.{◌-◌, ◌≤◌}
+use Prim.Native.Nat.{◌-◌}
 use native.Mathlib.Omega.{arith}
-use lib.ListN.{length, length-set}
+use lib.ListN.{length-set}
 use lib.Dec.{eqb}
-use Rattle.rules.specs.Say.{how_many}
 use Rattle.rules.specs.Books.{at}
 use Rattle.sequences.specs.Counting.{many_le}
 use Rattle.audit.specs.Turns.{none_counted}
-use Rattle.audit.specs.Survey.{Filled, tallied}
+use Rattle.audit.specs.Survey.{tallied}
 use Rattle.audit.proofs.survey.tally.Goals as goal
 
 pub loop-i-init : goal.loop-i-init

@@ -1,15 +1,12 @@
 -- `audit::survey::tally` counts: at turn i the records before i. A turn adds one to the head of record i, and leaves
 -- the others.
-use mathlib.Core.Path.{◌≡◌, refl, sym, ◌∙◌}
+use mathlib.Core.Path.{◌≡◌}
 use Prim.Native.Nat.{◌-◌, ◌≤◌}
-use native.Mathlib.Omega.{arith}
-use lib.ListN.{length, length-set}
+use lib.ListN.{length}
 use lib.Dec.{eqb}
 use Rattle.rules.specs.Say.{how_many}
 use Rattle.rules.specs.Books.{at}
-use Rattle.sequences.specs.Counting.{many_le}
-use Rattle.audit.specs.Turns.{none_counted}
-use Rattle.audit.specs.Survey.{Filled, tallied}
+use Rattle.audit.specs.Survey.{Filled}
 use Rattle.audit.proofs.survey.tally.Given as goal
 
 abbrev pub invariant-loop-i : goal.invariant-loop-i

@@ -3,7 +3,6 @@
 use mathlib.Core.Path.{refl}
 use Rattle.books.specs.Starts.{start}
 use native.Mathlib.Omega.{arith}
-use borrow.Author.Rules.{rules}
 use Rattle.books.proofs.blocks.block_no.Goals as goal
 
 pub overflow_sub-result : goal.overflow_sub-result

@@ -1,7 +1,6 @@
 -- `books::blocks::class_of` shifts a size in eights by the edition.
 use native.Mathlib.Omega.{arith}
 use Rattle.books.specs.Sizes.{aligned, shifted, has_class, class_low}
-use borrow.Author.Rules.{rules}
 use Rattle.books.proofs.blocks.class_of.Goals as goal
 
 pub returns : goal.returns

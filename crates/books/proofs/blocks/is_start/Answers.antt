@@ -1,7 +1,6 @@
 -- `books::blocks::is_start` answers the three tests of a start in turn: the first that fails decides.
 use borrow.Author.Tests.{le-leb, lt-leb}
 use Rattle.rules.specs.Blocks.{is_start}
-use borrow.Author.Rules.{rules}
 use Rattle.books.proofs.blocks.is_start.Goals as goal
 
 pub returns-then-o-lt48 : goal.returns-then-o-lt48

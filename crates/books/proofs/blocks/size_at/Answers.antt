@@ -1,5 +1,4 @@
 -- `books::blocks::size_at` is the size of the class of the offset's pool.
-use borrow.Author.Rules.{rules}
 use Rattle.books.proofs.blocks.size_at.Goals as goal
 
 pub returns : goal.returns

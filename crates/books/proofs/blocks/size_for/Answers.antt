@@ -4,7 +4,6 @@ use native.Mathlib.Omega.{arith}
 use Rattle.rules.specs.Books.{alignment_of}
 use Rattle.rules.specs.Blocks.{class_of, size_of}
 use Rattle.books.specs.Sizes.{aligned, rounded, has_class, size_low, size_high}
-use borrow.Author.Rules.{rules}
 use Rattle.books.proofs.blocks.size_for.Goals.{Start}
 use Rattle.books.proofs.blocks.size_for.Goals as goal
 

@@ -2,7 +2,6 @@
 use mathlib.Core.Path.{refl}
 use native.Mathlib.Omega.{arith}
 use Rattle.books.specs.Sizes.{of_eight, of_sixteen}
-use borrow.Author.Rules.{rules}
 use Rattle.books.proofs.blocks.size_of.Goals as goal
 
 pub returns-then-edition-eq-EIGHT : goal.returns-then-edition-eq-EIGHT

@@ -3,7 +3,6 @@ use Rattle.rules.specs.Blocks.{put_link}
 use mathlib.Core.Path.{refl}
 use native.Mathlib.Omega.{arith}
 use lib.ListN.{length-set}
-use borrow.Author.Rules.{rules}
 use Rattle.books.proofs.links.put_link.Goals as goal
 
 pub bounds-memory-o-2 : goal.bounds-memory-o-2

@@ -1,5 +1,4 @@
 -- `books::lists::go_in_after` joins behind the member, between its link and its next word.
-use borrow.Author.Rules.{rules}
 use Rattle.books.proofs.lists.go_in_after.Goals as goal
 
 pub returns : goal.returns

@@ -3,7 +3,6 @@
 use Rattle.rules.specs.Lists.{join_by}
 use native.Mathlib.Omega.{arith}
 use lib.ListN.{length-set}
-use borrow.Author.Rules.{rules}
 use Rattle.books.proofs.lists.join_by.Goals as goal
 
 pub bounds-books-at-2 : goal.bounds-books-at-2

@@ -1,5 +1,4 @@
 -- `books::lists::may_join` meets its contract: it compares the head with the bound, as the rule does.
-use borrow.Author.Rules.{rules}
 use Rattle.books.proofs.lists.may_join.Goals as goal
 
 pub returns : goal.returns

@@ -1,5 +1,4 @@
 -- `books::lists::may_leave` meets its contract: it compares both links with the bound, as the rule does.
-use borrow.Author.Rules.{rules}
 use Rattle.books.proofs.lists.may_leave.Goals as goal
 
 pub returns : goal.returns

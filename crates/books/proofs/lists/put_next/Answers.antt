@@ -1,7 +1,6 @@
 -- `books::lists::put_next` writes the head where the link is 0,
 -- and otherwise the next word of the member that it leads to.
 use borrow.Author.Tests.{eq-eqb, ne_eqb}
-use borrow.Author.Rules.{rules}
 use Rattle.books.proofs.lists.put_next.Goals as goal
 
 pub returns-then-link-eq0 : goal.returns-then-link-eq0

@@ -1,7 +1,6 @@
 -- `books::lists::put_previous` writes nothing where the link is 0,
 -- and otherwise the previous word of the member that it leads to.
 use borrow.Author.Tests.{eq-eqb, ne_eqb}
-use borrow.Author.Rules.{rules}
 use Rattle.books.proofs.lists.put_previous.Goals as goal
 
 pub returns-then-link-eq0 : goal.returns-then-link-eq0

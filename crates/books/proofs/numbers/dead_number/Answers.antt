@@ -1,14 +1,13 @@
 -- `books::numbers::dead_number` makes the two tests that are left of a block's where one would start: below nextoffset,
 -- and in a carved pool.
+use Rattle.std.specs.Prelude.{if◌then◌else◌}
 use mathlib.Core.Path.{sym, ap}
 use mathlib.Core.Bool.{Bool}
 use Prim.Native.Nat.{ℕ, ◌/◌, ◌*◌, ◌<◌}
 use native.Mathlib.Omega.{arith}
-use Rattle.rules.specs.Say.{if◌then◌else◌}
 use Rattle.rules.specs.Books.{alignment_of}
 use Rattle.rules.specs.Blocks.{is_block}
 use Rattle.books.specs.Known.{at_start_is}
-use borrow.Author.Rules.{rules}
 use Rattle.books.proofs.numbers.dead_number.Goals.{Start}
 use Rattle.books.proofs.numbers.dead_number.Goals as goal
 
@@ -32,16 +31,14 @@ number t = if t then 10 else 5
 
 pub returns-then-offset-next : goal.returns-then-offset-next
 unfolding is_block
-returns-then-offset-next c =
-    (
-      rw (c.requires.4, ← c.word-next.ensures.0, ← c.is_carved.ensures) (sym (ap number c.if-offset-next.true)),
-      omega arith,
-    )
+returns-then-offset-next c = (
+  rw (c.requires.4, ← c.word-next.ensures.0, ← c.is_carved.ensures) (sym (ap number c.if-offset-next.true)),
+  omega arith,
+)
 
 pub returns : goal.returns
 unfolding is_block
-returns c =
-    (
-      rw (c.requires.4, ← c.word-next.ensures.0, ← c.is_carved.ensures) (sym (ap number c.if-offset-next.false)),
-      omega arith,
-    )
+returns c = (
+  rw (c.requires.4, ← c.word-next.ensures.0, ← c.is_carved.ensures) (sym (ap number c.if-offset-next.false)),
+  omega arith,
+)

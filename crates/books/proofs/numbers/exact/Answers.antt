@@ -2,7 +2,6 @@
 -- with A and A × P in range no length wraps.
 use mathlib.Core.Path.{refl}
 use Rattle.rules.specs.Books.{exact}
-use borrow.Author.Rules.{rules}
 use Rattle.books.proofs.numbers.exact.Goals as goal
 
 pub returns : goal.returns

@@ -6,10 +6,8 @@ use Rattle.rules.specs.Books.{in_range, is_edition, exact}
 use Rattle.rules.specs.Outcome.{heap_of}
 use borrow.Author.Tests.{leb-true}
 use Rattle.rules.specs.Numbers.{range_number, edition_number, length_number, fit_number}
-use Rattle.books.specs.Tests.{held, failed}
 use Rattle.books.specs.Known.{in_range_lem, shaped}
 use native.Mathlib.Omega.{arith}
-use borrow.Author.Rules.{rules}
 use Rattle.books.proofs.numbers.fit_number.Goals.{Else-not-in_range, Else-not-is_edition}
 use Rattle.books.proofs.numbers.fit_number.Goals as goal
 
@@ -47,8 +45,11 @@ unfolding fit_number range_number edition_number length_number
 returns-then-not-exact c =
     let a = c.args in
     let e : exact a.arenas a.pools (heap_of a.memory.now a.books.now a.map.now) ≡ false =
-    (sym c.exact.ensures ∙ c.if-not-exact.true) in
-    (simp (ranged (goal.at.returns-then-not-exact c).Else-not-in_range, told (goal.at.returns-then-not-exact c).Else-not-is_edition, e), λ z. absurd (omega arith))
+    (sym c.exact.ensures ∙ c.if-not-exact.true) in (
+      simp (ranged (goal.at.returns-then-not-exact c).Else-not-in_range, told (goal.at.returns-then-not-exact c).Else-not-is_edition, e),
+      λ z. absurd
+          (omega arith),
+    )
 
 pub returns : goal.returns
 unfolding fit_number range_number edition_number length_number

@@ -9,9 +9,7 @@ use borrow.Author.Tests.{lt-ltb, le-ltb}
 use Rattle.rules.specs.Books.{alignment_of, memory_length}
 use Rattle.rules.specs.Blocks.{last_class, block_no, class_at, size_at, at_start, live, is_block}
 use Rattle.books.specs.Sizes.{aligned, no_class_lem, a_class}
-use Rattle.books.specs.Tests.{held, failed}
 use Rattle.books.specs.Known.{block_at, when_set, when_clear}
-use borrow.Author.Rules.{rules}
 use Rattle.books.proofs.numbers.live_block.Goals.{After-is_set, Else-memory-offset, Else-size-gt-LARGEST}
 use Rattle.books.proofs.numbers.live_block.Goals as goal
 
@@ -47,8 +45,15 @@ classed c =
 pub returns-then-not-is_start : goal.returns-then-not-is_start
 unfolding live is_block block_at
 returns-then-not-is_start c =
-    let size = c.size_at-size.ensures.0 in
-    (simp (inside (goal.at.returns-then-not-is_start c).Else-memory-offset, classed (goal.at.returns-then-not-is_start c).Else-size-gt-LARGEST, ← size, (sym c.is_start.ensures ∙ c.if-not-is_start.true)), λ l. absurd (omega arith))
+    let size = c.size_at-size.ensures.0 in (
+      simp (
+        inside (goal.at.returns-then-not-is_start c).Else-memory-offset,
+        classed (goal.at.returns-then-not-is_start c).Else-size-gt-LARGEST,
+        ← size,
+        (sym c.is_start.ensures ∙ c.if-not-is_start.true),
+      ),
+      λ l. absurd (omega arith),
+    )
 
 pub block_no-k-requires : goal.block_no-k-requires
 block_no-k-requires c =
@@ -58,7 +63,12 @@ block_no-k-requires c =
 starts : (c : After-is_set)
     → let a = c.args in at_start (alignment_of a.edition) a.arenas a.pools a.books.now a.offset ≡ true
 starts c =
-    simp (inside (goal.at.After-is_set c).Else-memory-offset, classed (goal.at.After-is_set c).Else-size-gt-LARGEST, ← c.size_at-size.ensures.0, (sym c.is_start.ensures ∙ c.if-not-is_start.false))
+    simp (
+      inside (goal.at.After-is_set c).Else-memory-offset,
+      classed (goal.at.After-is_set c).Else-size-gt-LARGEST,
+      ← c.size_at-size.ensures.0,
+      (sym c.is_start.ensures ∙ c.if-not-is_start.false),
+    )
 
 -- and which
 block_is : (c : After-is_set)
@@ -69,8 +79,7 @@ block_is c =
 
 pub returns-then-is_set : goal.returns-then-is_set
 returns-then-is_set c =
-    let at-bit = (goal.at.returns-then-is_set c).After-is_set in
-    (
+    let at-bit = (goal.at.returns-then-is_set c).After-is_set in (
       when_set _ _ _ _ _ _ _ (starts at-bit) (block_is at-bit) (sym c.is_set.ensures ∙ c.if-is_set.true),
       λ l. c.size_at-size.ensures.0,
     )
@@ -82,8 +91,7 @@ dead_number-requires c =
 
 pub returns : goal.returns
 returns c =
-    let at-bit = (goal.at.returns c).After-is_set in
-    (
+    let at-bit = (goal.at.returns c).After-is_set in (
       when_clear _ _ _ _ _ _ _ (starts at-bit) (block_is at-bit) (sym c.is_set.ensures ∙ c.if-is_set.false) _ c.dead_number.ensures.0,
       λ l. absurd (omega arith),
     )

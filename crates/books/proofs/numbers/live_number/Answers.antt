@@ -4,7 +4,6 @@ use mathlib.Core.Path.{sym}
 use native.Mathlib.Omega.{arith}
 use Rattle.books.specs.Sizes.{aligned}
 use Rattle.books.specs.Known.{found, NotFound, not_found}
-use borrow.Author.Rules.{rules}
 use Rattle.books.proofs.numbers.live_number.Goals.{Then-block-ge-REFUSED}
 use Rattle.books.proofs.numbers.live_number.Goals as goal
 
@@ -18,7 +17,8 @@ pub refusal-requires : goal.refusal-requires
 refusal-requires c = (c.if-block-ge-REFUSED.true, (dead c).few)
 
 pub returns-then-block-ge-REFUSED : goal.returns-then-block-ge-REFUSED
-returns-then-block-ge-REFUSED c = let t = (dead (goal.at.returns-then-block-ge-REFUSED c).Then-block-ge-REFUSED).number c.refusal.result c.refusal.ensures in (t.0, λ z. absurd (t.1 z))
+returns-then-block-ge-REFUSED c = let t = (dead (goal.at.returns-then-block-ge-REFUSED c).Then-block-ge-REFUSED).number c.refusal.result
+    c.refusal.ensures in (t.0, λ z. absurd (t.1 z))
 
 pub returns : goal.returns
 returns c =

@@ -11,9 +11,7 @@ use borrow.Author.Tests.{lt-ltb, le-ltb, leb-true}
 use Rattle.rules.specs.Books.{in_range, is_edition, exact, at}
 use Rattle.rules.specs.Outcome.{heap_of}
 use Rattle.rules.specs.Numbers.{reach_number, range_number, edition_number, length_number, shape_number}
-use Rattle.books.specs.Tests.{held, failed}
 use Rattle.books.specs.Known.{Shaped, in_range_lem, shaped}
-use borrow.Author.Rules.{rules}
 use Rattle.books.proofs.numbers.shape_number.Goals.{After-exact, After-in_range, After-is_edition, Else-books-lt2, Else-not-exact, Else-not-in_range}
 use Rattle.books.proofs.numbers.shape_number.Goals as goal
 
@@ -46,7 +44,8 @@ known : (c : Else-not-exact)
 known c =
     let a = c.args in
     let b = a.books.now in
-    shaped (heap_of a.memory.now b a.map.now) (at b 0) (at b 1) (in_range_is (goal.at.Else-not-exact c).Else-not-in_range) ((sym (exact_is (goal.at.Else-not-exact c).After-exact) ∙ c.if-not-exact.false))
+    shaped (heap_of a.memory.now b a.map.now) (at b 0) (at b 1) (in_range_is (goal.at.Else-not-exact c).Else-not-in_range)
+    ((sym (exact_is (goal.at.Else-not-exact c).After-exact) ∙ c.if-not-exact.false))
 
 pub returns-then-books-lt2 : goal.returns-then-books-lt2
 unfolding shape_number reach_number
@@ -56,8 +55,14 @@ returns-then-books-lt2 c =
 
 pub returns-then-not-in_range : goal.returns-then-not-in_range
 unfolding shape_number reach_number range_number
-returns-then-not-in_range c =
-    (simp (reaches (goal.at.returns-then-not-in_range c).Else-books-lt2, (sym (range_is (goal.at.returns-then-not-in_range c).After-in_range) ∙ c.if-not-in_range.true)), λ z. absurd (omega arith))
+returns-then-not-in_range c = (
+  simp (
+    reaches (goal.at.returns-then-not-in_range c).Else-books-lt2,
+    (sym (range_is (goal.at.returns-then-not-in_range c).After-in_range)
+        ∙ c.if-not-in_range.true),
+  ),
+  λ z. absurd (omega arith),
+)
 
 pub exact-requires : goal.exact-requires
 exact-requires c =
@@ -66,11 +71,14 @@ exact-requires c =
 
 pub returns-then-not-exact : goal.returns-then-not-exact
 unfolding shape_number reach_number range_number length_number
-returns-then-not-exact c =
-    (
-      simp (reaches (goal.at.returns-then-not-exact c).Else-books-lt2, in_range_is (goal.at.returns-then-not-exact c).Else-not-in_range, (sym (exact_is (goal.at.returns-then-not-exact c).After-exact) ∙ c.if-not-exact.true)) c.wrong_length.ensures.0,
-      λ z. absurd (omega (arith, c.wrong_length.ensures.1)),
-    )
+returns-then-not-exact c = (
+  simp (
+    reaches (goal.at.returns-then-not-exact c).Else-books-lt2,
+    in_range_is (goal.at.returns-then-not-exact c).Else-not-in_range,
+    (sym (exact_is (goal.at.returns-then-not-exact c).After-exact) ∙ c.if-not-exact.true),
+  ) c.wrong_length.ensures.0,
+  λ z. absurd (omega (arith, c.wrong_length.ensures.1)),
+)
 
 pub word-edition-requires : goal.word-edition-requires
 word-edition-requires c = omega (arith, (known c).books)
@@ -87,13 +95,23 @@ long c = lt-ltb 68 (length (words c)) (omega (arith, (known (goal.at.After-is_ed
 pub returns-then-not-is_edition : goal.returns-then-not-is_edition
 unfolding shape_number reach_number range_number edition_number
 returns-then-not-is_edition c =
-    let at-edition = (goal.at.returns-then-not-is_edition c).After-is_edition in
-    (simp (reaches (goal.at.returns-then-not-is_edition c).Else-books-lt2, in_range_is (goal.at.returns-then-not-is_edition c).Else-not-in_range, long at-edition, (sym (edition_is at-edition) ∙ c.if-not-is_edition.true)), λ z. absurd (omega arith))
+    let at-edition = (goal.at.returns-then-not-is_edition c).After-is_edition in (
+      simp (
+        reaches (goal.at.returns-then-not-is_edition c).Else-books-lt2,
+        in_range_is (goal.at.returns-then-not-is_edition c).Else-not-in_range,
+        long
+            at-edition,
+        (sym (edition_is at-edition) ∙ c.if-not-is_edition.true),
+      ),
+      λ z. absurd (omega arith),
+    )
 
 pub returns : goal.returns
 unfolding shape_number reach_number range_number edition_number length_number
 returns c =
     let at-edition = (goal.at.returns c).After-is_edition in
     let fits = (sym (exact_is (goal.at.returns c).After-exact) ∙ c.if-not-exact.false) in
-    let e = (sym (edition_is at-edition) ∙ c.if-not-is_edition.false) in
-    (simp (reaches (goal.at.returns c).Else-books-lt2, in_range_is (goal.at.returns c).Else-not-in_range, long at-edition, e, fits), λ z. (known (goal.at.returns c).Else-not-exact, leb-true _ 1 e))
+    let e = (sym (edition_is at-edition) ∙ c.if-not-is_edition.false) in (
+      simp (reaches (goal.at.returns c).Else-books-lt2, in_range_is (goal.at.returns c).Else-not-in_range, long at-edition, e, fits),
+      λ z. (known (goal.at.returns c).Else-not-exact, leb-true _ 1 e),
+    )

@@ -7,8 +7,6 @@ use lib.ListN.{length}
 use borrow.Author.Tests.{lt-ltb, le-ltb}
 use Rattle.rules.specs.Books.{is_edition, at}
 use Rattle.rules.specs.Numbers.{reach_number, edition_number}
-use Rattle.books.specs.Tests.{held, failed}
-use borrow.Author.Rules.{rules}
 use Rattle.books.proofs.numbers.wrong_length.Goals.{After-is_edition, Else-books-le-EDITION}
 use Rattle.books.proofs.numbers.wrong_length.Goals as goal
 
@@ -29,8 +27,21 @@ edition_is c = c.is_edition.ensures ∙ ap is_edition c.word.ensures.0
 
 pub returns-then-not-is_edition : goal.returns-then-not-is_edition
 unfolding reach_number edition_number
-returns-then-not-is_edition c = (simp (reaches (goal.at.returns-then-not-is_edition c).Else-books-le-EDITION, (sym (edition_is (goal.at.returns-then-not-is_edition c).After-is_edition) ∙ c.if-not-is_edition.true)), omega arith)
+returns-then-not-is_edition c = (
+  simp (
+    reaches (goal.at.returns-then-not-is_edition c).Else-books-le-EDITION,
+    (sym (edition_is (goal.at.returns-then-not-is_edition c).After-is_edition) ∙ c.if-not-is_edition.true),
+  ),
+  omega arith,
+)
 
 pub returns : goal.returns
 unfolding reach_number edition_number
-returns c = (simp (reaches (goal.at.returns c).Else-books-le-EDITION, (sym (edition_is (goal.at.returns c).After-is_edition) ∙ c.if-not-is_edition.false)), omega arith)
+returns c = (
+  simp (
+    reaches (goal.at.returns c).Else-books-le-EDITION,
+    (sym (edition_is (goal.at.returns c).After-is_edition)
+        ∙ c.if-not-is_edition.false),
+  ),
+  omega arith,
+)

@@ -3,7 +3,6 @@ use Rattle.books.specs.Records.{put_pool}
 use mathlib.Core.Path.{refl}
 use native.Mathlib.Omega.{arith}
 use lib.ListN.{length-set}
-use borrow.Author.Rules.{rules}
 use Rattle.books.proofs.pool.store_pool.Goals as goal
 
 pub bounds-books-at-2 : goal.bounds-books-at-2

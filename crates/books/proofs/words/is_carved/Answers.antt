@@ -1,6 +1,5 @@
 -- `books::words::is_carved` meets its contract: it compares the two words of the pool's arena, as the definition does.
 use Rattle.rules.specs.Books.{carved}
-use borrow.Author.Rules.{rules}
 use Rattle.books.proofs.words.is_carved.Goals as goal
 
 pub returns : goal.returns

@@ -1,5 +1,4 @@
 -- `books::words::shape_of` reads the three words of the shape.
-use borrow.Author.Rules.{rules}
 use Rattle.books.proofs.words.shape_of.Goals as goal
 
 pub returns : goal.returns

@@ -2,7 +2,6 @@
 use mathlib.Core.Path.{sym}
 use native.Mathlib.Omega.{arith}
 use lib.ListN.{get_or-eq_default}
-use borrow.Author.Rules.{rules}
 use Rattle.books.proofs.words.word_or_none.Goals as goal
 
 pub returns-then-books-i : goal.returns-then-books-i

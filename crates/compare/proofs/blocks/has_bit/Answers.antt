@@ -1,6 +1,5 @@
 -- `compare::blocks::has_bit` answers the bit: shifted down and masked, the word is that bit.
 use Rattle.bits.specs.Bit.{code_test}
-use borrow.Author.Rules.{rules}
 use Rattle.compare.proofs.blocks.has_bit.Goals as goal
 
 pub returns : goal.returns

@@ -1,6 +1,5 @@
 -- `compare::blocks::kind_together` goes by the definition's own choices.
 use mathlib.Core.Path.{sym, ◌∙◌}
-use borrow.Author.Rules.{rules}
 use Rattle.compare.specs.Kinds.{together}
 use Rattle.compare.proofs.blocks.kind_together.Goals as goal
 

@@ -5,9 +5,7 @@ use mathlib.Core.List.{[], ◌∷◌}
 use Prim.Native.Nat.{ℕ, ◌+◌, ◌^◌, ◌≤◌, ◌<◌}
 use native.Mathlib.Omega.{arith}
 use lib.ListN.{length, length-set}
-use borrow.Author.Rules.{rules}
 use borrow.Author.Tests.{eq-eqb, ne_eqb}
-use Rattle.books.specs.Tests.{held, failed}
 use Rattle.compare.specs.Kinds.{entry_of}
 use Rattle.compare.specs.Noted.{noted_none, noted_written, noted_counted}
 use Rattle.compare.proofs.blocks.note.Goals.{Else-not-writing}

@@ -3,7 +3,6 @@ use mathlib.Core.Path.{◌≡◌, sym, ap, ◌∙◌}
 use Prim.Native.Nat.{◌+◌, ◌*◌, ◌/◌, ◌%◌}
 use native.Mathlib.Omega.{arith}
 use Rattle.rules.specs.Compare.{same_bytes}
-use Rattle.books.specs.Tests.{held, failed}
 use Rattle.compare.specs.Bytes.{run_more, run_ends}
 use Rattle.compare.proofs.bytes.same_block.Goals.{After-same_groups}
 use Rattle.compare.proofs.bytes.same_block.Goals as goal

@@ -1,12 +1,8 @@
 -- `compare::bytes::same_group` compares them in turn: at turn i the answer is that of the bytes before byte i.
-use mathlib.Core.Path.{◌≡◌, sym, ap, ◌∙◌}
-use mathlib.Core.Bool.{Bool, ◌&&◌}
-use Prim.Native.Nat.{◌+◌, ◌-◌, ◌≤◌}
-use native.Mathlib.Omega.{arith}
-use lib.Dec.{eqb}
+use mathlib.Core.Path.{◌≡◌}
+use Prim.Native.Nat.{◌-◌, ◌≤◌}
 use Rattle.rules.specs.Books.{at}
 use Rattle.rules.specs.Compare.{same_bytes}
-use Rattle.sequences.specs.Counting.{all_none, all_more}
 use Rattle.compare.proofs.bytes.same_group.Given as goal
 
 abbrev pub invariant-loop-i : goal.invariant-loop-i

@@ -5,7 +5,6 @@ use Prim.Native.Nat.{ℕ, ◌+◌, ◌*◌, ◌-◌, ◌≤◌}
 use native.Mathlib.Nat.{suc-mul, mul-le-mul_right}
 use native.Mathlib.Omega.{arith}
 use Rattle.rules.specs.Compare.{same_bytes}
-use Rattle.books.specs.Tests.{held, failed}
 use Rattle.sequences.specs.Counting.{all_none}
 use Rattle.compare.specs.Bytes.{run_more, run_ends}
 use Rattle.compare.proofs.bytes.same_groups.Goals.{In-loop-i}

@@ -4,7 +4,6 @@ use Prim.Native.Nat.{ℕ, ◌*◌}
 use native.Mathlib.Omega.{arith}
 use lib.ListN.{get_or-replicate}
 use lib.Seq.{sets}
-use borrow.Author.Rules.{rules}
 use Rattle.rules.specs.Books.{alignment_of}
 use Rattle.books.specs.Sizes.{aligned, class_low}
 use Rattle.compare.specs.Changes.{changes_of, total_none, counted_most, counts_give}

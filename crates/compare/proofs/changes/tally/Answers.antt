@@ -1,11 +1,11 @@
 -- `compare::changes::tally` counts the pools in turn: at turn p the counts are those of the pools before pool p.
 use mathlib.Core.Path.{◌≡◌, refl, sym, ap, ap₂, ◌∙◌}
-use Prim.Native.Nat.{ℕ, ◌*◌, ◌-◌, ◌/◌, ◌≤◌}
+use Prim.Native.Nat.{ℕ, ◌*◌, ◌-◌, ◌/◌}
 use native.Mathlib.Omega.{arith}
 use lib.ListN.{length}
-use Rattle.rules.specs.Books.{alignment_of, pool}
+use Rattle.rules.specs.Books.{pool}
 use Rattle.books.specs.Sizes.{aligned, class_low}
-use Rattle.compare.specs.Changes.{Counted, added, length_added, has_class, one_more, still_small}
+use Rattle.compare.specs.Changes.{added, length_added, has_class, one_more, still_small}
 use Rattle.compare.proofs.changes.tally.Goals as goal
 
 pub loop-pool-init : goal.loop-pool-init

@@ -2,7 +2,6 @@
 use Prim.Native.Nat.{◌*◌, ◌≤◌}
 use native.Mathlib.Nat.{mul-le-mul}
 use native.Mathlib.Omega.{arith}
-use borrow.Author.Rules.{rules}
 use Rattle.compare.specs.Next.{next_here, next_none}
 use Rattle.compare.proofs.next.next_live.Goals.{After-next_set-k}
 use Rattle.compare.proofs.next.next_live.Goals as goal

@@ -1,11 +1,11 @@
 -- `compare::next::next_set` looks at what is left of the bit's own word and then at each word after it: at turn i no
 -- bit before word i is set.
 use mathlib.Core.Path.{◌≡◌, ◌∙◌}
-use Prim.Native.Nat.{◌+◌, ◌*◌, ◌-◌, ◌/◌, ◌%◌, ◌^◌, ◌≤◌, ◌<◌}
+use Prim.Native.Nat.{◌+◌, ◌*◌, ◌-◌, ◌/◌, ◌%◌, ◌^◌, ◌<◌}
 use native.Mathlib.Omega.{arith}
 use lib.Count.{trailing_le}
 use Rattle.rules.specs.Books.{at}
-use Rattle.compare.specs.Next.{Clear, clear_more, rest_clear, rest_first}
+use Rattle.compare.specs.Next.{clear_more, rest_clear, rest_first}
 use Rattle.compare.proofs.next.next_set.Goals as goal
 
 pub overflow_cast-result : goal.overflow_cast-result

@@ -1,11 +1,7 @@
 -- `compare::next::next_set` looks at what is left of the bit's own word and then at each word after it: at turn i no
 -- bit before word i is set.
-use mathlib.Core.Path.{◌≡◌, ◌∙◌}
-use Prim.Native.Nat.{◌+◌, ◌*◌, ◌-◌, ◌/◌, ◌%◌, ◌^◌, ◌≤◌, ◌<◌}
-use native.Mathlib.Omega.{arith}
-use lib.Count.{trailing_le}
-use Rattle.rules.specs.Books.{at}
-use Rattle.compare.specs.Next.{Clear, clear_more, rest_clear, rest_first}
+use Prim.Native.Nat.{◌*◌, ◌-◌, ◌≤◌}
+use Rattle.compare.specs.Next.{Clear}
 use Rattle.compare.proofs.next.next_set.Given as goal
 
 abbrev pub invariant-loop-i : goal.invariant-loop-i

@@ -5,12 +5,11 @@ use mathlib.Core.List.{◌++◌}
 use Prim.Native.Nat.{ℕ, ◌+◌, ◌*◌, ◌-◌, ◌≤◌, ◌<◌}
 use native.Mathlib.Omega.{arith}
 use lib.Dec.{eqb}
-use borrow.Author.Rules.{rules}
 use Rattle.rules.specs.Say.{listing}
 use Rattle.sequences.specs.Listing.{listing_none}
 use Rattle.compare.specs.Kinds.{entry_of, apart, apart_at}
 use Rattle.compare.specs.Next.{none_after, next_after}
-use Rattle.compare.specs.Noted.{Noting, unnoted, note, finish, room}
+use Rattle.compare.specs.Noted.{unnoted, note, finish, room}
 use Rattle.compare.proofs.walk.walk_apart.Goals.{Else-next-eq4096, Start}
 use Rattle.compare.proofs.walk.walk_apart.Goals as goal
 
@@ -62,7 +61,8 @@ note-place-requires c =
     let kind = c.kind_apart-kind.result in
     let e = rw (← c.kind_apart-kind.ensures) at (comes at-if1).2 in (
       omega (arith, (comes at-if1).0),
-      room c.loop-x.invariant.0 (entry_of (4096 * p + n) kind) (listing (kinds (goal.at.note-place-requires c).Start) (4096 * p + (n + 1)) (4096 - (n + 1))) c.requires.7 e,
+      room c.loop-x.invariant.0 (entry_of (4096 * p + n) kind) (listing (kinds (goal.at.note-place-requires c).Start) (4096 * p + (n + 1)) (4096 - (n + 1)))
+          c.requires.7 e,
     )
 
 pub overflow_add-x : goal.overflow_add-x

@@ -1,16 +1,9 @@
 -- `compare::walk::walk_apart` notes the next live block of either heap: at each turn the places from x on are to be
 -- noted.
-use mathlib.Core.Path.{◌≡◌, sym, ◌∙◌}
-use mathlib.Core.List.{◌++◌}
-use Prim.Native.Nat.{ℕ, ◌+◌, ◌*◌, ◌-◌, ◌≤◌, ◌<◌}
-use native.Mathlib.Omega.{arith}
-use lib.Dec.{eqb}
-use borrow.Author.Rules.{rules}
+use Prim.Native.Nat.{◌+◌, ◌*◌, ◌-◌, ◌≤◌}
 use Rattle.rules.specs.Say.{listing}
-use Rattle.sequences.specs.Listing.{listing_none}
-use Rattle.compare.specs.Kinds.{entry_of, apart, apart_at}
-use Rattle.compare.specs.Next.{none_after, next_after}
-use Rattle.compare.specs.Noted.{Noting, unnoted, note, finish, room}
+use Rattle.compare.specs.Kinds.{apart_at}
+use Rattle.compare.specs.Noted.{Noting}
 use Rattle.compare.proofs.walk.walk_apart.Given as goal
 
 abbrev pub invariant-loop-x : goal.invariant-loop-x

@@ -6,14 +6,13 @@ use Prim.Native.Nat.{ℕ, ◌+◌, ◌*◌, ◌-◌, ◌≤◌, ◌<◌}
 use native.Mathlib.Nat.{mul-le-mul}
 use native.Mathlib.Omega.{arith}
 use lib.Bits.{bit_or}
-use borrow.Author.Rules.{rules}
 use Rattle.rules.specs.Books.{offset_of}
 use Rattle.rules.specs.Blocks.{start_of, last_start, capacity}
 use Rattle.books.specs.Starts.{capacity_le}
 use Rattle.sequences.specs.Listing.{at_steps}
 use Rattle.loops.specs.Word.{each_bit, up_to, in_word, some_there, none_there, up_to_last}
 use Rattle.compare.specs.Kinds.{together_at}
-use Rattle.compare.specs.Noted.{Noting, begin, note, finish, room}
+use Rattle.compare.specs.Noted.{begin, note, finish, room}
 use Rattle.compare.specs.Words.{said_of, word_part, word_steps, steps_end}
 use Rattle.compare.proofs.walk.walk_blocks.Goals.{After-word_if-word2, Else-last-first, In-loop-i, Start}
 use Rattle.compare.proofs.walk.walk_blocks.Goals as goal
@@ -69,8 +68,14 @@ part_is : (c : After-word_if-word2)
 part_is c =
     let a = c.args in
     let i = c.loop-i.i in
-    rw (c.word_if-word.ensures, c.word_if-word2.ensures, up_to_last a.pool a.size i (omega arith) (omega arith) (some (goal.at.After-word_if-word2 c).Else-last-first))
-    (word_part a.memory.now a.memory2.now a.map.now a.map2.now a.there a.there2 a.pool a.size i (some (goal.at.After-word_if-word2 c).Else-last-first) (omega arith))
+    rw (
+      c.word_if-word.ensures,
+      c.word_if-word2.ensures,
+      up_to_last a.pool a.size i (omega arith) (omega arith)
+          (some (goal.at.After-word_if-word2 c).Else-last-first),
+    )
+    (word_part a.memory.now a.memory2.now a.map.now a.map2.now a.there a.there2 a.pool a.size i (some (goal.at.After-word_if-word2 c).Else-last-first)
+    (omega arith))
 
 -- and comes first of what is left
 comes : (c : After-word_if-word2)
@@ -83,7 +88,8 @@ comes : (c : After-word_if-word2)
     ++ at_steps (kinds (goal.at.After-word_if-word2 c).Start) (o + 64 * (i + 1) * a.size) a.size (n - 64 * (i + 1))
 comes c =
     let a = c.args in
-    (word_steps (kinds (goal.at.After-word_if-word2 c).Start) (4096 * a.pool + 48) a.size (capacity a.size)).more c.loop-i.i (omega (arith, some (goal.at.After-word_if-word2 c).Else-last-first))
+    (word_steps (kinds (goal.at.After-word_if-word2 c).Start) (4096 * a.pool + 48) a.size (capacity a.size)).more c.loop-i.i
+    (omega (arith, some (goal.at.After-word_if-word2 c).Else-last-first))
 
 pub walk_word-place-requires : goal.walk_word-place-requires
 walk_word-place-requires c =

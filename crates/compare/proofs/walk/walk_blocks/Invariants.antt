@@ -1,20 +1,10 @@
 -- `compare::walk::walk_blocks` notes the blocks of the pool, word by word: at turn i those of the words from word i on
 -- are to be noted.
-use mathlib.Core.Path.{◌≡◌}
-use mathlib.Core.List.{◌++◌}
-use Prim.Native.Nat.{ℕ, ◌+◌, ◌*◌, ◌-◌, ◌≤◌, ◌<◌}
-use native.Mathlib.Nat.{mul-le-mul}
-use native.Mathlib.Omega.{arith}
-use lib.Bits.{bit_or}
-use borrow.Author.Rules.{rules}
-use Rattle.rules.specs.Books.{offset_of}
-use Rattle.rules.specs.Blocks.{start_of, last_start, capacity}
-use Rattle.books.specs.Starts.{capacity_le}
+use Prim.Native.Nat.{◌+◌, ◌*◌, ◌-◌, ◌≤◌}
+use Rattle.rules.specs.Blocks.{capacity}
 use Rattle.sequences.specs.Listing.{at_steps}
-use Rattle.loops.specs.Word.{each_bit, up_to, in_word, some_there, none_there, up_to_last}
 use Rattle.compare.specs.Kinds.{together_at}
-use Rattle.compare.specs.Noted.{Noting, begin, note, finish, room}
-use Rattle.compare.specs.Words.{said_of, word_part, word_steps, steps_end}
+use Rattle.compare.specs.Noted.{Noting}
 use Rattle.compare.proofs.walk.walk_blocks.Given as goal
 
 abbrev pub invariant-loop-i : goal.invariant-loop-i

@@ -3,7 +3,6 @@ use mathlib.Core.Path.{◌≡◌, refl, sym, ap, ◌∙◌}
 use mathlib.Core.Bool.{true, false, not, false≢true}
 use Prim.Native.Nat.{◌+◌, ◌*◌, ◌%◌, ◌≤◌}
 use lib.Dec.{eqb}
-use borrow.Author.Rules.{rules}
 use borrow.Author.Tests.{eq-eqb}
 use Rattle.rules.specs.Say.{listing}
 use Rattle.rules.specs.Books.{Heap}

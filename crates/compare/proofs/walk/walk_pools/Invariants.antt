@@ -1,14 +1,10 @@
 -- `compare::walk::walk_pools` notes the pools in turn: at turn p those from pool p on are to be noted.
-use mathlib.Core.Path.{◌≡◌, refl}
-use mathlib.Core.List.{◌++◌}
-use Prim.Native.Nat.{ℕ, ◌+◌, ◌*◌, ◌-◌, ◌≤◌}
-use native.Mathlib.Omega.{arith}
+use mathlib.Core.Path.{◌≡◌}
+use Prim.Native.Nat.{◌*◌, ◌-◌, ◌≤◌}
 use Rattle.rules.specs.Say.{listing}
 use Rattle.rules.specs.Outcome.{heap_of}
 use Rattle.rules.specs.Compare.{kind_at}
-use Rattle.loops.specs.Left.{none_left}
-use Rattle.compare.specs.Noted.{Noting, begin, note, finish, room}
-use Rattle.compare.specs.Pools.{pool_parts}
+use Rattle.compare.specs.Noted.{Noting}
 use Rattle.compare.proofs.walk.walk_pools.Given as goal
 
 abbrev pub invariant-loop-pool : goal.invariant-loop-pool

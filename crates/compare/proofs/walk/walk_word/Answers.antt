@@ -3,7 +3,7 @@
 use mathlib.Core.Path.{◌≡◌, ap, ap₂, ◌∙◌}
 use mathlib.Core.Bool.{Bool}
 use mathlib.Core.List.{List, ◌++◌}
-use Prim.Native.Nat.{ℕ, ◌+◌, ◌*◌, ◌^◌, ◌≤◌, ◌<◌}
+use Prim.Native.Nat.{ℕ, ◌+◌, ◌*◌, ◌≤◌, ◌<◌}
 use native.Mathlib.Nat.{mul-le-mul}
 use native.Mathlib.Omega.{arith}
 use lib.Bits.{bit_or, or_lt}
@@ -11,7 +11,7 @@ use lib.Count.{count_trailing_zeros, trailing_le, trailing_of_zero}
 use Rattle.bits.specs.Halves.{first_there, without_first, without_less}
 use Rattle.loops.specs.Word.{each_bit, first_live, none_live, up_to, not_past, past}
 use Rattle.compare.specs.Kinds.{entry_of, together}
-use Rattle.compare.specs.Noted.{Noting, unnoted, note, finish, room}
+use Rattle.compare.specs.Noted.{unnoted, note, finish, room}
 use Rattle.compare.specs.Words.{said_of}
 use Rattle.compare.proofs.walk.walk_word.Goals.{After-kind_together-kind, Else-last-offset, In-loop-left, Start}
 use Rattle.compare.proofs.walk.walk_word.Goals as goal
@@ -72,7 +72,8 @@ kind_together-kind-requires c = (omega arith, omega (arith, c.if-last-offset.fal
 comes : (c : Else-last-offset)
     → let w = c.loop-left.left in
     each_bit (saying (goal.at.Else-last-offset c).Start) w 0 (bits (goal.at.Else-last-offset c).Start)
-    ≡ saying (goal.at.Else-last-offset c).Start (count_trailing_zeros 64 w) ++ each_bit (saying (goal.at.Else-last-offset c).Start) (without_first w) 0 (bits (goal.at.Else-last-offset c).Start)
+    ≡ saying (goal.at.Else-last-offset c).Start (count_trailing_zeros 64 w)
+    ++ each_bit (saying (goal.at.Else-last-offset c).Start) (without_first w) 0 (bits (goal.at.Else-last-offset c).Start)
 comes c =
     let a = c.args in
     let w = c.loop-left.left in

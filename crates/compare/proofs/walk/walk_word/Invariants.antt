@@ -1,17 +1,9 @@
 -- `compare::walk::walk_word` notes the blocks of the bits that are set in either word: at each turn those of the bits
 -- that are still left are to be noted.
-use mathlib.Core.Path.{◌≡◌, ap, ap₂, ◌∙◌}
-use mathlib.Core.Bool.{Bool}
-use mathlib.Core.List.{List, ◌++◌}
-use Prim.Native.Nat.{ℕ, ◌+◌, ◌*◌, ◌^◌, ◌≤◌, ◌<◌}
-use native.Mathlib.Nat.{mul-le-mul}
-use native.Mathlib.Omega.{arith}
-use lib.Bits.{bit_or, or_lt}
-use lib.Count.{count_trailing_zeros, trailing_le, trailing_of_zero}
-use Rattle.bits.specs.Halves.{first_there, without_first, without_less}
-use Rattle.loops.specs.Word.{each_bit, first_live, none_live, up_to, not_past, past}
-use Rattle.compare.specs.Kinds.{entry_of, together}
-use Rattle.compare.specs.Noted.{Noting, unnoted, note, finish, room}
+use Prim.Native.Nat.{◌^◌, ◌<◌}
+use lib.Bits.{bit_or}
+use Rattle.loops.specs.Word.{each_bit, up_to}
+use Rattle.compare.specs.Noted.{Noting}
 use Rattle.compare.specs.Words.{said_of}
 use Rattle.compare.proofs.walk.walk_word.Given as goal
 

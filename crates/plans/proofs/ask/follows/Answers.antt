@@ -1,5 +1,4 @@
 -- `plans::ask::follows` meets its contract: it puts the two tests together, as the rule does.
-use borrow.Author.Rules.{rules}
 use Rattle.plans.proofs.ask.follows.Goals as goal
 
 pub returns : goal.returns

@@ -2,7 +2,6 @@
 use mathlib.Core.Path.{ap, ◌∙◌}
 use Rattle.rules.specs.Ask.{from_freed}
 use Rattle.books.specs.declared.pool.Pool.{Pool}
-use borrow.Author.Rules.{rules}
 use Rattle.plans.proofs.ask.from_freed.Goals as goal
 
 pub returns : goal.returns

@@ -1,7 +1,6 @@
 -- `plans::ask::from_mark` meets its contract: it carves only below the mark's bound, where the pool is one of
 -- the heap's.
 use native.Mathlib.Omega.{arith}
-use borrow.Author.Rules.{rules}
 use borrow.Author.Tests.{lt-ltb, le-ltb}
 use Rattle.rules.specs.Ask.{from_mark, set_anew}
 use Rattle.plans.proofs.ask.from_mark.Goals as goal

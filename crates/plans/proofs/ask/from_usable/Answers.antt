@@ -2,7 +2,6 @@
 -- none, one of the pools, or none of them.
 use Prim.Native.Nat.{◌*◌}
 use native.Mathlib.Omega.{arith}
-use borrow.Author.Rules.{rules}
 use borrow.Author.Tests.{le-leb, lt-leb, eq-eqb, ne_eqb}
 use Rattle.rules.specs.Ask.{from_usable}
 use Rattle.plans.proofs.ask.from_usable.Goals as goal

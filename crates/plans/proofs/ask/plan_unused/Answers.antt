@@ -1,7 +1,6 @@
 -- `plans::ask::plan_unused` meets its contract: it takes the path that the rules take by the unused head: none,
 -- one of the arenas, or none of them.
 use native.Mathlib.Omega.{arith}
-use borrow.Author.Rules.{rules}
 use borrow.Author.Tests.{le-leb, lt-leb, eq-eqb, ne_eqb}
 use Rattle.plans.proofs.ask.plan_unused.Goals as goal
 

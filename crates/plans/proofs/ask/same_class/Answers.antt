@@ -5,7 +5,6 @@ use Rattle.rules.specs.Ask.{same_class}
 use Rattle.books.specs.declared.pool.Pool.{Pool}
 use Rattle.books.specs.Starts.{start as begins}
 use Rattle.books.specs.Tests.{both}
-use borrow.Author.Rules.{rules}
 use Rattle.plans.proofs.ask.same_class.Goals as goal
 
 pub link_at-requires : goal.link_at-requires

@@ -1,5 +1,4 @@
 -- `plans::ask::set_anew` meets its contract: it makes the two tests of the rules.
-use borrow.Author.Rules.{rules}
 use Rattle.plans.proofs.ask.set_anew.Goals as goal
 
 pub returns : goal.returns

@@ -1,7 +1,6 @@
 -- `plans::ask::spare` meets its contract: it asks for a start before it reads the bit, since only a start has
 -- a block number.
 use mathlib.Core.Path.{sym, ◌∙◌}
-use borrow.Author.Rules.{rules}
 use Rattle.plans.proofs.ask.spare.Goals as goal
 
 pub block_no-requires : goal.block_no-requires

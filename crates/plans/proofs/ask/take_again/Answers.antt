@@ -4,7 +4,6 @@ use native.Mathlib.Omega.{arith}
 use borrow.Author.Tests.{eq-eqb, ne_eqb}
 use Rattle.rules.specs.Ask.{take_again, set_anew}
 use Rattle.books.specs.declared.pool.Pool.{Pool}
-use borrow.Author.Rules.{rules}
 use Rattle.plans.proofs.ask.take_again.Goals as goal
 
 pub returns-then-index-class : goal.returns-then-index-class

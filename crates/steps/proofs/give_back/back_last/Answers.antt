@@ -1,25 +1,18 @@
 -- `steps::give_back::back_last` meets its contract: its tests make the rules of the path, and none of its writes
 -- changes what a later one has been tested for.
-use mathlib.Core.List.{List, [], ◌∷◌}
-use mathlib.Core.Logic.{◌≢◌, inl, inr}
+use mathlib.Core.List.{List}
 use mathlib.Core.Path.{◌≡◌, sym, ap, ap₂, ◌∙◌, subst}
-use Prim.Native.Nat.{ℕ, ◌/◌, ◌%◌, ◌≤◌}
-use types.Run.{OneOf}
+use Prim.Native.Nat.{ℕ, ◌/◌, ◌%◌}
 use native.Mathlib.Omega.{arith}
 use lib.ListN.{length}
-use denote.Enum.Declared.{tag_of}
-use Rattle.rules.specs.contracts.BackPlan.{the_type}
 use Rattle.rules.specs.declared.BackPlan.{BackPlan}
-use Rattle.rules.specs.declared.BackPlan.TheVariants.{Damaged}
 use Rattle.rules.specs.Books.{alignment_of, Heap, on_books}
-use Rattle.rules.specs.GiveBack.{settling, emptying, given_back}
+use Rattle.rules.specs.GiveBack.{emptying, given_back}
 use Rattle.rules.specs.Outcome.{heap_of, outcome, answer_of}
-use Rattle.books.specs.Tests.{held, failed}
 use Rattle.plans.specs.Class.{ranged}
 use Rattle.steps.specs.Arenas.{FitsArena, fits_settling, settled}
 use Rattle.steps.specs.Backs.{fits_empty, taken_back, emptied, length_taken, taken_fits, last_length, last_fits}
 use Rattle.steps.specs.BackPath.{damaged, stuck, settles, emptied_settled}
-use borrow.Author.Rules.{rules}
 use Rattle.steps.proofs.give_back.back_last.Goals.{After-empty_pool, After-settling-plan}
 use Rattle.steps.proofs.give_back.back_last.Goals as goal
 
@@ -53,7 +46,8 @@ returns-in-Damaged c =
     let s = a.shape in
     let h = heap_of a.memory.now a.books.now a.map.now in
     damaged (alignment_of s.edition) s.arenas s.pools a.pool.class h a.offset
-    ∙ ap (given_back (alignment_of s.edition) s.arenas s.pools a.pool.class h a.offset) (sym (path (goal.at.returns-in-Damaged c).After-settling-plan ∙ c.in-Damaged.is))
+    ∙ ap (given_back (alignment_of s.edition) s.arenas s.pools a.pool.class h a.offset) (sym (path (goal.at.returns-in-Damaged c).After-settling-plan
+    ∙ c.in-Damaged.is))
 
 pub empty_pool-requires : goal.empty_pool-requires
 empty_pool-requires c =

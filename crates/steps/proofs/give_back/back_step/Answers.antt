@@ -15,7 +15,6 @@ use Rattle.rules.specs.Outcome.{heap_of, outcome, answer_of}
 use Rattle.books.specs.Sizes.{aligned}
 use Rattle.books.specs.declared.pool.Pool.{Pool}
 use Rattle.books.specs.Records.{may_give}
-use Rattle.books.specs.Tests.{held, failed}
 use Rattle.steps.specs.Backs.{Counted, counted, length_taken, taken_before}
 use Rattle.steps.specs.BackPath.{step_is, damaged, miscounted, listless, joins, no_start, falls_empty, stays}
 use borrow.Author.Rules.{rules}

@@ -2,7 +2,6 @@
 use Prim.Native.Nat.{◌+◌, ◌*◌}
 use native.Mathlib.Omega.{arith}
 use lib.ListN.{get_or, length-set}
-use borrow.Author.Rules.{rules}
 use Rattle.steps.specs.Backs.{freed_reads}
 use Rattle.steps.proofs.give_back.free_pool.Goals as goal
 

@@ -8,7 +8,6 @@ use Rattle.books.specs.Sizes.{aligned}
 use Rattle.books.specs.Known.{found, NotFound, not_found}
 use Rattle.steps.specs.Backs.{gave}
 use Rattle.books.specs.Passing.{stopped, refusal, step}
-use borrow.Author.Rules.{rules}
 use Rattle.steps.proofs.give_back.give_old.Goals.{Then-block-ge-REFUSED}
 use Rattle.steps.proofs.give_back.give_old.Goals as goal
 

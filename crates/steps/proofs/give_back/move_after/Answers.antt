@@ -4,7 +4,6 @@ use native.Mathlib.Omega.{arith}
 use Rattle.rules.specs.Books.{usable_head}
 use Rattle.rules.specs.Lists.{next_at, arena_links, go_in_after}
 use Rattle.books.specs.Lists.{leave_low}
-use borrow.Author.Rules.{rules}
 use Rattle.steps.proofs.give_back.move_after.Goals as goal
 
 pub go_in_after-requires : goal.go_in_after-requires

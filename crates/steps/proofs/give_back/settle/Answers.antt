@@ -1,17 +1,12 @@
 -- `steps::give_back::settle` writes what becomes of the arena; what it needs of the links and heads is what the path
 -- knows.
 use mathlib.Core.Path.{◌≡◌, refl, subst}
-use mathlib.Core.Logic.{inl, inr}
-use mathlib.Core.List.{List, [], ◌∷◌}
-use Prim.Native.Nat.{ℕ, ◌≤◌}
-use types.Run.{OneOf}
+use mathlib.Core.List.{List}
+use Prim.Native.Nat.{ℕ}
 use native.Mathlib.Omega.{arith}
-use denote.Enum.Declared.{tag_of}
-use Rattle.rules.specs.contracts.BackPlan.{the_type}
 use Rattle.rules.specs.declared.BackPlan.{BackPlan}
 use Rattle.rules.specs.declared.BackPlan.TheVariants.{Damaged, Joins, Stays, Empties, Moves, Returns, Releases}
 use Rattle.steps.specs.Arenas.{FitsArena, settled}
-use borrow.Author.Rules.{rules}
 use Rattle.steps.proofs.give_back.settle.Goals.{After-slice_known-1}
 use Rattle.steps.proofs.give_back.settle.Goals as goal
 

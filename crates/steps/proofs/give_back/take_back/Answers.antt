@@ -7,7 +7,6 @@ use Rattle.rules.specs.Books.{put_map_bit}
 use Rattle.books.specs.Records.{put_pool, given, give_stored}
 use Rattle.books.specs.declared.pool.Pool.{Pool}
 use Rattle.steps.specs.Backs.{heap_is}
-use borrow.Author.Rules.{rules}
 use Rattle.steps.proofs.give_back.take_back.Goals as goal
 
 pub returns : goal.returns

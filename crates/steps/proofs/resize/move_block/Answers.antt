@@ -7,7 +7,6 @@ use Rattle.rules.specs.Outcome.{heap_of, outcome, answer_of, done}
 use Rattle.rules.specs.Resize.{give_old, half_done}
 use Rattle.steps.specs.Backs.{gave, gave_number}
 use Rattle.books.specs.Passing.{stopped, passed}
-use borrow.Author.Rules.{rules}
 use Rattle.steps.proofs.resize.move_block.Goals as goal
 
 pub returns-then-given-ne0 : goal.returns-then-given-ne0

@@ -11,7 +11,6 @@ use Rattle.rules.specs.Ask.{ask_step}
 use Rattle.rules.specs.Resize.{keeps, copy, give_old, half_done, moved}
 use Rattle.books.specs.Sizes.{aligned}
 use Rattle.steps.specs.Moves.{Moves, moves_apart, resize_kept, resize_moved, moved_refused, moved_done}
-use borrow.Author.Rules.{rules}
 use Rattle.steps.proofs.resize.resize_step.Goals.{After-size_at-size}
 use Rattle.steps.proofs.resize.resize_step.Goals as goal
 

@@ -1,6 +1,5 @@
 -- `steps::walk::goes_in` makes the rules' choice and their one test.
 use borrow.Author.Tests.{eq-eqb, ne_eqb}
-use borrow.Author.Rules.{rules}
 use Rattle.steps.proofs.walk.goes_in.Goals as goal
 
 pub returns-then-last-eq0 : goal.returns-then-last-eq0

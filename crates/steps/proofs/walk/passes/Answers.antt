@@ -7,7 +7,6 @@ use native.Mathlib.Omega.{arith}
 use lib.Dec.{ltb}
 use borrow.Author.Tests.{eq-eqb, ne_eqb, le-ltb}
 use Rattle.rules.specs.Books.{free_pools, arena}
-use borrow.Author.Rules.{rules}
 use Rattle.steps.proofs.walk.passes.Goals as goal
 
 pub returns-then-next-eq0 : goal.returns-then-next-eq0

@@ -1,14 +1,8 @@
 -- `steps::walk::walk` is the rules' walk: at each turn the walk that is left is the one that was to be made.
-use mathlib.Core.Path.{◌≡◌, sym, ap, ◌∙◌}
-use mathlib.Core.Bool.{true}
-use Prim.Native.Nat.{ℕ, ◌-◌, ◌<◌}
-use native.Mathlib.Omega.{arith}
-use lib.Dec.{leb}
-use borrow.Author.Tests.{le-leb, lt-leb}
+use mathlib.Core.Path.{◌≡◌}
+use Prim.Native.Nat.{◌-◌, ◌<◌}
 use Rattle.rules.specs.Books.{arena_next, arena}
 use Rattle.rules.specs.GiveBack.{walk}
-use Rattle.books.specs.Tests.{held, failed}
-use Rattle.steps.specs.Arenas.{walk_stuck, walk_ends, walk_far, walk_on, passes_some}
 use Rattle.steps.proofs.walk.walk.Given as goal
 
 abbrev pub invariant-loop-next : goal.invariant-loop-next

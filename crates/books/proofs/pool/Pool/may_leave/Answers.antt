@@ -1,5 +1,4 @@
 -- `books::pool::Pool::may_leave` tests both links of the record.
-use borrow.Author.Rules.{rules}
 use Rattle.books.proofs.pool.Pool.may_leave.Goals as goal
 
 pub returns : goal.returns

@@ -1,5 +1,4 @@
 -- `books::pool::Pool::may_serve` makes the three tests of the rules on the record's words.
-use borrow.Author.Rules.{rules}
 use Rattle.books.proofs.pool.Pool.may_serve.Goals as goal
 
 pub returns : goal.returns

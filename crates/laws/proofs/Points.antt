@@ -9,7 +9,7 @@ use Rattle.sound.specs.Grounds.{shape_zero}
 use Rattle.sound.specs.Audited.{yes_sound}
 use Rattle.laws.specs.Beside.{Told, listed_means, kind_told}
 use Rattle.laws.specs.History.{Event, Beginning, Begins}
-use Rattle.laws.specs.Theorems.{end, audit_yes, view_shows}
+use Rattle.laws.proofs.Theorems.{end, audit_yes, view_shows}
 
 -- the tests of 1 and 2 pass where a history ends
 shape_passes : (start : Beginning) (ok : Begins start) (es : List Event) → shape_number (end start ok es).heap ≡ 0

@@ -1,7 +1,7 @@
 -- Give back the last live block of a pool: its arena keeps its place, moves back in the usable list, becomes usable, or
 -- is released. And so every give-back of a live block.
 -- Assumes nothing.
-use Rattle.std.specs.Prelude.{◌≡◌, ◌≢◌, Bool, true, false, not, eqb, replicate}
+use Rattle.std.specs.Prelude.{◌≡◌, ◌≢◌, Bool, true, false, not, eqb, replicate, if◌then◌else◌}
 use Rattle.std.proofs.Math.Path.{refl}
 use Rattle.std.proofs.Common.{sym, ap, ◌∙◌, subst, inr, true≢false, div-add-mod', mod-lt, arith}
 use Rattle.std.proofs.Math.Logic.{Ne-symm as flip}
@@ -13,7 +13,7 @@ use Rattle.std.proofs.lemmas.List.{set-get_or}
 use borrow.Author.Tests.{eq-eqb, ne_eqb, le-leb, lt-ltb, le-ltb, ltb-true, ltb-false, not-true}
 use Rattle.rules.specs.declared.BackPlan.{BackPlan}
 use Rattle.rules.specs.declared.BackPlan.TheVariants.{Empties, Moves, Returns, Releases}
-use Rattle.rules.specs.Say.{if◌then◌else◌, ◌▷◌}
+use Rattle.rules.specs.Say.{◌▷◌}
 use Rattle.rules.specs.Books.{
   Heap,
   at,
@@ -74,6 +74,7 @@ use Rattle.sound.specs.Books.{
   freed_to,
   arenas_to,
   freed_none,
+  put_zero,
 }
 use Rattle.sound.specs.Plain.{
   Plain,
@@ -139,10 +140,6 @@ use Rattle.sound.specs.GiveBack.{
   back_stays_lem,
   back_joins_lem,
 }
-
--- a word that is put as it stands
-pub put_zero : (b : List ℕ) (i : ℕ) → at b i ≡ 0 → put i 0 b ≡ b
-put_zero b i e = ap (λ (x : ℕ). put i x b) (sym e) ∙ set-get_or b i 0
 
 -- ---- block j is the last live one of pool p, which has a spare one
 module _ {al A P p j i : ℕ} {h : Heap} {r : Plain} {is : List ℕ}
@@ -646,7 +643,8 @@ module _ {al A P p j i : ℕ} {h : Heap} {r : Plain} {is : List ℕ}
             class_is = rw (eq-eqb p p refl) (F.pools p lp).class_is;
             used = λ x e. absurd (true≢false (sym e ∙ all_dead x));
             rule = λ e. absurd (true≢false (sym e ∙ uncarved p refl));
-            home_is = rw (eq-eqb p p refl, eq-eqb (arena_word freed_head a) (arena_word freed_head a) refl) (sym (home_away al P r' p now_none (uncarved p refl)));
+            home_is = rw (eq-eqb p p refl, eq-eqb (arena_word freed_head a) (arena_word freed_head a) refl)
+                (sym (home_away al P r' p now_none (uncarved p refl)));
           })
           (record {
             open_is = rw (eq-eqb a a refl);

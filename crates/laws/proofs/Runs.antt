@@ -1,7 +1,7 @@
 -- A run of the public functions of crates heap, batch, audit and compare, each call keeping its promise, is a history:
 -- its buffers and numbers are those of the rules' run. So the theorems speak of the running code.
 -- Assumes nothing.
-use Rattle.std.specs.Prelude.{◌≡◌, refl, ◌≢◌, Bool, true, false, List, [], ◌∷◌, ◌++◌, ℕ, zero, suc, ◌+◌, ◌*◌, ◌≤◌, ℤ, length, drop}
+use Rattle.std.specs.Prelude.{◌≡◌, refl, ◌≢◌, Bool, true, false, List, [], ◌∷◌, ◌++◌, ℕ, zero, suc, ◌+◌, ◌*◌, ◌≤◌, ℤ, length, drop, if◌then◌else◌}
 use Rattle.std.proofs.Common.{sym, ap, ap₂, ◌∙◌, subst}
 use Rattle.rules.specs.declared.Answer.{Answer}
 use Rattle.rules.specs.declared.Request.{Request}
@@ -22,7 +22,6 @@ use Rattle.rules.specs.declared.Verdict.TheVariants.{
   Order,
 }
 use Rattle.rules.specs.Books.{Heap, at, memory_length, arenas, pools, alignment}
-use Rattle.rules.specs.Say.{if◌then◌else◌}
 use Rattle.rules.specs.Outcome.{Outcome, outcome, answer_of, refused}
 use Rattle.rules.specs.Numbers.{
   RollOutcome,
@@ -103,7 +102,7 @@ use Rattle.laws.specs.History.{
   numbers,
   NoSix,
 }
-use Rattle.laws.specs.Theorems.{
+use Rattle.laws.proofs.Theorems.{
   end,
   no_six,
   audit_yes,
@@ -114,8 +113,8 @@ use Rattle.laws.specs.Theorems.{
   entry_count,
   roll_with_room,
 }
-use Rattle.laws.specs.Statement.{asks_of, numbers_in, more_run, batch_events}
-use Rattle.laws.specs.Points.{ends_told}
+use Rattle.laws.proofs.Statements.{asks_of, numbers_in, more_run, batch_events}
+use Rattle.laws.proofs.Points.{ends_told}
 
 -- the call of event e, over the buffers of the state x, answered number k and left the buffers of g: that it kept its
 -- promise, which has here the name that its contract uses. An audit answers a verdict, whose number `ruleOf` says, view

@@ -9,7 +9,7 @@ use Rattle.sound.specs.Plain.{Plain}
 use Rattle.sound.specs.Sound.{Sound}
 use Rattle.sound.specs.Audited.{plain_of, yes_sound, sound_yes}
 use Rattle.laws.specs.History.{Event, passed, begun, number_of, after}
-use Rattle.laws.specs.Tied.{passed_tied, step}
+use Rattle.laws.proofs.Tied.{passed_tied, step}
 
 -- it says yes exactly where the heap holds some plain heap soundly, by its own alignment, A and P
 pub yes_means : (h : Heap)

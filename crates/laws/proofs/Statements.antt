@@ -1,13 +1,12 @@
 -- W-204, of every history: a batch is its asks, as events one by one. So at any point of a history each entry that is
 -- served has a block of its own, which nobody held.
 -- Assumes nothing.
-use Rattle.std.specs.Prelude.{◌≡◌, ◌≢◌, ◌⊎◌, List, [], ◌∷◌, ◌++◌, ℕ, zero, suc, ◌+◌, ◌≤◌, ◌<◌, eqb}
+use Rattle.std.specs.Prelude.{◌≡◌, ◌≢◌, ◌⊎◌, List, [], ◌∷◌, ◌++◌, ℕ, zero, suc, ◌+◌, ◌≤◌, ◌<◌, eqb, if◌then◌else◌}
 use Rattle.std.proofs.Math.Path.{refl}
 use Rattle.std.proofs.Common.{sym, ap, ◌∙◌, inl, inr, arith, ne_eqb}
 use Rattle.std.proofs.Math.ListN.{length}
 use Rattle.rules.specs.declared.Request.{Request}
 use Rattle.rules.specs.Books.{alignment_of}
-use Rattle.rules.specs.Say.{if◌then◌else◌}
 use Rattle.rules.specs.Blocks.{class_of, size_of}
 use Rattle.rules.specs.Outcome.{Outcome}
 use Rattle.rules.specs.View.{part}
@@ -32,8 +31,8 @@ use Rattle.laws.specs.History.{
   run,
   numbers,
 }
-use Rattle.laws.specs.Tied.{Tied, begun_tied, step, tied}
-use Rattle.laws.specs.Theorems.{end, entries_apart}
+use Rattle.laws.proofs.Tied.{Tied, begun_tied, step, tied}
+use Rattle.laws.proofs.Theorems.{end, entries_apart}
 
 -- the events of a row, front first; the numbers in a row
 abbrev pub asks_of : List Request → List Event

@@ -2,12 +2,12 @@
 -- demands, as theorems. Each is read off what holds of the heap at the end (Tied): it is sound, of the edition that was
 -- told, and the ledger has what it holds.
 -- Assumes nothing.
-use Rattle.std.specs.Prelude.{◌≡◌, refl, ◌≢◌, ◌⊎◌, true, false, List, [], ◌++◌, ℕ, ◌+◌, ◌*◌, ◌-◌, ◌%◌, ◌≤◌, ◌<◌, length}
+use Rattle.std.specs.Prelude.{◌≡◌, refl, ◌≢◌, ◌⊎◌, true, false, List, [], ◌++◌, ℕ, ◌+◌, ◌*◌, ◌-◌, ◌%◌, ◌≤◌, ◌<◌, length, if◌then◌else◌}
 use Rattle.std.proofs.Common.{sym, ap, ◌∙◌, arith}
 use Rattle.std.proofs.Math.ListN.{drop}
 use borrow.Author.Tests.{le-ltb, lt-ltb}
 use Rattle.rules.specs.declared.Sized.{Sized}
-use Rattle.rules.specs.Say.{if◌then◌else◌, listing}
+use Rattle.rules.specs.Say.{listing}
 use Rattle.rules.specs.Books.{
   at,
   arenas,
@@ -84,8 +84,8 @@ use Rattle.laws.specs.History.{
   Usable,
   Full,
 }
-use Rattle.laws.specs.Tied.{Tied, begun_tied, one_of_two, step, tied}
-use Rattle.laws.specs.Dead.{block_open, event_stays, done_live, ten_block, block_ten, twice, not_ended}
+use Rattle.laws.proofs.Tied.{Tied, begun_tied, one_of_two, step, tied}
+use Rattle.laws.proofs.Dead.{block_open, event_stays, done_live, ten_block, block_ten, twice, not_ended}
 
 -- any beginning, where its format is done or the audit passes its heap, and any events
 module _ (start : Beginning) (ok : Begins start) (es : List Event) where
