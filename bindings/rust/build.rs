@@ -3,6 +3,7 @@
 //! release, or the repository, whose script builds it where it is missing or old.
 
 use std::env;
+use std::fs;
 use std::path::{Path, PathBuf};
 use std::process::{exit, Command, Output, Stdio};
 
@@ -112,8 +113,12 @@ fn archive_of(root: &Path, version: &str) -> Result<PathBuf, String> {
 /// The folder of the repository's archive, once its script has seen to it that it is built from the crates as they
 /// stand. Proving them takes some minutes, and cargo shows nothing of what the script says unless it fails.
 fn build_archive(root: &Path) -> Result<PathBuf, String> {
-    for source in ["build", "crates", "crates.txt", "KIT"] {
-        println!("cargo:rerun-if-changed={}", root.join(source).display());
+    let crates = fs::read_dir(root.join("crates")).into_iter().flatten().flatten();
+    // of a crate all but its folder `out`, in which the kit keeps its work
+    let parts = crates.flat_map(|it| ["src", "specs", "proofs"].map(|part| it.path().join(part)));
+    let sources = ["build", "crates.txt", "KIT"].map(|name| root.join(name));
+    for source in sources.into_iter().chain(parts.filter(|part| part.is_dir())) {
+        println!("cargo:rerun-if-changed={}", source.display());
     }
     let script = root.join("build");
     match Command::new(&script).arg("library").stdout(Stdio::null()).status() {

@@ -17,6 +17,7 @@ PLACE = re.compile(r'(-?0x[0-9a-f]+|)\(%rsp(?:,%\w+,[1248])?\)')
 LOWEST = re.compile(r'%rsp,%(?:r[abcd]x|r[sd]i|r\d+)')  # not %rbp: that would keep a frame
 # what push and pop move as eight bytes: a whole register, a number, a place
 EIGHT = re.compile(r'%r(\d+|[a-d]x|[sd]i|bp)|\$0x[0-9a-f]+|.*\(.*\)')
+MOVE = re.compile(r'mov +%\w+,(%r(?:\d+|[a-d]x|[sd]i|bp))')  # from register to register, of eight bytes
 # what else moves the stack pointer or the flow
 STRANGE = re.compile(r'push\w*|pop[afw]?\w?|enter|leave|call\w+|l?ret\w*|lcall|ljmp|iret\w*|int\d?|sys\w+|loop\w*'
                      r'|j[er]?cxz|xbegin')
@@ -150,15 +151,24 @@ class Function:
         return None, name
 
     def table(self, at):
-        """Where an indirect jump leads: by the jump table that the three instructions before it read, of offsets from
-        the table's own start."""
-        before = [self.code[a] for a in self.code if a < at][-3:]
-        form = r'lea +0x0\(%rip\),(%\w+)\|movslq (?:0x0)?\(\1,%\w+,4\),(%\w+)\|add +\1,\2\|jmp +\*\2'
-        if not re.fullmatch(form, '|'.join(text for text, _ in before + [self.code[at]])) or before[0][1] is None:
+        """Where an indirect jump leads: by the jump table that the instructions before it read, of offsets from the
+        table's own start. Moves to registers that these do not use may stand among them."""
+        steps = [r'jmp +\*(%\w+)', r'add +(%\w+),{0}', r'movslq (?:0x0)?\({1},%\w+,4\),{0}', r'lea +0x0\(%rip\),{1}']
+        used = ()
+        for a in reversed([a for a in self.code if a <= at]):
+            text, moved = self.code[a]
+            if step := re.fullmatch(steps[0].format(*used), text):
+                used += step.groups()
+                del steps[0]
+            elif not (other := MOVE.fullmatch(text)) or other[1] in used:
+                break
+            if not steps:
+                break
+        if steps or moved is None:
             self.fault(at, 'an indirect jump, and by no jump table that is understood')
-        section, begins = before[0][1][0], before[0][1][1] + 4
-        used = [moved for _, code in self.archive.functions.values() for _, moved in code.values() if moved]
-        others = {added + 4 for name, added in used if name == section} - {begins}
+        section, begins = moved[0], moved[1] + 4
+        named = [moved for _, code in self.archive.functions.values() for _, moved in code.values() if moved]
+        others = {added + 4 for name, added in named if name == section} - {begins}
         found, entry = [], begins
         while entry not in others and (section, entry) in self.archive.relocations:
             to, added = self.archive.relocations[section, entry]

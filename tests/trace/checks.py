@@ -159,7 +159,7 @@ def unlanded(told):
 def declared(place):
     """The names that a file of the rules declares, or any file of a crate."""
     crate = place.removeprefix('crate ')
-    whole = f'crates/{crate}/specs/*.antt', f'crates/{crate}/src/*.rt'
+    whole = f'crates/{crate}/specs/*.antt', f'crates/{crate}/proofs/*.antt', f'crates/{crate}/src/*.rt'
     text = '\n'.join(map(read, files(f'{RULES}/{place}.antt') if crate == place else files(*whole)))
     specs = re.findall(r'^\s*(?:unfoldable |abbrev |pub |record |data )*(\S+) :', text, re.M)
     return {*specs, *re.findall(r'^\s*(?:pub )?(?:fn|struct|enum|const) (\w+)', text, re.M)}
@@ -168,7 +168,7 @@ def declared(place):
 @functools.cache
 def theorems():
     """The names that the files of crate laws state for other crates."""
-    text = '\n'.join(map(read, files('crates/laws/specs/*.antt')))
+    text = '\n'.join(map(read, files('crates/laws/specs/*.antt', 'crates/laws/proofs/*.antt')))
     return set(re.findall(r'^ *pub (\S+) :', text, re.M))
 
 
@@ -226,7 +226,8 @@ def told_otherwise(trace):
 
 @functools.cache
 def sources():
-    return [squeezed(read(path)) for path in files('crates/*/specs/*.antt', 'crates/*/src/*.rt')]
+    places = 'crates/*/specs/*.antt', 'crates/*/proofs/*.antt', 'crates/*/src/*.rt'
+    return [squeezed(read(path)) for path in files(*places)]
 
 
 def unquoted(told):
