@@ -1,8 +1,7 @@
 -- What is known of a heap, and of an offset, once the tests of 01's numbers let them pass.
 -- Assumes nothing.
-use Rattle.std.specs.Prelude.{◌≡◌, ◌≢◌, Bool, ◌&&◌, List, ℕ, ◌+◌, ◌*◌, ◌/◌, ◌%◌, ◌≤◌, ◌<◌, leb, ltb, eqb, length, if◌then◌else◌}
-use Rattle.std.proofs.Math.Path.{refl}
-use Rattle.std.proofs.Math.Bool.{true, false}
+use Rattle.std.specs.Prelude.{◌≡◌, ◌&&◌, List, ℕ, ◌+◌, ◌*◌, ◌/◌, ◌%◌, ◌≤◌, ◌<◌, leb, ltb, eqb, length}
+use Rattle.std.proofs.Math.Bool.{true}
 use Rattle.std.proofs.Common.{mul-le-mul, arith, leb-true, ltb-true, eqb-true}
 use Rattle.rules.specs.Books.{Heap, at, in_range, exact, memory_length, books_length, map_length, is_set}
 use Rattle.rules.specs.Numbers.{size_number}
@@ -20,6 +19,7 @@ use Rattle.rules.specs.Blocks.{
   live_number,
 }
 use Rattle.books.specs.declared.words.Shape.{Shape}
+use Rattle.books.specs.declared.numbers.Block.{Block}
 use Rattle.books.specs.Tests.{both, either}
 use Rattle.books.specs.Starts.{Start, start}
 use Rattle.books.specs.Sizes.{Aligned, size_low, size_high}
@@ -39,6 +39,12 @@ pub record Shaped (A P m b k : ℕ) : Type 0 where
 -- A, P and the edition that the books hold
 abbrev pub shape_of : List ℕ → Shape
 shape_of b = record { arenas = at b 0; pools = at b 1; edition = at b 68 }
+
+-- what is known of the shape that a heap's books hold, once it is tested
+pub record ReadShape (h : Heap) (s : Shape) : Type 0 where
+  pub read : s ≡ shape_of h.books
+  pub shaped : Shaped s.arenas s.pools (length h.memory) (length h.books) (length h.map)
+  pub edition : s.edition ≤ 1
 
 -- what the tests of A and P say
 pub in_range_lem : (A P : ℕ) → in_range A P ≡ true → (1 ≤ A) × (A ≤ 16) × (2 ≤ P) × (P ≤ 64) × (A * P ≤ 1024)
@@ -90,6 +96,12 @@ pub record LiveBlock (al A P : ℕ) (b m : List ℕ) (o : ℕ) : Type 0 where
   pub ends : o + size_at al A b o ≤ memory_length A P
   pub set : is_set m (o / 4096) (block_no (size_at al A b o) (o % 4096)) ≡ true
 
+-- and of the block there: its number in its pool, and its size
+pub record BlockAt (al A P : ℕ) (b m : List ℕ) (o : ℕ) (block : Block) : Type 0 where
+  pub live : LiveBlock al A P b m o
+  pub number : block.number ≡ block_no (size_at al A b o) (o % 4096)
+  pub size : block.size ≡ size_at al A b o
+
 -- what its first three parts say, which a dead block passes too
 pub at_start_is : (al A P : ℕ) (b : List ℕ) (o : ℕ) → at_start al A P b o ≡ true
     → (o < memory_length A P) × (class_at A b o ≤ last_class al) × (is_start (size_at al A b o) (o % 4096) ≡ true)
@@ -128,53 +140,3 @@ live_is {al} L A P b m o e =
       ends = omega arith;
       set = t.1;
     }
-
--- the number, in its pool, of the live block at offset o; or, where there is none, 512, which no block has, and the
--- number of the refusal
-unfoldable pub block_at : ℕ → ℕ → ℕ → List ℕ → List ℕ → ℕ → ℕ
-block_at al A P b m o = if live al A P b m o then block_no (size_at al A b o) (o % 4096) else 512 + dead_number al A P b o
-
--- by the bit of block k, which may start there
-module _ (al A P : ℕ) (b m : List ℕ) (o k : ℕ) (e : at_start al A P b o ≡ true)
-    (q : k ≡ block_no (size_at al A b o) (o % 4096)) where
-  pub when_set : is_set m (o / 4096) k ≡ true → k ≡ block_at al A P b m o
-  unfolding live block_at
-  when_set f = rw (e, ← q, f)
-
-  pub when_clear : is_set m (o / 4096) k ≡ false → (n : ℕ) → n ≡ dead_number al A P b o
-      → 512 + n ≡ block_at al A P b m o
-  unfolding live block_at
-  when_clear f n d = rw (e, ← q, f, d)
-
-module _ {al : ℕ} (L : Aligned al) (A P : ℕ) (b m : List ℕ) (o : ℕ) where
-  -- what is known where it is a block's
-  pub record Found : Type 0 where
-    pub live_block : LiveBlock al A P b m o
-    pub number : live_number al A P b m o ≡ 0
-    pub block : block_at al A P b m o ≡ block_no (size_at al A b o) (o % 4096)
-
-  pub found : block_at al A P b m o < 512 → Found
-  unfolding block_at live_number
-  found n = go (live al A P b m o) refl
-    where
-      go : (t : Bool) → live al A P b m o ≡ t → Found
-      go true e = record { live_block = live_is L A P b m o e; number = rw e; block = rw e }
-      go false e = absurd (omega (arith, rw e at n))
-
-  -- and where it is a refusal's: k is that number, and n what is above 512
-  pub record NotFound (k : ℕ) : Type 0 where
-    pub few : k < 4294967296
-    pub number : (n : ℕ) → 512 + n ≡ k → (n ≡ live_number al A P b m o) × (n ≢ 0)
-
-  pub not_found : (k : ℕ) → k ≡ block_at al A P b m o → 512 ≤ k → NotFound k
-  unfolding block_at live_number
-  not_found k q z = go (live al A P b m o) refl (is_block al A P b o) refl
-    where
-      go : (t : Bool) → live al A P b m o ≡ t → (u : Bool) → is_block al A P b o ≡ u → NotFound k
-      go true e u f = let s = (live_is L A P b m o e).start.few in absurd (omega (arith, s, rw e at q))
-      go false e true f =
-          let v = rw (e, f) at q in
-          record { few = omega (arith, v); number = λ n p. (rw (e, f) (omega (arith, v)), omega (arith, v)) }
-      go false e false f =
-          let v = rw (e, f) at q in
-          record { few = omega (arith, v); number = λ n p. (rw (e, f) (omega (arith, v)), omega (arith, v)) }

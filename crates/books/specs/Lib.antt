@@ -7,4 +7,6 @@ pub mod Lists
 pub mod Starts
 pub mod Sizes
 pub mod Known
+pub mod Refusals
+pub mod Readers
 pub mod Verdicts

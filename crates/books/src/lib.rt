@@ -7,4 +7,6 @@ pub mod links;
 pub mod lists;
 pub mod numbers;
 pub mod pool;
+pub mod reader;
+pub mod refusal;
 pub mod words;

@@ -86,7 +86,7 @@ pub fn word_or_none(books: &[u32], i: usize) -> usize
 }
 
 // What the books say of their heap: how many arenas, of how many pools, and the edition.
-#[derive(Clone, Copy)]
+#[derive(Clone, Copy, PartialEq, Eq)]
 pub struct Shape {
     pub arenas: usize,
     pub pools: usize,

@@ -1,10 +1,5 @@
--- `books::numbers::wrong_length` answers 1 for another edition that the books reach, and otherwise 2.
-use mathlib.Core.Path.{◌≡◌, ap, ◌∙◌, sym}
-use mathlib.Core.Bool.{true}
-use native.Mathlib.Omega.{arith}
-use lib.Dec.{ltb}
-use lib.ListN.{length}
-use borrow.Author.Tests.{lt-ltb, le-ltb}
+-- `books::numbers::wrong_length` refuses with 1 for another edition that the books reach, and otherwise with 2.
+use Rattle.std.proofs.Common.{◌≡◌, true, ap, ◌∙◌, sym, arith, length, ltb, lt-ltb, le-ltb}
 use Rattle.rules.specs.Books.{is_edition, at}
 use Rattle.rules.specs.Numbers.{reach_number, edition_number}
 use Rattle.books.proofs.numbers.wrong_length.Goals.{After-is_edition, Else-books-le-EDITION}
@@ -18,7 +13,7 @@ pub returns-then-books-le-EDITION : goal.returns-then-books-le-EDITION
 unfolding reach_number
 returns-then-books-le-EDITION c =
     let b = c.args.books.now in
-    (simp (le-ltb 68 (length b) (omega (arith, c.if-books-le-EDITION.true))), omega arith)
+    simp (le-ltb 68 (length b) (omega (arith, c.if-books-le-EDITION.true)))
 
 -- what is tested is the books' edition
 edition_is : (c : After-is_edition)
@@ -27,21 +22,16 @@ edition_is c = c.is_edition.ensures ∙ ap is_edition c.word.ensures.0
 
 pub returns-then-not-is_edition : goal.returns-then-not-is_edition
 unfolding reach_number edition_number
-returns-then-not-is_edition c = (
-  simp (
-    reaches (goal.at.returns-then-not-is_edition c).Else-books-le-EDITION,
-    (sym (edition_is (goal.at.returns-then-not-is_edition c).After-is_edition) ∙ c.if-not-is_edition.true),
-  ),
-  omega arith,
-)
+returns-then-not-is_edition c =
+    simp (
+      reaches (goal.at.returns-then-not-is_edition c).Else-books-le-EDITION,
+      (sym (edition_is (goal.at.returns-then-not-is_edition c).After-is_edition) ∙ c.if-not-is_edition.true),
+    )
 
 pub returns : goal.returns
 unfolding reach_number edition_number
-returns c = (
-  simp (
-    reaches (goal.at.returns c).Else-books-le-EDITION,
-    (sym (edition_is (goal.at.returns c).After-is_edition)
-        ∙ c.if-not-is_edition.false),
-  ),
-  omega arith,
-)
+returns c =
+    simp (
+      reaches (goal.at.returns c).Else-books-le-EDITION,
+      (sym (edition_is (goal.at.returns c).After-is_edition) ∙ c.if-not-is_edition.false),
+    )
