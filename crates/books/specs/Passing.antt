@@ -6,6 +6,8 @@ use Rattle.rules.specs.declared.Answer.{Answer}
 use Rattle.rules.specs.Books.{Heap}
 use Rattle.rules.specs.Outcome.{Outcome, outcome, answer_of, refused, passing}
 use Rattle.rules.specs.Numbers.{room_number, ◌before◌, in_order}
+use Rattle.books.specs.declared.refusal.Refusal.{Refusal}
+use Rattle.books.specs.Refusals.{number_of, number_low}
 
 module _ {X : Type 0} (f : ℕ → X) (rest : X) where
   pub stopped : (k : ℕ) → (k ≡ 0 → ⊥) → passing k f rest ≡ f k
@@ -44,8 +46,18 @@ pub enough : (wanted room : ℕ) → wanted ≤ room → room_number wanted room
 unfolding room_number
 enough wanted room h = rw (le-ltb room wanted h)
 
+-- where the first tests refuse, the later ones are not asked
+pub first_refuses : (r : Refusal) (shape size offset room : ℕ) → number_of r ≡ shape → number_of r ≡ in_order shape size offset room
+first_refuses r shape size offset room e =
+    e ∙ sym (stopped (λ n. n) _ shape (λ z. omega (arith, number_low r, e, z)))
+
 -- ---- a call that is refused by its tests, and one that they let pass
 module _ (h : Heap) (rest : Outcome) where
+  pub refused_by : (r : Refusal) (k : ℕ) → number_of r ≡ k
+      → outcome (answer_of (number_of r) 0) h ≡ passing k (λ j. refused j h) rest
+  refused_by r k e =
+      ap (λ (x : ℕ). outcome (answer_of x 0) h) e ∙ sym (stopped (λ j. refused j h) rest k (λ z. omega (arith, number_low r, e, z)))
+
   pub refusal : (r : Answer) (n k : ℕ) → r ≡ answer_of n 0 → n ≡ k → (n ≡ 0 → ⊥)
       → outcome r h ≡ passing k (λ j. refused j h) rest
   refusal r n k e f g =
