@@ -18,6 +18,13 @@ module _ {X : Type 0} (f : ℕ → X) (rest : X) where
   passed zero e = refl
   passed (suc k) e = absurd (omega arith)
 
+  -- by a refusal's number, and by the 0 of a test that is passed
+  pub refuses : (r : Refusal) (k : ℕ) → number_of r ≡ k → f (number_of r) ≡ passing k f rest
+  refuses r k e = ap f e ∙ sym (stopped k (λ z. absurd (omega (arith, number_low r, e, z))))
+
+  pub lets_pass : (x : X) (k : ℕ) → 0 ≡ k → x ≡ rest → x ≡ passing k f rest
+  lets_pass x k e q = q ∙ sym (passed k (sym e))
+
 -- a test that nothing comes after
 pub last_test : (k : ℕ) → passing k (λ n. n) 0 ≡ k
 last_test zero = refl
@@ -46,18 +53,23 @@ pub enough : (wanted room : ℕ) → wanted ≤ room → room_number wanted room
 unfolding room_number
 enough wanted room h = rw (le-ltb room wanted h)
 
--- where the first tests refuse, the later ones are not asked
-pub first_refuses : (r : Refusal) (shape size offset room : ℕ) → number_of r ≡ shape → number_of r ≡ in_order shape size offset room
-first_refuses r shape size offset room e =
-    e ∙ sym (stopped (λ n. n) _ shape (λ z. omega (arith, number_low r, e, z)))
+-- the first test that refuses decides; the tests before it are passed
+module _ (r : Refusal) (shape size offset room : ℕ) where
+  pub shape_refuses : number_of r ≡ shape → number_of r ≡ in_order shape size offset room
+  shape_refuses e = refuses (λ n. n) (in_order 0 size offset room) r shape e
+
+  pub size_refuses : 0 ≡ shape → number_of r ≡ size → number_of r ≡ in_order shape size offset room
+  size_refuses a e = rw (← a) (refuses (λ n. n) (in_order 0 0 offset room) r size e)
+
+  pub offset_refuses : 0 ≡ shape → 0 ≡ size → number_of r ≡ offset → number_of r ≡ in_order shape size offset room
+  offset_refuses a b e = rw (← a, ← b) (refuses (λ n. n) room r offset e)
+
+pub all_pass : {shape size offset room : ℕ} → 0 ≡ shape → 0 ≡ size → 0 ≡ offset → 0 ≡ room
+    → 0 ≡ in_order shape size offset room
+all_pass a b c d = rw (← a, ← b, ← c) d
 
 -- ---- a call that is refused by its tests, and one that they let pass
 module _ (h : Heap) (rest : Outcome) where
-  pub refused_by : (r : Refusal) (k : ℕ) → number_of r ≡ k
-      → outcome (answer_of (number_of r) 0) h ≡ passing k (λ j. refused j h) rest
-  refused_by r k e =
-      ap (λ (x : ℕ). outcome (answer_of x 0) h) e ∙ sym (stopped (λ j. refused j h) rest k (λ z. omega (arith, number_low r, e, z)))
-
   pub refusal : (r : Answer) (n k : ℕ) → r ≡ answer_of n 0 → n ≡ k → (n ≡ 0 → ⊥)
       → outcome r h ≡ passing k (λ j. refused j h) rest
   refusal r n k e f g =
