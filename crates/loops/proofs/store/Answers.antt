@@ -1,14 +1,11 @@
 -- `loops::store` stores the elements: at turn i the element at i, and in the end all.
-use Rattle.std.proofs.Common.{◌≡◌, length, sym, arith}
+use Rattle.std.proofs.Common.{rules, ◌≡◌, length, sym, arith}
 use Rattle.std.proofs.lemmas.List.Edits.{paste_more, sets-eq}
 use Rattle.std.proofs.Math.Seq.{take-length}
 use Rattle.loops.proofs.store.Goals as goal
 
 pub loop-i-preserved : goal.loop-i-preserved
-loop-i-preserved g c =
-    let a = c.args in
-    rw (c.loop-i.invariant, c.index-from-i.is)
-    (paste_more a.to.now a.at a.from.now c.loop-i.i c.index-from-i.result (omega arith) (omega arith))
+loop-i-preserved g c = search (rules, paste_more)
 
 pub returns : goal.returns
 returns g c =
