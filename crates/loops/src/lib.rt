@@ -28,7 +28,8 @@ pub fn store<T: Copy>(to: &mut [T], at: usize, from: &[T])
     }
 }
 
-// The n bytes from `from` on are stored from `to` on; the two runs do not meet. It is a loop for the same reason.
+// The n bytes from `from` on are stored from `to` on; the two runs do not meet. It is a loop, because `copy_within` of the
+// library asks which run comes first: some 8 instructions more of a resize, which is not to take longer than C's.
 pub fn copy_within(memory: &mut [u8], from: usize, to: usize, n: usize)
     requires { (from + n ≤ length memory.old) × (to + n ≤ length memory.old) × Apart from to n }
     ensures { memory.new ≡ sets memory.old to (take n (drop from memory.old)) }
