@@ -1,9 +1,13 @@
 -- The laws of the live map: what every block's bit is after one is put, and of a pool that has no bit set. The map is
 -- a list of words, eight for each pool.
 -- Assumes nothing.
-use Rattle.std.specs.Prelude.{◌≡◌, refl, Bool, true, false, ◌&&◌, List, ℕ, zero, suc, ◌+◌, ◌*◌, ◌/◌, ◌%◌, ◌<◌, eqb, length, set, if◌then◌else◌}
-use Rattle.std.proofs.Common.{sym, ap, ◌∙◌, not-suc-le-zero, arith, length-set, get_or-set_same, get_or-set_other, eq-eqb, ne_eqb, eqb-true}
+use Rattle.std.specs.Prelude.{◌≡◌, refl, Bool, true, false, ◌&&◌, List, ℕ, zero, suc, ◌+◌, ◌*◌, ◌/◌, ◌%◌, ◌≤◌, ◌<◌, eqb, length, set, take, drop, if◌then◌else◌}
+use Rattle.std.proofs.Common.{sym, ap, ◌∙◌, not-suc-le-zero, add-one, arith, length-set, length-drop, get_or-drop, get_or-set_same, get_or-set_other, eq-eqb, ne_eqb, eqb-true}
+use Rattle.std.specs.List.{fold}
+use Rattle.std.specs.Int.Bits.{bit_or, or_zero_l}
 use Rattle.std.proofs.lemmas.Bool.{false≢true}
+use Rattle.std.proofs.lemmas.Nat.{le_or_l}
+use Rattle.std.proofs.lemmas.List.Sums.{fold_more}
 use Rattle.std.proofs.Math.Nat.{add-zero}
 use Rattle.std.proofs.Math.Decide.{dec_lt, ℕ_discrete}
 use Rattle.std.proofs.Math.Seq.{set_out}
@@ -67,6 +71,25 @@ each_zero w (suc n) e i h = go (zeros w n) (eqb (w n) 0) refl refl e (λ z. each
     go true false p q r rest d = absurd (false≢true r)
     go false u p q r rest d = absurd (false≢true r)
 
+-- an or is 0 where both of its words are
+or_zero : (a b : ℕ) → eqb (bit_or a b) 0 ≡ eqb a 0 && eqb b 0
+or_zero zero b = ap (λ (x : ℕ). eqb x 0) (or_zero_l b)
+or_zero (suc a) b =
+    rw (ne_eqb (bit_or (suc a) b) 0 (λ e. omega (arith, e, le_or_l (suc a) b)), ne_eqb (suc a) 0 (λ e. omega (arith, e)))
+
+-- and that of n words of a list where each of them is
+or_zeros : (m : List ℕ) (first n : ℕ) → first + n ≤ length m
+    → eqb (fold bit_or 0 (take n (drop first m))) 0 ≡ zeros (λ i. at m (first + i)) n
+unfolding zeros
+or_zeros m first zero h = refl
+or_zeros m first (suc n) h =
+    let l = drop first m in
+    let more : fold bit_or 0 (take (suc n) l) ≡ bit_or (fold bit_or 0 (take n l)) (at m (first + n)) =
+    rw (← add-one n) (fold_more bit_or 0 l n 0 (omega (arith, length-drop first m)) ∙ ap (bit_or (fold bit_or 0 (take n l))) (get_or-drop first m n 0)) in
+    ap (λ (x : ℕ). eqb x 0) more
+    ∙ or_zero (fold bit_or 0 (take n l)) (at m (first + n))
+    ∙ ap (λ (t : Bool). t && eqb (at m (first + n)) 0) (or_zeros m first n (omega arith))
+
 -- ---- no bit of pool p is set
 abbrev pub none_set : List ℕ → ℕ → Bool
 none_set m p =
@@ -79,11 +102,15 @@ none_set m p =
     && eqb (at m (8 * p + 6)) 0
     && eqb (at m (8 * p + 7)) 0
 
--- so none of its blocks is live
-module _ (m : List ℕ) (p : ℕ) (e : none_set m p ≡ true) where
-  eight : zeros (λ i. at m (8 * p + i)) 8 ≡ true
+module _ (m : List ℕ) (p : ℕ) where
+  eight : zeros (λ i. at m (8 * p + i)) 8 ≡ none_set m p
   unfolding zeros
-  eight = rw add-zero e
+  eight = rw add-zero
 
-  pub not_set : (k : ℕ) → k < 512 → is_set m p k ≡ false
-  not_set k h = rw (each_zero (λ i. at m (8 * p + i)) 8 eight (k / 64) (omega arith), no_bit (k % 64))
+  -- as the code writes it: the or of its words is 0
+  pub code_none : 8 * p + 8 ≤ length m → eqb (fold bit_or 0 (take 8 (drop (8 * p) m))) 0 ≡ none_set m p
+  code_none h = or_zeros m (8 * p) 8 h ∙ eight
+
+  -- so none of its blocks is live
+  pub not_set : none_set m p ≡ true → (k : ℕ) → k < 512 → is_set m p k ≡ false
+  not_set e k h = rw (each_zero (λ i. at m (8 * p + i)) 8 (eight ∙ e) (k / 64) (omega arith), no_bit (k % 64))

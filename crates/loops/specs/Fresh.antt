@@ -17,10 +17,7 @@ next_of i k = if eqb k 0 then 0 else link_to (i + 1)
 abbrev pub record_of : ℕ → ℕ → List ℕ
 record_of x y = 0 ∷ 0 ∷ 0 ∷ 0 ∷ x ∷ y ∷ 0 ∷ 0 ∷ []
 
--- ---- zeros, arena records and pool records, one by one
-pub zero_parts : (n : ℕ) → Parts (replicate n 0) n (λ i. replicate (n - i) 0) (λ i. 0 ∷ [])
-zero_parts = counted (λ i k. replicate k 0) (λ i k. 0 ∷ []) (λ i. refl) (λ i k. refl)
-
+-- ---- arena records and pool records, one by one
 pub arena_parts : (n : ℕ)
     → Parts (fresh_arenas 0 n) n (λ i. fresh_arenas i (n - i)) (λ i. record_of (next_of i (n - (i + 1))) i)
 arena_parts = counted fresh_arenas (λ i k. record_of (next_of i k) i) (λ i. refl) (λ i k. refl)

@@ -10,7 +10,7 @@ use Rattle.std.proofs.Common.{mul-le-mul, leb-true}
 use native.Mathlib.Omega.{arith}
 use Rattle.std.proofs.Math.Dec.{leb}
 use Rattle.std.proofs.Math.ListN.{length, length-append}
-use Rattle.rules.specs.Books.{is_set, class, pool_word, pool, offset_of}
+use Rattle.rules.specs.Books.{is_set, class, pool_word, pool, offset_of, books_length, map_length}
 use Rattle.rules.specs.Blocks.{size_of, last_class, start_of, capacity}
 use Rattle.rules.specs.View.{roll_blocks, roll_pool, roll_pools}
 use Rattle.loops.specs.Left.{Parts, counted}
@@ -24,6 +24,12 @@ pub record Stands (A p : ℕ) (b m : List ℕ) : Type 0 where
   pub pool : p < 1024
   pub books : pool_word A 8 p ≤ length b
   pub map : 8 * p + 8 ≤ length m
+
+-- books and map have the words of A arenas of P pools each
+pub record Whole (A P : ℕ) (b m : List ℕ) : Type 0 where
+  pub pools : A * P ≤ 1024
+  pub books : length b ≡ books_length A P
+  pub map : length m ≡ map_length A P
 
 -- ---- a pool's blocks, of size s
 -- two words for each at most
@@ -121,6 +127,10 @@ module _ {al : ℕ} (L : Aligned al) (A : ℕ) (b m : List ℕ) (p : ℕ) where
       → let s = pool_size al A b m p in roll_pool al A b m p ≡ roll_blocks m p s 0 (capacity s)
   unfolding roll_pool
   of_size d = let t = sized d in rw (t.0, t.1)
+
+  -- and where the code has the size
+  pub by_size : (s : ℕ) → s ≡ pool_size al A b m p → 8 ≤ s → roll_pool al A b m p ≡ roll_blocks m p s 0 (capacity s)
+  by_size s e l = rw e (of_size (λ z. omega (arith, e, z)))
 
 -- ---- so the roll of n pools has 1,012 words for each of them at most
 module _ (al A : ℕ) (b m : List ℕ) (h : 8 ≤ al) where

@@ -1,7 +1,8 @@
 // The loops of format, write, resize and roll call.
 #![tactic(auto)]
 
-ghost use Rattle.std.specs.Prelude.{◌≡◌, ◌+◌, ◌*◌, ◌≤◌, ◌<◌, leb, length, take, drop, replicate};
+ghost use Rattle.std.specs.Prelude.{◌≡◌, ◌+◌, ◌*◌, ◌≤◌, ◌<◌, IfSome, leb, length, take, drop};
+ghost use Rattle.std.specs.Option.{unwrap_or};
 ghost use Rattle.std.proofs.lemmas.List.Edits.{sets};
 ghost use Rattle.rules.specs.Books.{alignment_of, books_length};
 ghost use Rattle.rules.specs.Format.{fresh_arenas, fresh_pools, fresh_books};
@@ -10,23 +11,35 @@ ghost use Rattle.rules.specs.View.{roll_blocks, roll_pool, roll_pools};
 ghost use Rattle.loops.specs.Left.{Stored};
 ghost use Rattle.loops.specs.Fresh.{next_of};
 ghost use Rattle.loops.specs.Word.{in_word, up_to, roll_word};
-ghost use Rattle.loops.specs.Roll.{Stands, pool_size};
+ghost use Rattle.loops.specs.Roll.{Stands, Whole, pool_size};
 ghost use Rattle.loops.specs.Copy.{Apart};
 
 use books::blocks::{LARGEST, size_at};
-use books::words::{EDITION, NO_CLASS, RECORDS, UNUSED_HEAD};
+use books::words::{EDITION, NO_CLASS, RECORDS, Shape, UNUSED_HEAD};
 
-// ---- format
-
-// The words are stored in the books from word `at` on.
-pub fn put_words(books: &mut [u32], at: usize, words: &[u32])
-    requires { at + length words.now ≤ length books.old }
-    ensures { books.new ≡ sets books.old at words.now }
+// The elements of the one list are stored in the other, from place `at` on: words in the books, a text in memory. It is a
+// loop, because `copy_from_slice` calls `memmove`, and of the C library the archive needs `memset` alone.
+pub fn store<T: Copy>(to: &mut [T], at: usize, from: &[T])
+    requires { at + length from.now ≤ length to.old }
+    ensures { to.new ≡ sets to.old at from.now }
 {
-    for i in 0..words.len() {
-        books[at + i] = words[i];
+    for (i, element) in from.iter().enumerate() {
+        to[at + i] = *element;
     }
 }
+
+// The n bytes from `from` on are stored from `to` on; the two runs do not meet. It is a loop, because `copy_within` of the
+// library asks which run comes first: some 8 instructions more of a resize, which is not to take longer than C's.
+pub fn copy_within(memory: &mut [u8], from: usize, to: usize, n: usize)
+    requires { (from + n ≤ length memory.old) × (to + n ≤ length memory.old) × Apart from to n }
+    ensures { memory.new ≡ sets memory.old to (take n (drop from memory.old)) }
+{
+    for i in 0..n {
+        memory[to + i] = memory[from + i];
+    }
+}
+
+// ---- format
 
 // The link from arena i to the next, where k arenas come after it.
 fn next_of(i: usize, k: usize) -> u32
@@ -46,7 +59,7 @@ fn fresh_arenas(books: &mut [u32], arenas: usize)
 {
     for i in 0..arenas {
         let next = next_of(i, arenas - (i + 1));
-        put_words(books, RECORDS + 8 * i, &[0, 0, 0, 0, next, i as u32, 0, 0]);
+        store(books, RECORDS + 8 * i, &[0, 0, 0, 0, next, i as u32, 0, 0]);
     }
 }
 
@@ -57,54 +70,28 @@ fn fresh_pools(books: &mut [u32], at: usize, n: usize)
 {
     let fresh = [0, 0, 0, 0, NO_CLASS, 0, 0, 0];
     for i in 0..n {
-        put_words(books, at + 8 * i, &fresh);
+        store(books, at + 8 * i, &fresh);
     }
 }
 
 // The books of a fresh heap: the numbers, heads and edition, the arena records, the pool records.
-pub fn fresh_books(books: &mut [u32], arenas: usize, pools: usize, edition: usize)
-    requires { (arenas ≤ 16) × (pools ≤ 64) × (edition ≤ 1) × (length books.old ≡ books_length arenas pools) }
-    ensures { books.new ≡ fresh_books arenas pools edition }
+pub fn fresh_books(books: &mut [u32], shape: Shape)
+    requires { (shape.arenas ≤ 16) × (shape.pools ≤ 64) × (shape.edition ≤ 1)
+        × (length books.old ≡ books_length shape.arenas shape.pools) }
+    ensures { books.new ≡ fresh_books shape.arenas shape.pools shape.edition }
 {
     let mut heads: [u32; RECORDS] = [0; RECORDS];
-    heads[0] = arenas as u32;
-    heads[1] = pools as u32;
+    heads[0] = shape.arenas as u32;
+    heads[1] = shape.pools as u32;
     heads[UNUSED_HEAD] = 1;
-    heads[EDITION] = edition as u32;
-    put_words(books, 0, &heads);
-    fresh_arenas(books, arenas);
-    fresh_pools(books, RECORDS + 8 * arenas, arenas * pools);
-}
-
-// The map of a fresh heap: no block is live.
-pub fn wipe(map: &mut [u64])
-    ensures { map.new ≡ replicate (length map.old) 0 }
-{
-    for i in 0..map.len() {
-        map[i] = 0;
-    }
-}
-
-// ---- write and resize
-
-// The text is stored in memory from byte `at` on.
-pub fn copy_in(memory: &mut [u8], at: usize, text: &[u8])
-    requires { at + length text.now ≤ length memory.old }
-    ensures { memory.new ≡ sets memory.old at text.now }
-{
-    for i in 0..text.len() {
-        memory[at + i] = text[i];
-    }
-}
-
-// The n bytes from `from` on are stored from `to` on; the two runs do not meet.
-pub fn copy_within(memory: &mut [u8], from: usize, to: usize, n: usize)
-    requires { (from + n ≤ length memory.old) × (to + n ≤ length memory.old) × Apart from to n }
-    ensures { memory.new ≡ sets memory.old to (take n (drop from memory.old)) }
-{
-    for i in 0..n {
-        memory[to + i] = memory[from + i];
-    }
+    heads[EDITION] = shape.edition as u32;
+    store(books, 0, &heads);
+    fresh_arenas(books, shape.arenas);
+    fresh_pools(
+        books,
+        RECORDS + 8 * shape.arenas,
+        shape.arenas * shape.pools,
+    );
 }
 
 // ---- roll call
@@ -118,11 +105,7 @@ fn in_word(blocks: usize, i: usize) -> usize
     requires { 64 * i < blocks }
     ensures { result ≡ in_word blocks i }
 {
-    let left = blocks - 64 * i;
-    if left < 64 {
-        return left;
-    }
-    64
+    (blocks - 64 * i).min(64)
 }
 
 // How many roll words the live blocks of the pool take, where its blocks have the size.
@@ -138,65 +121,60 @@ fn count_blocks(map: &[u64], pool: usize, size: usize) -> usize
     words
 }
 
-// The size of the pool's blocks, where any of its bits is set and it has a class: otherwise it has no live block, and
-// the answer is 0.
-pub fn pool_size(books: &[u32], map: &[u64], arenas: usize, edition: usize, pool: usize) -> usize
-    requires { Stands arenas pool books.now map.now }
-    ensures { (result ≡ pool_size (alignment_of edition) arenas books.now map.now pool)
-        × (result ≤ 512) }
+// The size of the pool's blocks, where any of its bits is set and it has a class: otherwise it has no live block.
+pub fn pool_size(books: &[u32], map: &[u64], shape: Shape, pool: usize) -> Option<usize>
+    requires { Stands shape.arenas pool books.now map.now }
+    ensures value { unwrap_or result 0
+        ≡ pool_size (alignment_of shape.edition) shape.arenas books.now map.now pool }
+    ensures range { IfSome result (λ size. (8 ≤ size) × (size ≤ 512)) }
 {
     if bits::none_set(map, pool) {
-        return 0;
+        return None;
     }
-    let size = size_at(books, arenas, edition, 4096 * pool);
+    let size = size_at(books, shape.arenas, shape.edition, 4096 * pool);
     if LARGEST < size {
-        return 0;
+        return None;
     }
-    size
+    Some(size)
 }
 
 // How many roll words the live blocks of the pool take.
-pub fn count_pool(books: &[u32], map: &[u64], arenas: usize, edition: usize, pool: usize) -> usize
-    requires { Stands arenas pool books.now map.now }
-    ensures { result ≡ length (roll_pool (alignment_of edition) arenas books.now map.now pool) }
+pub fn count_pool(books: &[u32], map: &[u64], shape: Shape, pool: usize) -> usize
+    requires { Stands shape.arenas pool books.now map.now }
+    ensures { result
+        ≡ length (roll_pool (alignment_of shape.edition) shape.arenas books.now map.now pool) }
 {
-    let size = pool_size(books, map, arenas, edition, pool);
-    if size == 0 {
+    let Some(size) = pool_size(books, map, shape, pool) else {
         return 0;
-    }
+    };
     count_blocks(map, pool, size)
 }
 
-// How many roll words the live blocks of the n pools take.
-pub fn count_words(books: &[u32], map: &[u64], arenas: usize, edition: usize, n: usize) -> usize
-    requires { (n ≤ 1024) × (length books.now ≡ 72 + 8 * arenas + 8 * n) × (length map.now ≡ 8 * n) }
-    ensures { result ≡ length (roll_pools (alignment_of edition) arenas books.now map.now 0 n) }
+// How many roll words the live blocks of all pools take.
+pub fn count_words(books: &[u32], map: &[u64], shape: Shape) -> usize
+    requires { Whole shape.arenas shape.pools books.now map.now }
+    ensures { result
+        ≡ length (roll_pools (alignment_of shape.edition) shape.arenas books.now map.now 0 (shape.arenas * shape.pools)) }
 {
     let mut words: usize = 0;
-    for pool in 0..n {
-        words += count_pool(books, map, arenas, edition, pool);
+    for pool in 0..shape.arenas * shape.pools {
+        words += count_pool(books, map, shape, pool);
     }
     words
 }
 
-// The roll of the n pools fits into so many words. No block is counted where there is room for every block that the
-// pools could hold.
-pub fn has_room(
-    books: &[u32],
-    map: &[u64],
-    arenas: usize,
-    edition: usize,
-    n: usize,
-    room: usize,
-) -> bool
-    requires { (n ≤ 1024) × (length books.now ≡ 72 + 8 * arenas + 8 * n) × (length map.now ≡ 8 * n) }
+// The roll of all pools fits into so many words. No block is counted where there is room for every block that the pools
+// could hold.
+pub fn has_room(books: &[u32], map: &[u64], shape: Shape, room: usize) -> bool
+    requires { Whole shape.arenas shape.pools books.now map.now }
     ensures { result
-        ≡ leb (length (roll_pools (alignment_of edition) arenas books.now map.now 0 n)) room }
+        ≡ leb (length (roll_pools (alignment_of shape.edition) shape.arenas books.now map.now
+        0 (shape.arenas * shape.pools))) room }
 {
-    if MOST_WORDS * n <= room {
+    if MOST_WORDS * (shape.arenas * shape.pools) <= room {
         return true;
     }
-    count_words(books, map, arenas, edition, n) <= room
+    count_words(books, map, shape) <= room
 }
 
 // Offset and size of each live block of a map word, whose first block is at `first`, from roll word `at` on: the place
@@ -254,43 +232,36 @@ fn roll_blocks(map: &[u64], pool: usize, size: usize, roll: &mut [u32], at: usiz
 fn roll_pool(
     books: &[u32],
     map: &[u64],
-    arenas: usize,
-    edition: usize,
+    shape: Shape,
     pool: usize,
     roll: &mut [u32],
     at: usize,
 ) -> usize
-    requires { Stands arenas pool books.now map.now
-        × (at + length (roll_pool (alignment_of edition) arenas books.now map.now pool) ≤ length roll.old) }
+    requires { Stands shape.arenas pool books.now map.now
+        × (at + length (roll_pool (alignment_of shape.edition) shape.arenas books.now map.now pool)
+        ≤ length roll.old) }
     ensures { Stored roll.old at
-        (roll_pool (alignment_of edition) arenas books.now map.now pool)
+        (roll_pool (alignment_of shape.edition) shape.arenas books.now map.now pool)
         roll.new result }
 {
-    let size = pool_size(books, map, arenas, edition, pool);
-    if size == 0 {
+    let Some(size) = pool_size(books, map, shape, pool) else {
         return at;
-    }
+    };
     roll_blocks(map, pool, size, roll, at)
 }
 
-// Offset and size of each live block of the n pools, at the front of the roll: how many words they take.
-pub fn put_roll(
-    books: &[u32],
-    map: &[u64],
-    arenas: usize,
-    edition: usize,
-    n: usize,
-    roll: &mut [u32],
-) -> usize
-    requires { (n ≤ 1024) × (length books.now ≡ 72 + 8 * arenas + 8 * n) × (length map.now ≡ 8 * n)
-        × (length (roll_pools (alignment_of edition) arenas books.now map.now 0 n) ≤ length roll.old) }
+// Offset and size of each live block of all pools, at the front of the roll: how many words they take.
+pub fn put_roll(books: &[u32], map: &[u64], shape: Shape, roll: &mut [u32]) -> usize
+    requires { Whole shape.arenas shape.pools books.now map.now
+        × (length (roll_pools (alignment_of shape.edition) shape.arenas books.now map.now
+        0 (shape.arenas * shape.pools)) ≤ length roll.old) }
     ensures { Stored roll.old 0
-        (roll_pools (alignment_of edition) arenas books.now map.now 0 n)
+        (roll_pools (alignment_of shape.edition) shape.arenas books.now map.now 0 (shape.arenas * shape.pools))
         roll.new result }
 {
     let mut place: usize = 0;
-    for pool in 0..n {
-        place = roll_pool(books, map, arenas, edition, pool, roll, place);
+    for pool in 0..shape.arenas * shape.pools {
+        place = roll_pool(books, map, shape, pool, roll, place);
     }
     place
 }

@@ -1,6 +1,6 @@
 -- `loops::count_words` counts the words of the roll: at each turn those of the pools from this one on are left.
 use mathlib.Core.Path.{◌≡◌}
-use Prim.Native.Nat.{◌+◌, ◌-◌, ◌≤◌}
+use Prim.Native.Nat.{◌+◌, ◌*◌, ◌-◌, ◌≤◌}
 use lib.ListN.{length}
 use Rattle.rules.specs.View.{roll_pools}
 use Rattle.rules.specs.Books.{alignment_of}
@@ -8,8 +8,7 @@ use Rattle.loops.proofs.count_words.Given as goal
 
 abbrev pub invariant-loop-pool : goal.invariant-loop-pool
 invariant-loop-pool l =
-    let roll = roll_pools (alignment_of l.edition) l.arenas l.books l.map in
-    (l.words + length (roll l.pool (l.n - l.pool)) ≡ length (roll 0 l.n)) × (l.pool ≤ l.n)
-
-abbrev pub decreases-loop-pool : goal.decreases-loop-pool
-decreases-loop-pool l = l.n - l.pool
+    let s = l.shape in
+    let all = s.arenas * s.pools in
+    let roll = roll_pools (alignment_of s.edition) s.arenas l.books l.map in
+    (l.words + length (roll l.pool (all - l.pool)) ≡ length (roll 0 all)) × (l.pool ≤ all)

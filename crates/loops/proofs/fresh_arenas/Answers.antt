@@ -10,8 +10,8 @@ use Rattle.loops.proofs.fresh_arenas.Goals as goal
 pub loop-i-init : goal.loop-i-init
 loop-i-init c = (begin (arena_parts c.args.arenas) _ 72 _ refl, omega arith)
 
-pub slice_bounds-put_words-end : goal.slice_bounds-put_words-end
-slice_bounds-put_words-end c = refl
+pub slice_bounds-store-end : goal.slice_bounds-store-end
+slice_bounds-store-end c = refl
 
 pub loop-i-preserved : goal.loop-i-preserved
 loop-i-preserved c =
@@ -20,7 +20,7 @@ loop-i-preserved c =
     let link =
     ap (λ (x : ℕ). sets p.books (72 + 8 * p.i) (record_of x p.i)) c.next_of-next.ensures in (
       turn (arena_parts a.arenas) p.i (omega arith) p.invariant.0
-          (record { same = c.put_words.ensures ∙ link; place = omega arith }),
+          (record { same = c.store.ensures ∙ link; place = omega arith }),
       omega arith,
     )
 

@@ -13,6 +13,6 @@ returns c =
     let a = c.args in
     let arenas = c.fresh_arenas.ensures in
     c.fresh_pools.ensures
-    ∙ ap (λ (x : List ℕ). sets x (72 + 8 * a.arenas) (fresh_pools (a.arenas * a.pools)))
-    (arenas ∙ ap (λ (x : List ℕ). sets x 72 (fresh_arenas 0 a.arenas)) c.put_words.ensures)
-    ∙ fresh_whole a.books.now a.arenas a.pools a.edition c.requires.3
+    ∙ ap (λ (x : List ℕ). sets x (72 + 8 * a.shape.arenas) (fresh_pools (a.shape.arenas * a.shape.pools)))
+    (arenas ∙ ap (λ (x : List ℕ). sets x 72 (fresh_arenas 0 a.shape.arenas)) c.store.ensures)
+    ∙ fresh_whole a.books.now a.shape.arenas a.shape.pools a.shape.edition c.requires.3

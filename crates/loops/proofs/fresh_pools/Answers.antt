@@ -13,12 +13,12 @@ loop-i-init c =
     let a = c.args in
     (begin (pool_parts a.n) _ a.at _ (omega arith), omega arith, refl)
 
-pub slice_bounds-put_words-end : goal.slice_bounds-put_words-end
-slice_bounds-put_words-end c =
+pub slice_bounds-store-end : goal.slice_bounds-store-end
+slice_bounds-store-end c =
     ap length c.loop-i.invariant.2
 
-pub put_words-requires : goal.put_words-requires
-put_words-requires c =
+pub store-requires : goal.store-requires
+store-requires c =
     omega (arith, ap length c.loop-i.invariant.2)
 
 pub loop-i-preserved : goal.loop-i-preserved
@@ -27,7 +27,7 @@ loop-i-preserved c =
     let a = c.args in
     let words = ap (sets p.books (a.at + 8 * p.i)) p.invariant.2 in (
       turn (pool_parts a.n) p.i (omega arith) p.invariant.0
-          (record { same = c.put_words.ensures ∙ words; place = omega arith }),
+          (record { same = c.store.ensures ∙ words; place = omega arith }),
       omega arith,
       p.invariant.2,
     )

@@ -1,6 +1,6 @@
 -- `loops::has_room` counts only where the roll could be longer than the room.
 use mathlib.Core.Path.{sym, ap}
-use Prim.Native.Nat.{ℕ}
+use Prim.Native.Nat.{ℕ, ◌*◌}
 use native.Mathlib.Omega.{arith}
 use lib.Dec.{leb}
 use borrow.Author.Tests.{le-leb}
@@ -9,10 +9,11 @@ use Rattle.books.specs.Sizes.{aligned}
 use Rattle.loops.specs.Roll.{length_roll}
 use Rattle.loops.proofs.has_room.Goals as goal
 
-pub returns-then-n-room : goal.returns-then-n-room
-returns-then-n-room c =
+pub returns-then-shape-room : goal.returns-then-shape-room
+returns-then-shape-room c =
     let a = c.args in
-    let most = length_roll (alignment_of a.edition) a.arenas a.books.now a.map.now (aligned a.edition).low 0 a.n in
+    let s = a.shape in
+    let most = length_roll (alignment_of s.edition) s.arenas a.books.now a.map.now (aligned s.edition).low 0 (s.arenas * s.pools) in
     sym (le-leb _ a.room (omega (arith, most)))
 
 pub returns : goal.returns

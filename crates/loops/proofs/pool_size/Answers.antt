@@ -1,4 +1,4 @@
--- `loops::pool_size` answers the size where a bit is set and the size is that of a class, and 0 elsewhere.
+-- `loops::pool_size` answers the size where a bit is set and the size is that of a class, and none elsewhere.
 use mathlib.Core.Path.{◌≡◌, sym, ap, ◌∙◌}
 use Prim.Native.Nat.{ℕ, ◌*◌, ◌/◌}
 use native.Mathlib.Omega.{arith}
@@ -9,39 +9,36 @@ use Rattle.loops.specs.Roll.{pool_size}
 use Rattle.loops.proofs.pool_size.Goals.{After-size_at-size}
 use Rattle.loops.proofs.pool_size.Goals as goal
 
-pub returns-then-none_set : goal.returns-then-none_set
+pub returns-then-none_set-clause-value : goal.returns-then-none_set-clause-value
 unfolding pool_size
-returns-then-none_set c = (rw (sym c.none_set.ensures ∙ c.if-none_set.true), omega arith)
+returns-then-none_set-clause-value c = rw (sym c.none_set.ensures ∙ c.if-none_set.true)
 
 -- the size is read at the pool's first byte
 its_size : (c : After-size_at-size)
     → let a = c.args in
-    c.size_at-size.result ≡ size_of (alignment_of a.edition) (pool a.arenas a.books.now class a.pool)
+    c.size_at-size.result ≡ size_of (alignment_of a.shape.edition) (pool a.shape.arenas a.books.now class a.pool)
 its_size c =
     let a = c.args in
     let e : 4096 * a.pool / 4096 ≡ a.pool = omega arith in
-    c.size_at-size.ensures.0 ∙ ap (λ (p : ℕ). size_of (alignment_of a.edition) (pool a.arenas a.books.now class p)) e
+    c.size_at-size.ensures.0
+    ∙ ap (λ (p : ℕ). size_of (alignment_of a.shape.edition) (pool a.shape.arenas a.books.now class p)) e
 
-pub returns-then-size-gt-LARGEST : goal.returns-then-size-gt-LARGEST
+pub returns-then-size-gt-LARGEST-clause-value : goal.returns-then-size-gt-LARGEST-clause-value
 unfolding pool_size
-returns-then-size-gt-LARGEST c =
+returns-then-size-gt-LARGEST-clause-value c =
     let a = c.args in
-    let s = its_size (goal.at.returns-then-size-gt-LARGEST c).After-size_at-size in (
-      rw (
-        sym c.none_set.ensures ∙ c.if-none_set.false,
-        no_class_lem (aligned a.edition) (pool a.arenas a.books.now class a.pool) (omega (arith, s, c.if-size-gt-LARGEST.true)),
-      ),
-      omega arith,
+    let s = its_size (goal.at.returns-then-size-gt-LARGEST-clause-value c).After-size_at-size in
+    rw (
+      sym c.none_set.ensures ∙ c.if-none_set.false,
+      no_class_lem (aligned a.shape.edition) (pool a.shape.arenas a.books.now class a.pool) (omega (arith, s, c.if-size-gt-LARGEST.true)),
     )
 
-pub returns : goal.returns
+pub returns-clause-value : goal.returns-clause-value
 unfolding pool_size
-returns c =
+returns-clause-value c =
     let a = c.args in
-    let s = its_size (goal.at.returns c).After-size_at-size in (
-      rw (
-        sym c.none_set.ensures ∙ c.if-none_set.false,
-        a_class (aligned a.edition) (pool a.arenas a.books.now class a.pool) (omega (arith, s, c.if-size-gt-LARGEST.false)),
-      ) s,
-      c.if-size-gt-LARGEST.false,
-    )
+    let s = its_size (goal.at.returns-clause-value c).After-size_at-size in
+    rw (
+      sym c.none_set.ensures ∙ c.if-none_set.false,
+      a_class (aligned a.shape.edition) (pool a.shape.arenas a.books.now class a.pool) (omega (arith, s, c.if-size-gt-LARGEST.false)),
+    ) s

@@ -1,5 +1,5 @@
 -- `loops::put_roll` stores the roll: at each turn that of the pools from this one on is left.
-use Prim.Native.Nat.{◌-◌, ◌≤◌}
+use Prim.Native.Nat.{◌*◌, ◌-◌, ◌≤◌}
 use Rattle.rules.specs.View.{roll_pools}
 use Rattle.rules.specs.Books.{alignment_of}
 use Rattle.loops.specs.Left.{Left}
@@ -7,8 +7,7 @@ use Rattle.loops.proofs.put_roll.Given as goal
 
 abbrev pub invariant-loop-pool : goal.invariant-loop-pool
 invariant-loop-pool l =
-    let all = roll_pools (alignment_of l.edition) l.arenas l.books l.map in
-    Left l.initial.roll 0 (all 0 l.n) l.roll l.place (all l.pool (l.n - l.pool)) × (l.pool ≤ l.n)
-
-abbrev pub decreases-loop-pool : goal.decreases-loop-pool
-decreases-loop-pool l = l.n - l.pool
+    let s = l.shape in
+    let all = s.arenas * s.pools in
+    let roll = roll_pools (alignment_of s.edition) s.arenas l.books l.map in
+    Left l.initial.roll 0 (roll 0 all) l.roll l.place (roll l.pool (all - l.pool)) × (l.pool ≤ all)
