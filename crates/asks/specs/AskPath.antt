@@ -8,17 +8,16 @@ use Rattle.rules.specs.declared.AskPlan.{AskPlan}
 use Rattle.rules.specs.declared.AskPlan.TheVariants.{Damaged, Follow, Ready, Last}
 use Rattle.rules.specs.Books.{Heap, count, class, maxnextoffset, pool, none?, is_set, offset_of}
 use Rattle.rules.specs.Blocks.{size_of, last_start, is_start, block_no, link_at}
-use Rattle.rules.specs.Outcome.{outcome}
+use Rattle.rules.specs.Outcome.{outcome, answer_of}
 use Rattle.rules.specs.Ask.{◌⇛◌, no_link, from_freeblock, from_listed, ask_answer, after_ask, asked}
 use Rattle.books.specs.declared.pool.Pool.{Pool}
 use Rattle.books.specs.Lists.{pool_may_leave}
 use Rattle.books.specs.Records.{pool_at, may_serve, links_lead}
 use Rattle.books.specs.Starts.{Start, start}
 use Rattle.books.specs.Tests.{both}
-use Rattle.asks.specs.Answers.{answered}
 
 -- a path that ends at a broken rule is refused, and changes nothing
-pub damaged : (al A P c : ℕ) (h : Heap) (q : AskPlan) → q ≡ Damaged → outcome (answered 6) h ≡ asked al A P c h q
+pub damaged : (al A P c : ℕ) (h : Heap) (q : AskPlan) → q ≡ Damaged → outcome (answer_of 6 0) h ≡ asked al A P c h q
 unfolding ask_answer after_ask
 damaged al A P c h q e = rw e
 

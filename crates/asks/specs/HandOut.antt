@@ -1,6 +1,6 @@
 -- What the writes of an ask leave, said by the changes of a heap that the rules name, and what each of them knows.
 -- Assumes nothing.
-use Rattle.std.specs.Prelude.{◌≡◌, ◌≢◌, true, List, [], ℕ, ◌+◌, ◌*◌, ◌-◌, ◌/◌, ◌%◌, ◌≤◌, ◌<◌, length}
+use Rattle.std.specs.Prelude.{◌≡◌, ◌≢◌, true, List, [], ℕ, ◌+◌, ◌*◌, ◌-◌, ◌≤◌, ◌<◌, length}
 use Rattle.std.proofs.Common.{sym, ap, subst, ◌∙◌, arith, length-set, get_or-set_same, get_or-set_other, eq-eqb, ne_eqb}
 use Rattle.rules.specs.declared.Source.{Source}
 use Rattle.rules.specs.declared.Source.TheVariants.{Freed, Carved, Opened}
@@ -43,7 +43,6 @@ use Rattle.books.specs.declared.pool.Pool.{Pool}
 use Rattle.books.specs.Records.{pool_at, put_pool, taken, exposed, take_stored, expose_stored, other_word}
 use Rattle.books.specs.Starts.{Start, start_is}
 use Rattle.plans.specs.Fits.{Gives, FitsSource}
-use Rattle.asks.specs.Answers.{answered}
 
 -- the books b' are what the change f of a heap makes of the books b, whatever its memory and map hold
 pub record Writes (f : Heap → Heap) (b b' : List ℕ) : Type 0 where
@@ -59,15 +58,12 @@ pub with_link : (g : List ℕ → List ℕ) (m m' b k : List ℕ) (h : Heap) →
 with_link g m m' b k h link left = ap (λ (x : List ℕ). heap_of x b k) link ∙ ap (on_memory g) left
 
 -- and last the bit of the block that is handed out, whose offset is the answer
-pub handed : (s p f : ℕ) (h h' : Heap) (r : ℕ) (k : List ℕ) → h ≡ h' → r ≡ offset_of p f * 4294967296
+pub handed : (s p f : ℕ) (h h' : Heap) (r : ℕ) (k : List ℕ) → h ≡ h' → r ≡ offset_of p f
     → k ≡ put_map_bit p (block_no s f) 1 h.map
-    → outcome (answered r) (heap_of h.memory h.books k)
+    → outcome (answer_of 0 r) (heap_of h.memory h.books k)
     ≡ outcome (answer_of 0 (offset_of p f)) (on_map (put_map_bit p (block_no s f) 1) h')
 handed s p f h h' r k left answer set =
-    let low : offset_of p f * 4294967296 % 4294967296 ≡ 0 = omega arith in
-    let high : offset_of p f * 4294967296 / 4294967296 ≡ offset_of p f = omega arith in
-    rw (answer, set, low, high)
-    (ap (λ (x : Heap). outcome (answer_of 0 (offset_of p f)) (on_map (put_map_bit p (block_no s f) 1) x)) left)
+    rw (answer, set) (ap (λ (x : Heap). outcome (answer_of 0 (offset_of p f)) (on_map (put_map_bit p (block_no s f) 1) x)) left)
 
 -- ---- a block's start passes the test
 pub starts : (s o : ℕ) → Start s o → is_start s o ≡ true

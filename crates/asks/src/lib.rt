@@ -1,6 +1,5 @@
 // The ask: from its class list, or from a new pool; and its answer.
 #![tactic(auto)]
 
-pub mod answers;
 pub mod ask;
 mod ask_listed;

@@ -4,9 +4,9 @@ ghost use Rattle.std.specs.Prelude.{◌≡◌, ◌&&◌, ◌||◌, not, ◌+◌,
 ghost use Rattle.rules.specs.Books.{at, alignment_of, is_set, none?, unused_head, free_pools, arena};
 ghost use Rattle.rules.specs.Blocks.{is_start, block_no};
 ghost use Rattle.rules.specs.Lists.{may_leave, arena_links};
-ghost use Rattle.rules.specs.Outcome.{heap_of};
 ghost use Rattle.rules.specs.Ask.{
   ◌⇛◌,
+  set_anew,
   same_class,
   take_again,
   from_mark,
@@ -15,28 +15,23 @@ ghost use Rattle.rules.specs.Ask.{
   from_usable,
   from_unused,
 };
-ghost use Rattle.books.specs.Known.{Shaped};
+ghost use Rattle.books.specs.Readers.{heap_in};
 ghost use Rattle.books.specs.Records.{pool_at};
-ghost use Rattle.plans.specs.Class.{Range, Class};
 ghost use Rattle.plans.specs.Fits.{plan_new};
 
+use crate::class::Class;
+use crate::path::keeps;
 use bits::is_set;
 use books::blocks::{block_no, is_start};
 use books::links::link_at;
 use books::lists::may_leave;
 use books::pool::{Pool, load_pool};
+use books::reader::Reader;
 use books::words::{
-    ARENA_LINKS, CARVE_MARK, FREE_POOLS, FREED_HEAD, UNUSED_HEAD, USABLE_HEAD, arena_word, index,
-    word,
+    ARENA_LINKS, CARVE_MARK, FREE_POOLS, FREED_HEAD, Shape, UNUSED_HEAD, USABLE_HEAD, arena_word,
+    index, word,
 };
 use rules::{AskPlan, Source};
-
-// A rule of number 6 that a used word keeps, and the rest of the path.
-fn keeps(rule: bool, rest: AskPlan) -> AskPlan
-    ensures { result ≡ (rule ⇛ rest) }
-{
-    if rule { rest } else { AskPlan::Damaged }
-}
 
 // f is a block start of pool p, and the block is not live.
 pub fn spare(map: &[u64], p: usize, size: usize, f: usize) -> bool
@@ -58,285 +53,149 @@ fn follows(map: &[u64], p: usize, size: usize, l: usize) -> bool
 }
 
 // Pool p is set to the class: its blocks 0 and 1 are spare.
-fn set_anew(map: &[u64], size: usize, source: Source, p: usize) -> AskPlan
-    requires { (8 ≤ size) × (size ≤ 512) × (8 * p + 8 ≤ length map.now) }
-    ensures { result ≡ ((is_start size 48 && not (is_set map.now p (block_no size 48)))
-        ⇛ (is_start size (48 + size) && not (is_set map.now p (block_no size (48 + size))))
-        ⇛ AskPlan.Anew source p) }
+fn set_anew(heap: &Reader, class: Class, source: Source, p: usize) -> AskPlan
+    requires { p < heap.now.shape.arenas * heap.now.shape.pools }
+    ensures { result ≡ set_anew (alignment_of class.edition) heap.now.shape.arenas heap.now.shape.pools
+        (heap_in heap.now) class.number source p }
 {
-    keeps(
-        spare(map, p, size, 48),
-        keeps(spare(map, p, size, 48 + size), AskPlan::Anew(source, p)),
-    )
+    let first = spare(heap.map, p, class.size, 48);
+    let second = spare(heap.map, p, class.size, 48 + class.size);
+    keeps(first, keeps(second, AskPlan::Anew(source, p)))
 }
 
 // Pool p, whose record is given, is of the class already.
-fn same_class(
-    memory: &[u8],
-    books: &[u32],
-    map: &[u64],
-    arenas: usize,
-    pools: usize,
-    edition: usize,
-    class: usize,
-    size: usize,
-    a: usize,
-    p: usize,
-    pool: Pool,
-) -> AskPlan
-    requires { Shaped arenas pools (length memory.now) (length books.now) (length map.now)
-        × Class (alignment_of edition) class size × (p < arenas * pools) × (pool ≡ pool_at arenas books.now p) }
-    ensures { result ≡ same_class (alignment_of edition) arenas pools
-        (heap_of memory.now books.now map.now) class a p }
+fn same_class(heap: &Reader, class: Class, a: usize, p: usize, pool: Pool) -> AskPlan
+    requires { (p < heap.now.shape.arenas * heap.now.shape.pools)
+        × (pool ≡ pool_at heap.now.shape.arenas heap.now.books.now p) }
+    ensures { result ≡ same_class (alignment_of class.edition) heap.now.shape.arenas heap.now.shape.pools
+        (heap_in heap.now) class.number a p }
 {
     let f = index(pool.freeblock);
-    if spare(map, p, size, f) {
-        let l = index(link_at(memory, 4096 * p + f));
-        return keeps(follows(map, p, size, l), AskPlan::Again(a, p, f, l));
+    if spare(heap.map, p, class.size, f) {
+        let l = index(link_at(heap.memory, 4096 * p + f));
+        return keeps(
+            follows(heap.map, p, class.size, l),
+            AskPlan::Again(a, p, f, l),
+        );
     }
     AskPlan::Damaged
 }
 
 // Pool p, whose record is given, just taken from the freed pools.
-fn take_again(
-    memory: &[u8],
-    books: &[u32],
-    map: &[u64],
-    arenas: usize,
-    pools: usize,
-    edition: usize,
-    class: usize,
-    size: usize,
-    a: usize,
-    p: usize,
-    pool: Pool,
-) -> AskPlan
-    requires { Shaped arenas pools (length memory.now) (length books.now) (length map.now)
-        × Class (alignment_of edition) class size × (p < arenas * pools) × (pool ≡ pool_at arenas books.now p) }
-    ensures { result ≡ take_again (alignment_of edition) arenas pools
-        (heap_of memory.now books.now map.now) class a p }
+fn take_again(heap: &Reader, class: Class, a: usize, p: usize, pool: Pool) -> AskPlan
+    requires { (p < heap.now.shape.arenas * heap.now.shape.pools)
+        × (pool ≡ pool_at heap.now.shape.arenas heap.now.books.now p) }
+    ensures { result ≡ take_again (alignment_of class.edition) heap.now.shape.arenas heap.now.shape.pools
+        (heap_in heap.now) class.number a p }
 {
-    if index(pool.class) == class {
-        return same_class(
-            memory, books, map, arenas, pools, edition, class, size, a, p, pool,
-        );
+    if index(pool.class) == class.number {
+        return same_class(heap, class, a, p, pool);
     }
-    set_anew(map, size, Source::Freed(a), p)
+    set_anew(heap, class, Source::Freed(a), p)
 }
 
 // Arena a, which gives a pool, has some to give, and can leave its list if that was the last; then the rest
 // of the path.
-fn counted(books: &[u32], arenas: usize, pools: usize, a: usize, rest: AskPlan) -> AskPlan
-    requires { (a < arenas) × (72 + 8 * arenas ≤ length books.now) × (arenas ≤ 16) }
+fn counted(heap: &Reader, a: usize, rest: AskPlan) -> AskPlan
+    requires { a < heap.now.shape.arenas }
     ensures { result
-        ≡ ((leb 1 (arena books.now free_pools a) && leb (arena books.now free_pools a) pools)
-        ⇛ (not (eqb (arena books.now free_pools a) 1) || may_leave arenas arena_links a books.now)
+        ≡ ((leb 1 (arena heap.now.books.now free_pools a)
+        && leb (arena heap.now.books.now free_pools a) heap.now.shape.pools)
+        ⇛ (not (eqb (arena heap.now.books.now free_pools a) 1)
+        || may_leave heap.now.shape.arenas arena_links a heap.now.books.now)
         ⇛ rest) }
 {
-    let free = arena_word(books, FREE_POOLS, a);
-    let leaves = (free != 1) | may_leave(books, arenas, ARENA_LINKS, a);
-    keeps((1 <= free) & (free <= pools), keeps(leaves, rest))
+    let free = arena_word(heap.books, FREE_POOLS, a);
+    let leaves = (free != 1) | may_leave(heap.books, heap.shape.arenas, ARENA_LINKS, a);
+    keeps(
+        (1 <= free) & (free <= heap.shape.pools),
+        keeps(leaves, rest),
+    )
 }
 
 // The pool of arena a at this mark.
-fn pool_at(arenas: usize, pools: usize, a: usize, mark: usize) -> usize
-    requires { Range arenas pools × (a < arenas) × (mark < pools) }
-    ensures { (result ≡ a * pools + mark) × (result < arenas * pools) }
+fn pool_at(heap: &Reader, a: usize, mark: usize) -> usize
+    requires { (a < heap.now.shape.arenas) × (mark < heap.now.shape.pools) }
+    ensures { (result ≡ a * heap.now.shape.pools + mark)
+        × (result < heap.now.shape.arenas * heap.now.shape.pools) }
 {
-    a * pools + mark
+    a * heap.shape.pools + mark
 }
 
 // Arena a has no freed pool: the one at its mark is carved.
-fn from_mark(
-    memory: &[u8],
-    books: &[u32],
-    map: &[u64],
-    arenas: usize,
-    pools: usize,
-    edition: usize,
-    class: usize,
-    size: usize,
-    a: usize,
-) -> AskPlan
-    requires { Shaped arenas pools (length memory.now) (length books.now) (length map.now)
-        × Class (alignment_of edition) class size × (a < arenas) }
-    ensures { result ≡ from_mark (alignment_of edition) arenas pools
-        (heap_of memory.now books.now map.now) class a }
+fn from_mark(heap: &Reader, class: Class, a: usize) -> AskPlan
+    requires { a < heap.now.shape.arenas }
+    ensures { result ≡ from_mark (alignment_of class.edition) heap.now.shape.arenas heap.now.shape.pools
+        (heap_in heap.now) class.number a }
 {
-    let mark = arena_word(books, CARVE_MARK, a);
-    if mark < pools {
-        let p = pool_at(arenas, pools, a, mark);
-        return counted(
-            books,
-            arenas,
-            pools,
-            a,
-            set_anew(map, size, Source::Carved(a), p),
-        );
+    let mark = arena_word(heap.books, CARVE_MARK, a);
+    if mark < heap.shape.pools {
+        let p = pool_at(heap, a, mark);
+        return counted(heap, a, set_anew(heap, class, Source::Carved(a), p));
     }
     AskPlan::Damaged
 }
 
 // Arena a's first freed pool is p.
-fn from_freed(
-    memory: &[u8],
-    books: &[u32],
-    map: &[u64],
-    arenas: usize,
-    pools: usize,
-    edition: usize,
-    class: usize,
-    size: usize,
-    a: usize,
-    p: usize,
-) -> AskPlan
-    requires { Shaped arenas pools (length memory.now) (length books.now) (length map.now)
-        × Class (alignment_of edition) class size × (a < arenas) × (p < arenas * pools) }
-    ensures { result ≡ from_freed (alignment_of edition) arenas pools
-        (heap_of memory.now books.now map.now) class a p }
+fn from_freed(heap: &Reader, class: Class, a: usize, p: usize) -> AskPlan
+    requires { (a < heap.now.shape.arenas) × (p < heap.now.shape.arenas * heap.now.shape.pools) }
+    ensures { result ≡ from_freed (alignment_of class.edition) heap.now.shape.arenas heap.now.shape.pools
+        (heap_in heap.now) class.number a p }
 {
-    let pool = load_pool(books, arenas, p);
-    let again = take_again(
-        memory, books, map, arenas, pools, edition, class, size, a, p, pool,
-    );
-    keeps(
-        index(pool.next) <= arenas * pools,
-        counted(books, arenas, pools, a, again),
-    )
+    let Shape { arenas, pools, .. } = heap.shape;
+    let pool = load_pool(heap.books, arenas, p);
+    let again = take_again(heap, class, a, p, pool);
+    keeps(index(pool.next) <= arenas * pools, counted(heap, a, again))
 }
 
 // The usable front, arena a.
-fn from_usable(
-    memory: &[u8],
-    books: &[u32],
-    map: &[u64],
-    arenas: usize,
-    pools: usize,
-    edition: usize,
-    class: usize,
-    size: usize,
-    a: usize,
-) -> AskPlan
-    requires { Shaped arenas pools (length memory.now) (length books.now) (length map.now)
-        × Class (alignment_of edition) class size × (a < arenas) }
-    ensures { result ≡ from_usable (alignment_of edition) arenas pools
-        (heap_of memory.now books.now map.now) class a }
+fn from_usable(heap: &Reader, class: Class, a: usize) -> AskPlan
+    requires { a < heap.now.shape.arenas }
+    ensures { result ≡ from_usable (alignment_of class.edition) heap.now.shape.arenas heap.now.shape.pools
+        (heap_in heap.now) class.number a }
 {
-    let l = arena_word(books, FREED_HEAD, a);
-    if l == 0 {
-        return from_mark(memory, books, map, arenas, pools, edition, class, size, a);
+    match arena_word(heap.books, FREED_HEAD, a).checked_sub(1) {
+        None => from_mark(heap, class, a),
+        Some(p) if p < heap.shape.arenas * heap.shape.pools => from_freed(heap, class, a, p),
+        Some(_) => AskPlan::Damaged,
     }
-    if l <= arenas * pools {
-        return from_freed(
-            memory,
-            books,
-            map,
-            arenas,
-            pools,
-            edition,
-            class,
-            size,
-            a,
-            l - 1,
-        );
-    }
-    AskPlan::Damaged
 }
 
 // The unused front, arena a, is opened.
-fn from_unused(
-    memory: &[u8],
-    books: &[u32],
-    map: &[u64],
-    arenas: usize,
-    pools: usize,
-    edition: usize,
-    class: usize,
-    size: usize,
-    a: usize,
-) -> AskPlan
-    requires { Shaped arenas pools (length memory.now) (length books.now) (length map.now)
-        × Class (alignment_of edition) class size × (a < arenas) }
-    ensures { result ≡ from_unused (alignment_of edition) arenas pools
-        (heap_of memory.now books.now map.now) class a }
+fn from_unused(heap: &Reader, class: Class, a: usize) -> AskPlan
+    requires { a < heap.now.shape.arenas }
+    ensures { result ≡ from_unused (alignment_of class.edition) heap.now.shape.arenas heap.now.shape.pools
+        (heap_in heap.now) class.number a }
 {
-    let p = pool_at(arenas, pools, a, 0);
+    let p = pool_at(heap, a, 0);
     keeps(
-        may_leave(books, arenas, ARENA_LINKS, a),
-        set_anew(map, size, Source::Opened(a), p),
+        may_leave(heap.books, heap.shape.arenas, ARENA_LINKS, a),
+        set_anew(heap, class, Source::Opened(a), p),
     )
 }
 
 // The class list and the usable list are empty.
-fn plan_unused(
-    memory: &[u8],
-    books: &[u32],
-    map: &[u64],
-    arenas: usize,
-    pools: usize,
-    edition: usize,
-    class: usize,
-    size: usize,
-) -> AskPlan
-    requires { Shaped arenas pools (length memory.now) (length books.now) (length map.now)
-        × Class (alignment_of edition) class size }
-    ensures { result ≡ front_of (at books.now unused_head) arenas
-        (from_unused (alignment_of edition) arenas pools
-        (heap_of memory.now books.now map.now) class)
+fn plan_unused(heap: &Reader, class: Class) -> AskPlan
+    ensures { result ≡ front_of (at heap.now.books.now unused_head) heap.now.shape.arenas
+        (from_unused (alignment_of class.edition) heap.now.shape.arenas heap.now.shape.pools
+        (heap_in heap.now) class.number)
         AskPlan.NoRoom }
 {
-    let l = word(books, UNUSED_HEAD);
-    if l == 0 {
-        return AskPlan::NoRoom;
+    match word(heap.books, UNUSED_HEAD).checked_sub(1) {
+        None => AskPlan::NoRoom,
+        Some(a) if a < heap.shape.arenas => from_unused(heap, class, a),
+        Some(_) => AskPlan::Damaged,
     }
-    if l <= arenas {
-        return from_unused(
-            memory,
-            books,
-            map,
-            arenas,
-            pools,
-            edition,
-            class,
-            size,
-            l - 1,
-        );
-    }
-    AskPlan::Damaged
 }
 
 // The class list is empty: a new pool is taken.
-pub fn plan_new(
-    memory: &[u8],
-    books: &[u32],
-    map: &[u64],
-    arenas: usize,
-    pools: usize,
-    edition: usize,
-    class: usize,
-    size: usize,
-) -> AskPlan
-    requires { Shaped arenas pools (length memory.now) (length books.now) (length map.now)
-        × Class (alignment_of edition) class size }
-    ensures { result ≡ plan_new (alignment_of edition) arenas pools
-        (heap_of memory.now books.now map.now) class }
+pub fn plan_new(heap: &Reader, class: Class) -> AskPlan
+    ensures { result ≡ plan_new (alignment_of class.edition) heap.now.shape.arenas heap.now.shape.pools
+        (heap_in heap.now) class.number }
 {
-    let l = word(books, USABLE_HEAD);
-    if l == 0 {
-        return plan_unused(memory, books, map, arenas, pools, edition, class, size);
+    match word(heap.books, USABLE_HEAD).checked_sub(1) {
+        None => plan_unused(heap, class),
+        Some(a) if a < heap.shape.arenas => from_usable(heap, class, a),
+        Some(_) => AskPlan::Damaged,
     }
-    if l <= arenas {
-        return from_usable(
-            memory,
-            books,
-            map,
-            arenas,
-            pools,
-            edition,
-            class,
-            size,
-            l - 1,
-        );
-    }
-    AskPlan::Damaged
 }

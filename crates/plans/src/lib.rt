@@ -2,3 +2,5 @@
 #![tactic(auto)]
 
 pub mod ask;
+pub mod class;
+pub mod path;

@@ -15,7 +15,7 @@ shape_of-books c = simp (length-set, c.store_pool.auto.books)
 pub returns : goal.returns
 returns c al P =
     let a = c.args in
-    let b = put (class_head a.class) (link_to a.p) a.books.now in
+    let b = put (class_head a.class.number) (link_to a.p) a.books.now in
     record {
       same = λ m k. simp (
         c.store_pool.ensures,

@@ -15,7 +15,7 @@ shape_of-books c = simp (length-set, c.store_pool.auto.books)
 pub returns : goal.returns
 returns c al P =
     let a = c.args in
-    let b = put (class_head a.class) (link_to a.p) a.books.now in
+    let b = put (class_head a.class.number) (link_to a.p) a.books.now in
     record {
       same = λ m k. simp (
         c.store_pool.ensures,
@@ -23,5 +23,5 @@ returns c al P =
         c.load_pool-pool.ensures,
         c.link_to.ensures,
       )
-          (ap (λ (x : List ℕ). heap_of m x k) (anew_stored a.arenas a.p b b a.class a.size refl));
+          (ap (λ (x : List ℕ). heap_of m x k) (anew_stored a.arenas a.p b b a.class.number a.class.size refl));
     }

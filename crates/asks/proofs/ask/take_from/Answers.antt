@@ -5,23 +5,23 @@ use mathlib.Core.List.{[]}
 use native.Mathlib.Omega.{arith}
 use Rattle.rules.specs.declared.Source.{Source}
 use Rattle.rules.specs.Books.{carve_mark, arena, Heap}
-use Rattle.rules.specs.Ask.{carve, take_from}
+use Rattle.rules.specs.Ask.{take_from}
 use Rattle.plans.specs.Fits.{FitsSource}
 use Rattle.asks.specs.HandOut.{chain, opened_mark}
-use Rattle.asks.proofs.ask.take_from.Goals.{After-slice_known-1}
+use Rattle.asks.proofs.ask.take_from.Goals.{Start}
 use Rattle.asks.proofs.ask.take_from.Goals as goal
 
 -- what the path knows of the source, by its form; `rw .. at` would rewrite the source all over the start
-known : (c : After-slice_known-1) (s : Source) → c.args.source ≡ s
+known : (c : Start) (s : Source) → c.args.source ≡ s
     → let a = c.args in
-    FitsSource a.arenas a.pools a.books.now s a.p
+    FitsSource a.shape.arenas a.shape.pools a.books.now s a.p
 known c s e =
     let a = c.args in
-    subst (λ (x : Source). FitsSource a.arenas a.pools a.books.now x a.p) e c.requires.4
+    subst (λ (x : Source). FitsSource a.shape.arenas a.shape.pools a.books.now x a.p) e c.requires.4
 
 pub take_freed-requires : goal.take_freed-requires
 take_freed-requires c =
-    let fits = known (goal.at.take_freed-requires c).After-slice_known-1 _ c.in-Freed.is in
+    let fits = known (goal.at.take_freed-requires c).Start _ c.in-Freed.is in
     (fits.0.there, c.requires.3)
 
 pub returns-in-Freed : goal.returns-in-Freed
@@ -31,29 +31,29 @@ returns-in-Freed c al class =
 
 pub carve-requires : goal.carve-requires
 carve-requires c =
-    let fits = known (goal.at.carve-requires c).After-slice_known-1 _ c.in-Carved.is in
+    let fits = known (goal.at.carve-requires c).Start _ c.in-Carved.is in
     (fits.0.there, c.requires.3, omega arith)
 
 pub returns-in-Carved : goal.returns-in-Carved
 unfolding take_from
 returns-in-Carved c al class =
-    rw c.in-Carved.is (refl, c.carve.ensures al c.args.pools class)
+    rw c.in-Carved.is (refl, c.carve.ensures al c.args.shape.pools class)
 
 pub open_arena-requires : goal.open_arena-requires
 open_arena-requires c =
-    let fits = known (goal.at.open_arena-requires c).After-slice_known-1 _ c.in-Opened.is in
+    let fits = known (goal.at.open_arena-requires c).Start _ c.in-Opened.is in
     omega arith
 
 pub carve-requires-in-Opened : goal.carve-requires-in-Opened
 carve-requires-in-Opened c =
-    let fits = known (goal.at.carve-requires-in-Opened c).After-slice_known-1 _ c.in-Opened.is in
+    let fits = known (goal.at.carve-requires-in-Opened c).Start _ c.in-Opened.is in
     let a = c.in-Opened.a in
     let mark = ap (λ (h : Heap). arena h.books carve_mark a) (c.open_arena.ensures.same [] [])
-    ∙ opened_mark c.args.pools a c.args.books.now [] [] (omega arith) in
+    ∙ opened_mark c.args.shape.pools a c.args.books.now [] [] (omega arith) in
     omega arith
 
 pub returns-in-Opened : goal.returns-in-Opened
 unfolding take_from
 returns-in-Opened c al class =
     rw c.in-Opened.is
-    (refl, chain c.open_arena.ensures (c.carve-in-Opened.ensures al c.args.pools class))
+    (refl, chain c.open_arena.ensures (c.carve-in-Opened.ensures al c.args.shape.pools class))

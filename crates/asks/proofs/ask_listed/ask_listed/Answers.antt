@@ -16,54 +16,54 @@ pub returns-then-not-may_serve : goal.returns-then-not-may_serve
 returns-then-not-may_serve c =
     let a = c.args in
     let h = heap_of a.memory.now a.books.now a.map.now in
-    damaged (alignment_of a.edition) a.arenas a.pools a.class h _
-    (not_serving (alignment_of a.edition) a.arenas a.pools h a.class a.p a.size c.load_pool-pool.result
-    c.requires.1.size c.load_pool-pool.ensures
+    damaged (alignment_of a.class.edition) a.shape.arenas a.shape.pools a.class.number h _
+    (not_serving (alignment_of a.class.edition) a.shape.arenas a.shape.pools h a.class.number a.p a.class.size c.load_pool-pool.result
+    c.args.class.sized c.load_pool-pool.ensures
     (sym c.may_serve.ensures ∙ c.if-not-may_serve.true))
 
 -- the front pool's record has passed
 serves : (c : Else-not-may_serve)
     → let a = c.args in
-    may_serve c.load_pool-pool.result a.class a.size ≡ true
+    may_serve c.load_pool-pool.result a.class.number a.class.size ≡ true
 serves c = (sym c.may_serve.ensures ∙ c.if-not-may_serve.false)
 
 pub returns-then-not-spare : goal.returns-then-not-spare
 returns-then-not-spare c =
     let a = c.args in
     let h = heap_of a.memory.now a.books.now a.map.now in
-    damaged (alignment_of a.edition) a.arenas a.pools a.class h _
-    (not_spare (alignment_of a.edition) a.arenas a.pools h a.class a.p a.size c.load_pool-pool.result
-    c.requires.1.size c.load_pool-pool.ensures c.index-f.result c.index-f.ensures.0 _ refl
+    damaged (alignment_of a.class.edition) a.shape.arenas a.shape.pools a.class.number h _
+    (not_spare (alignment_of a.class.edition) a.shape.arenas a.shape.pools h a.class.number a.p a.class.size c.load_pool-pool.result
+    c.args.class.sized c.load_pool-pool.ensures c.index-f.result c.index-f.ensures.0 _ refl
     (serves (goal.at.returns-then-not-spare c).Else-not-may_serve) (sym c.spare.ensures ∙ c.if-not-spare.true))
 
 -- the front pool, once its record and its freeblock have passed
 passed : (c : Else-not-spare)
     → let a = c.args in
-    Front a.arenas a.pools a.size a.p c.load_pool-pool.result a.books.now
+    Front a.shape.arenas a.shape.pools a.class.size a.p c.load_pool-pool.result a.books.now
 passed c =
     let a = c.args in
     let h = heap_of a.memory.now a.books.now a.map.now in
-    front (alignment_of a.edition) a.arenas a.pools h a.class a.p a.size c.load_pool-pool.result
-    c.requires.1.size c.load_pool-pool.ensures c.index-f.result c.index-f.ensures.0
-    (omega (arith, c.requires.1.size)) c.requires.2
+    front (alignment_of a.class.edition) a.shape.arenas a.shape.pools h a.class.number a.p a.class.size c.load_pool-pool.result
+    c.args.class.sized c.load_pool-pool.ensures c.index-f.result c.index-f.ensures.0
+    c.args.class.size_low c.requires.1
     (serves (goal.at.Else-not-spare c).Else-not-may_serve) (sym c.spare.ensures ∙ c.if-not-spare.false)
 
 pub link_at-requires : goal.link_at-requires
 link_at-requires c =
-    omega (arith, (passed c).start.ends, c.index-f.ensures.0, c.requires.1.size, c.requires.2, c.requires.0.memory)
+    omega (arith, (passed c).start.ends, c.index-f.ensures.0, c.args.class.sized, c.requires.1, c.requires.0.memory)
 
 pub ask_unlinked-requires : goal.ask_unlinked-requires
 ask_unlinked-requires c =
-    (c.requires.0, c.requires.1, passed (goal.at.ask_unlinked-requires c).Else-not-spare)
+    (c.requires.0, passed (goal.at.ask_unlinked-requires c).Else-not-spare)
 
 pub returns-then-l-eq0 : goal.returns-then-l-eq0
 returns-then-l-eq0 c =
     let a = c.args in
     let h = heap_of a.memory.now a.books.now a.map.now in
     c.ask_unlinked.ensures
-    ∙ ap (asked (alignment_of a.edition) a.arenas a.pools a.class h)
-    (sym (unlinked (alignment_of a.edition) a.arenas a.pools h a.class a.p a.size c.load_pool-pool.result
-    c.requires.1.size c.load_pool-pool.ensures c.index-f.result c.index-f.ensures.0 c.index-l.result
+    ∙ ap (asked (alignment_of a.class.edition) a.shape.arenas a.shape.pools a.class.number h)
+    (sym (unlinked (alignment_of a.class.edition) a.shape.arenas a.shape.pools h a.class.number a.p a.class.size c.load_pool-pool.result
+    c.args.class.sized c.load_pool-pool.ensures c.index-f.result c.index-f.ensures.0 c.index-l.result
     (c.index-l.ensures.0 ∙ c.link_at.ensures)
     (serves (goal.at.returns-then-l-eq0 c).Else-not-may_serve) (sym c.spare.ensures ∙ c.if-not-spare.false) c.if-l-eq0.true))
 
@@ -71,9 +71,9 @@ pub returns-then-not-spare-2 : goal.returns-then-not-spare-2
 returns-then-not-spare-2 c =
     let a = c.args in
     let h = heap_of a.memory.now a.books.now a.map.now in
-    damaged (alignment_of a.edition) a.arenas a.pools a.class h _
-    (linked_wrong (alignment_of a.edition) a.arenas a.pools h a.class a.p a.size c.load_pool-pool.result
-    c.requires.1.size c.load_pool-pool.ensures c.index-f.result c.index-f.ensures.0 c.index-l.result
+    damaged (alignment_of a.class.edition) a.shape.arenas a.shape.pools a.class.number h _
+    (linked_wrong (alignment_of a.class.edition) a.shape.arenas a.shape.pools h a.class.number a.p a.class.size c.load_pool-pool.result
+    c.args.class.sized c.load_pool-pool.ensures c.index-f.result c.index-f.ensures.0 c.index-l.result
     (c.index-l.ensures.0 ∙ c.link_at.ensures)
     (serves (goal.at.returns-then-not-spare-2 c).Else-not-may_serve) (sym c.spare.ensures ∙ c.if-not-spare.false) c.if-l-eq0.false
     (sym c.spare-2.ensures ∙ c.if-not-spare-2.true))
@@ -83,15 +83,13 @@ take-requires c = (passed (goal.at.take-requires c).Else-not-spare).count
 
 pub store_pool-requires : goal.store_pool-requires
 store_pool-requires c =
-    omega (arith, c.requires.2, c.requires.0.books)
+    omega (arith, c.requires.1, c.requires.0.books)
 
 pub hand_out-requires : goal.hand_out-requires
 hand_out-requires c = (
-  omega (arith, c.requires.1.size),
-  omega (arith, c.requires.1.size, c.requires.1.class),
   rw c.index-f.ensures.0 (passed (goal.at.hand_out-requires c).Else-not-spare).start,
-  omega (arith, c.requires.2, c.requires.0.all),
-  omega (arith, c.requires.2, c.requires.0.map),
+  omega (arith, c.requires.1, c.requires.0.all),
+  omega (arith, c.requires.1, c.requires.0.map),
 )
 
 pub returns : goal.returns
@@ -100,15 +98,15 @@ returns c =
     let a = c.args in
     let h = heap_of a.memory.now a.books.now a.map.now in
     rw (
-      follows (alignment_of a.edition) a.arenas a.pools h a.class a.p a.size c.load_pool-pool.result
-          c.requires.1.size c.load_pool-pool.ensures c.index-f.result c.index-f.ensures.0 c.index-l.result
+      follows (alignment_of a.class.edition) a.shape.arenas a.shape.pools h a.class.number a.p a.class.size c.load_pool-pool.result
+          c.args.class.sized c.load_pool-pool.ensures c.index-f.result c.index-f.ensures.0 c.index-l.result
           (c.index-l.ensures.0 ∙ c.link_at.ensures)
           (serves (goal.at.returns c).Else-not-may_serve) (sym c.spare.ensures ∙ c.if-not-spare.false)
           c.if-l-eq0.false (sym c.spare-2.ensures ∙ c.if-not-spare-2.false),
-      ← c.requires.1.size,
+      ← c.args.class.sized,
     )
-    (handed a.size _ _ (heap_of a.memory.now c.store_pool.new.books a.map.now) _ _ _
-    ((take_writes a.arenas a.p c.load_pool-pool.result c.take.result a.books.now _
+    (handed a.class.size _ _ (heap_of a.memory.now c.store_pool.new.books a.map.now) _ _ _
+    ((take_writes a.shape.arenas a.p c.load_pool-pool.result c.take.result a.books.now _
     c.load_pool-pool.ensures c.store_pool.ensures c.index-l.result c.take.ensures
     ).same a.memory.now a.map.now)
     c.hand_out.ensures.0

@@ -18,33 +18,31 @@ pub returns-then-not-spare : goal.returns-then-not-spare
 returns-then-not-spare c =
     let a = c.args in
     let h = heap_of a.memory.now a.books.now a.map.now in
-    damaged (alignment_of a.edition) a.arenas a.pools a.class h _
-    (not_ready (alignment_of a.edition) a.arenas a.pools h a.class a.p a.size a.pool c.requires.1.size c.requires.2.loaded
+    damaged (alignment_of a.class.edition) a.shape.arenas a.shape.pools a.class.number h _
+    (not_ready (alignment_of a.class.edition) a.shape.arenas a.shape.pools h a.class.number a.p a.class.size a.pool c.args.class.sized c.requires.1.loaded
     c.index-f.result c.index-f.ensures.0
     c.index-m.result c.index-m.ensures.0 c.if-pool.true (sym c.spare.ensures ∙ c.if-not-spare.true))
 
 -- the block at nextoffset, once it has passed
-next : (c : Else-not-spare) → Start c.args.size c.index-m.result
+next : (c : Else-not-spare) → Start c.args.class.size c.index-m.result
 next c =
     let a = c.args in
     let h = heap_of a.memory.now a.books.now a.map.now in
-    begins h a.p a.size _ (omega (arith, c.requires.1.size)) (sym c.spare.ensures ∙ c.if-not-spare.false)
+    begins h a.p a.class.size _ c.args.class.size_low (sym c.spare.ensures ∙ c.if-not-spare.false)
 
 pub expose-requires : goal.expose-requires
 expose-requires c =
-    (c.requires.2.count, omega (arith, (next (goal.at.expose-requires c).Else-not-spare).ends, c.index-m.ensures.0, c.requires.1.size, c.requires.1.class))
+    (c.requires.1.count, omega (arith, (next (goal.at.expose-requires c).Else-not-spare).ends, c.index-m.ensures.0, c.args.class.sized))
 
 pub put_link-requires : goal.put_link-requires
 put_link-requires c =
-    omega (arith, (next (goal.at.put_link-requires c).Else-not-spare).ends, c.requires.1.size, c.requires.2.there, c.requires.0.memory)
+    omega (arith, (next (goal.at.put_link-requires c).Else-not-spare).ends, c.args.class.sized, c.requires.1.there, c.requires.0.memory)
 
 pub hand_out-requires : goal.hand_out-requires
 hand_out-requires c = (
-  omega (arith, c.requires.1.size),
-  omega (arith, c.requires.1.size, c.requires.1.class),
-  rw c.index-f.ensures.0 c.requires.2.start,
-  omega (arith, c.requires.2.there, c.requires.0.all),
-  omega (arith, c.requires.2.there, c.requires.0.map),
+  rw c.index-f.ensures.0 c.requires.1.start,
+  omega (arith, c.requires.1.there, c.requires.0.all),
+  omega (arith, c.requires.1.there, c.requires.0.map),
 )
 
 pub returns-then-pool : goal.returns-then-pool
@@ -53,15 +51,15 @@ returns-then-pool c =
     let a = c.args in
     let h = heap_of a.memory.now a.books.now a.map.now in
     rw (
-      is_ready (alignment_of a.edition) a.arenas a.pools h a.class a.p a.size a.pool c.requires.1.size c.requires.2.loaded
+      is_ready (alignment_of a.class.edition) a.shape.arenas a.shape.pools h a.class.number a.p a.class.size a.pool c.args.class.sized c.requires.1.loaded
           c.index-f.result c.index-f.ensures.0
           c.index-m.result c.index-m.ensures.0 c.if-pool.true (sym c.spare.ensures ∙ c.if-not-spare.false),
-      ← c.requires.1.size,
+      ← c.args.class.sized,
     )
-    (handed a.size _ _ (heap_of c.put_link.new.memory c.store_pool.new.books a.map.now) _ _ _
+    (handed a.class.size _ _ (heap_of c.put_link.new.memory c.store_pool.new.books a.map.now) _ _ _
     (with_link (put_link _ 0) a.memory.now _ _ _ _ c.put_link.ensures
-    ((expose_writes a.arenas a.p a.pool c.expose.result a.books.now _ c.requires.2.loaded c.store_pool.ensures
-    c.index-m.result a.size c.index-m.ensures.0 c.expose.ensures).same a.memory.now a.map.now))
+    ((expose_writes a.shape.arenas a.p a.pool c.expose.result a.books.now _ c.requires.1.loaded c.store_pool.ensures
+    c.index-m.result a.class.size c.index-m.ensures.0 c.expose.ensures).same a.memory.now a.map.now))
     c.hand_out.ensures.0
     c.hand_out.ensures.1)
 
@@ -69,24 +67,22 @@ pub returns-then-not-may_leave : goal.returns-then-not-may_leave
 returns-then-not-may_leave c =
     let a = c.args in
     let h = heap_of a.memory.now a.books.now a.map.now in
-    damaged (alignment_of a.edition) a.arenas a.pools a.class h _
-    (stuck (alignment_of a.edition) a.arenas a.pools h a.class a.p a.size a.pool c.requires.1.size c.requires.2.loaded
+    damaged (alignment_of a.class.edition) a.shape.arenas a.shape.pools a.class.number h _
+    (stuck (alignment_of a.class.edition) a.shape.arenas a.shape.pools h a.class.number a.p a.class.size a.pool c.args.class.sized c.requires.1.loaded
     c.index-f.result c.index-f.ensures.0
     a.pool.nextoffset refl c.if-pool.false (sym c.may_leave.ensures ∙ c.if-not-may_leave.true))
 
 pub leave_by-requires : goal.leave_by-requires
 leave_by-requires c =
     let a = c.args in
-    let l = leads a.pool (a.arenas * a.pools) (sym c.may_leave.ensures ∙ c.if-not-may_leave.false) in
-    rw c.pool_links.ensures (omega (arith, l.0, l.1, c.requires.0.books, c.requires.2.there, c.requires.1.class))
+    let l = leads a.pool (a.shape.arenas * a.shape.pools) (sym c.may_leave.ensures ∙ c.if-not-may_leave.false) in
+    rw c.pool_links.ensures (omega (arith, l.0, l.1, c.requires.0.books, c.requires.1.there))
 
 pub hand_out-requires-2 : goal.hand_out-requires-2
 hand_out-requires-2 c = (
-  omega (arith, c.requires.1.size),
-  omega (arith, c.requires.1.size, c.requires.1.class),
-  rw c.index-f.ensures.0 c.requires.2.start,
-  omega (arith, c.requires.2.there, c.requires.0.all),
-  omega (arith, c.requires.2.there, c.requires.0.map),
+  rw c.index-f.ensures.0 c.requires.1.start,
+  omega (arith, c.requires.1.there, c.requires.0.all),
+  omega (arith, c.requires.1.there, c.requires.0.map),
 )
 
 pub returns : goal.returns
@@ -95,13 +91,13 @@ returns c =
     let a = c.args in
     let h = heap_of a.memory.now a.books.now a.map.now in
     rw (
-      is_last (alignment_of a.edition) a.arenas a.pools h a.class a.p a.size a.pool c.requires.1.size c.requires.2.loaded
+      is_last (alignment_of a.class.edition) a.shape.arenas a.shape.pools h a.class.number a.p a.class.size a.pool c.args.class.sized c.requires.1.loaded
           c.index-f.result c.index-f.ensures.0
           a.pool.nextoffset refl c.if-pool.false (sym c.may_leave.ensures ∙ c.if-not-may_leave.false),
-      ← c.requires.1.size,
+      ← c.args.class.sized,
     )
-    (handed a.size _ _ (heap_of a.memory.now c.leave_by.new.books a.map.now) _ _ _
-    ((last_writes a.arenas a.p a.pool c.take.result a.books.now _ c.requires.2.loaded c.store_pool-2.ensures
-    a.class _ c.take.ensures (rw (← c.pool_links.ensures) c.leave_by.ensures)).same a.memory.now a.map.now)
+    (handed a.class.size _ _ (heap_of a.memory.now c.leave_by.new.books a.map.now) _ _ _
+    ((last_writes a.shape.arenas a.p a.pool c.take.result a.books.now _ c.requires.1.loaded c.store_pool-2.ensures
+    a.class.number _ c.take.ensures (rw (← c.pool_links.ensures) c.leave_by.ensures)).same a.memory.now a.map.now)
     c.hand_out-2.ensures.0
     c.hand_out-2.ensures.1)

@@ -6,7 +6,7 @@ use Rattle.asks.proofs.ask_listed.hand_out.Goals as goal
 pub block_no-requires : goal.block_no-requires
 block_no-requires c =
     let a = c.args in
-    (c.requires.0, c.requires.1, starts a.size a.f c.requires.2)
+    (a.class.size_low, a.class.size_high, starts a.class.size a.f c.requires.0)
 
 pub returns : goal.returns
 returns c =
