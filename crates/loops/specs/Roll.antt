@@ -10,7 +10,7 @@ use Rattle.std.proofs.Common.{mul-le-mul, leb-true}
 use native.Mathlib.Omega.{arith}
 use Rattle.std.proofs.Math.Dec.{leb}
 use Rattle.std.proofs.Math.ListN.{length, length-append}
-use Rattle.rules.specs.Books.{is_set, class, pool_word, pool, offset_of, books_length, map_length}
+use Rattle.rules.specs.Books.{is_set, class, pool_word, pool, offset_of}
 use Rattle.rules.specs.Blocks.{size_of, last_class, start_of, capacity}
 use Rattle.rules.specs.View.{roll_blocks, roll_pool, roll_pools}
 use Rattle.loops.specs.Left.{Parts, counted}
@@ -25,11 +25,11 @@ pub record Stands (A p : ℕ) (b m : List ℕ) : Type 0 where
   pub books : pool_word A 8 p ≤ length b
   pub map : 8 * p + 8 ≤ length m
 
--- books and map have the words of A arenas of P pools each
-pub record Whole (A P : ℕ) (b m : List ℕ) : Type 0 where
-  pub pools : A * P ≤ 1024
-  pub books : length b ≡ books_length A P
-  pub map : length m ≡ map_length A P
+-- books and map have the words of A arenas and n pools
+pub record Pools (A n : ℕ) (b m : List ℕ) : Type 0 where
+  pub few : n ≤ 1024
+  pub books : length b ≡ 72 + 8 * A + 8 * n
+  pub map : length m ≡ 8 * n
 
 -- ---- a pool's blocks, of size s
 -- two words for each at most

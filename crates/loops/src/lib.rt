@@ -11,7 +11,7 @@ ghost use Rattle.rules.specs.View.{roll_blocks, roll_pool, roll_pools};
 ghost use Rattle.loops.specs.Left.{Stored};
 ghost use Rattle.loops.specs.Fresh.{next_of};
 ghost use Rattle.loops.specs.Word.{in_word, up_to, roll_word};
-ghost use Rattle.loops.specs.Roll.{Stands, Whole, pool_size};
+ghost use Rattle.loops.specs.Roll.{Stands, Pools, pool_size};
 ghost use Rattle.loops.specs.Copy.{Apart};
 
 use books::blocks::{LARGEST, size_at};
@@ -150,31 +150,30 @@ pub fn count_pool(books: &[u32], map: &[u64], shape: Shape, pool: usize) -> usiz
     count_blocks(map, pool, size)
 }
 
-// How many roll words the live blocks of all pools take.
-pub fn count_words(books: &[u32], map: &[u64], shape: Shape) -> usize
-    requires { Whole shape.arenas shape.pools books.now map.now }
+// How many roll words the live blocks of the n pools take.
+pub fn count_words(books: &[u32], map: &[u64], shape: Shape, n: usize) -> usize
+    requires { Pools shape.arenas n books.now map.now }
     ensures { result
-        ≡ length (roll_pools (alignment_of shape.edition) shape.arenas books.now map.now 0 (shape.arenas * shape.pools)) }
+        ≡ length (roll_pools (alignment_of shape.edition) shape.arenas books.now map.now 0 n) }
 {
     let mut words: usize = 0;
-    for pool in 0..shape.arenas * shape.pools {
+    for pool in 0..n {
         words += count_pool(books, map, shape, pool);
     }
     words
 }
 
-// The roll of all pools fits into so many words. No block is counted where there is room for every block that the pools
-// could hold.
-pub fn has_room(books: &[u32], map: &[u64], shape: Shape, room: usize) -> bool
-    requires { Whole shape.arenas shape.pools books.now map.now }
+// The roll of the n pools fits into so many words. No block is counted where there is room for every block that the
+// pools could hold.
+pub fn has_room(books: &[u32], map: &[u64], shape: Shape, n: usize, room: usize) -> bool
+    requires { Pools shape.arenas n books.now map.now }
     ensures { result
-        ≡ leb (length (roll_pools (alignment_of shape.edition) shape.arenas books.now map.now
-        0 (shape.arenas * shape.pools))) room }
+        ≡ leb (length (roll_pools (alignment_of shape.edition) shape.arenas books.now map.now 0 n)) room }
 {
-    if MOST_WORDS * (shape.arenas * shape.pools) <= room {
+    if MOST_WORDS * n <= room {
         return true;
     }
-    count_words(books, map, shape) <= room
+    count_words(books, map, shape, n) <= room
 }
 
 // Offset and size of each live block of a map word, whose first block is at `first`, from roll word `at` on: the place
@@ -250,17 +249,16 @@ fn roll_pool(
     roll_blocks(map, pool, size, roll, at)
 }
 
-// Offset and size of each live block of all pools, at the front of the roll: how many words they take.
-pub fn put_roll(books: &[u32], map: &[u64], shape: Shape, roll: &mut [u32]) -> usize
-    requires { Whole shape.arenas shape.pools books.now map.now
-        × (length (roll_pools (alignment_of shape.edition) shape.arenas books.now map.now
-        0 (shape.arenas * shape.pools)) ≤ length roll.old) }
+// Offset and size of each live block of the n pools, at the front of the roll: how many words they take.
+pub fn put_roll(books: &[u32], map: &[u64], shape: Shape, n: usize, roll: &mut [u32]) -> usize
+    requires { Pools shape.arenas n books.now map.now
+        × (length (roll_pools (alignment_of shape.edition) shape.arenas books.now map.now 0 n) ≤ length roll.old) }
     ensures { Stored roll.old 0
-        (roll_pools (alignment_of shape.edition) shape.arenas books.now map.now 0 (shape.arenas * shape.pools))
+        (roll_pools (alignment_of shape.edition) shape.arenas books.now map.now 0 n)
         roll.new result }
 {
     let mut place: usize = 0;
-    for pool in 0..shape.arenas * shape.pools {
+    for pool in 0..n {
         place = roll_pool(books, map, shape, pool, roll, place);
     }
     place

@@ -9,6 +9,5 @@ use Rattle.loops.proofs.count_words.Given as goal
 abbrev pub invariant-loop-pool : goal.invariant-loop-pool
 invariant-loop-pool l =
     let s = l.shape in
-    let all = s.arenas * s.pools in
     let roll = roll_pools (alignment_of s.edition) s.arenas l.books l.map in
-    (l.words + length (roll l.pool (all - l.pool)) ≡ length (roll 0 all)) × (l.pool ≤ all)
+    (l.words + length (roll l.pool (l.n - l.pool)) ≡ length (roll 0 l.n)) × (l.pool ≤ l.n)

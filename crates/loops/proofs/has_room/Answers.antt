@@ -9,12 +9,12 @@ use Rattle.books.specs.Sizes.{aligned}
 use Rattle.loops.specs.Roll.{length_roll}
 use Rattle.loops.proofs.has_room.Goals as goal
 
-pub returns-then-shape-room : goal.returns-then-shape-room
-returns-then-shape-room c =
+pub returns-then-n-room : goal.returns-then-n-room
+returns-then-n-room c =
     let a = c.args in
     let s = a.shape in
-    let most = length_roll (alignment_of s.edition) s.arenas a.books.now a.map.now (aligned s.edition).low 0 (s.arenas * s.pools) in
+    let most = length_roll (alignment_of s.edition) s.arenas a.books.now a.map.now (aligned s.edition).low 0 a.n in
     sym (le-leb _ a.room (omega (arith, most)))
 
 pub returns : goal.returns
-returns c = ap (λ (n : ℕ). leb n c.args.room) c.count_words.ensures
+returns c = ap (λ (k : ℕ). leb k c.args.room) c.count_words.ensures

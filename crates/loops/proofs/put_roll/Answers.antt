@@ -11,13 +11,13 @@ pub loop-pool-init : goal.loop-pool-init
 loop-pool-init c =
     let a = c.args in
     let s = a.shape in
-    (begin (roll_parts (alignment_of s.edition) s.arenas a.books.now a.map.now (s.arenas * s.pools)) _ 0 _ refl, omega arith)
+    (begin (roll_parts (alignment_of s.edition) s.arenas a.books.now a.map.now a.n) _ 0 _ refl, omega arith)
 
 pub roll_pool-place-requires : goal.roll_pool-place-requires
 roll_pool-place-requires c =
     let a = c.args in
     let s = a.shape in
-    let f = fewer (roll_parts (alignment_of s.edition) s.arenas a.books.now a.map.now (s.arenas * s.pools)) c.loop-pool.pool (omega arith) in
+    let f = fewer (roll_parts (alignment_of s.edition) s.arenas a.books.now a.map.now a.n) c.loop-pool.pool (omega arith) in
     omega arith
 
 pub loop-pool-preserved : goal.loop-pool-preserved
@@ -25,7 +25,7 @@ loop-pool-preserved c =
     let p = c.loop-pool in
     let a = c.args in
     let s = a.shape in (
-      turn (roll_parts (alignment_of s.edition) s.arenas a.books.now a.map.now (s.arenas * s.pools)) p.pool (omega arith) p.invariant.0
+      turn (roll_parts (alignment_of s.edition) s.arenas a.books.now a.map.now a.n) p.pool (omega arith) p.invariant.0
           c.roll_pool-place.ensures,
       omega arith,
     )
@@ -38,4 +38,4 @@ returns c =
     let p = c.loop-pool in
     let a = c.args in
     let s = a.shape in
-    done (roll_parts (alignment_of s.edition) s.arenas a.books.now a.map.now (s.arenas * s.pools)) p.pool (omega arith) p.invariant.0
+    done (roll_parts (alignment_of s.edition) s.arenas a.books.now a.map.now a.n) p.pool (omega arith) p.invariant.0

@@ -8,6 +8,5 @@ use Rattle.loops.proofs.put_roll.Given as goal
 abbrev pub invariant-loop-pool : goal.invariant-loop-pool
 invariant-loop-pool l =
     let s = l.shape in
-    let all = s.arenas * s.pools in
     let roll = roll_pools (alignment_of s.edition) s.arenas l.books l.map in
-    Left l.initial.roll 0 (roll 0 all) l.roll l.place (roll l.pool (all - l.pool)) × (l.pool ≤ all)
+    Left l.initial.roll 0 (roll 0 l.n) l.roll l.place (roll l.pool (l.n - l.pool)) × (l.pool ≤ l.n)
