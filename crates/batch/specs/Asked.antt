@@ -1,22 +1,22 @@
 -- An ask on a heap whose shape is tested: the size's test, and then the step.
 -- Assumes nothing.
-use Rattle.std.specs.Prelude.{◌≡◌, ℕ}
-use Rattle.std.proofs.Common.{ap, ◌∙◌}
+use Rattle.std.specs.Prelude.{◌≡◌, refl, ℕ}
+use Rattle.std.proofs.Common.{sym}
 use Rattle.rules.specs.Books.{Heap, arenas, pools, alignment}
-use Rattle.rules.specs.Outcome.{refused, passing}
+use Rattle.rules.specs.Outcome.{refused}
 use Rattle.rules.specs.Ask.{ask_step}
-use Rattle.rules.specs.Numbers.{size_number, ask}
-use Rattle.books.specs.Passing.{stopped, last_test}
+use Rattle.rules.specs.Numbers.{shape_number, size_number, ask}
+use Rattle.books.specs.declared.refusal.Refusal.{Refusal}
+use Rattle.books.specs.Refusals.{number_of}
+use Rattle.books.specs.Passing.{refuses, lets_pass, size_refuses, all_pass}
 use Rattle.plans.specs.Kept.{Tested, shape_passes}
 
 module _ (h : Heap) (tested : Tested h) (n : ℕ) where
-  pub ask_refused : (k : ℕ) → k ≡ size_number n → (k ≡ 0 → ⊥) → ask h n ≡ refused k h
+  pub ask_refused : (r : Refusal) → number_of r ≡ size_number n → refused (number_of r) h ≡ ask h n
   unfolding ask
-  ask_refused k e d =
-      rw (shape_passes h tested, ← e)
-      (ap (λ (j : ℕ). passing j (λ i. refused i h) (ask_step (alignment h) (arenas h) (pools h) h n)) (last_test k)
-      ∙ stopped (λ i. refused i h) _ k d)
+  ask_refused r e =
+      refuses (λ k. refused k h) _ r _ (size_refuses r (shape_number h) (size_number n) 0 0 (sym (shape_passes h tested)) e)
 
-  pub ask_goes : size_number n ≡ 0 → ask h n ≡ ask_step (alignment h) (arenas h) (pools h) h n
+  pub ask_goes : 0 ≡ size_number n → ask_step (alignment h) (arenas h) (pools h) h n ≡ ask h n
   unfolding ask
-  ask_goes e = rw (shape_passes h tested, e)
+  ask_goes e = lets_pass (λ k. refused k h) _ _ _ (all_pass (sym (shape_passes h tested)) e refl refl) refl

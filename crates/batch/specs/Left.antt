@@ -5,13 +5,12 @@ use Rattle.std.specs.Prelude.{◌≡◌, length, get_or, set}
 use Rattle.std.proofs.Math.Path.{refl, sym, ap}
 use Rattle.std.proofs.Common.{◌∙◌, subst, arith}
 use mathlib.Core.List.{List, [], ◌∷◌, ◌++◌, append_assoc}
-use Prim.Native.Nat.{ℕ, zero, suc, ◌+◌, ◌<◌, ◌≤◌}
+use Prim.Native.Nat.{ℕ, ◌+◌, ◌<◌, ◌≤◌}
 use Rattle.std.proofs.Math.ListN.{length-append}
 use Rattle.std.proofs.Math.Seq.{get_or-append_seam}
-use Rattle.rules.specs.declared.Answer.{Answer}
 use Rattle.rules.specs.declared.Request.{Request}
 use Rattle.rules.specs.Books.{Heap}
-use Rattle.rules.specs.Outcome.{answer_of, passing}
+use Rattle.rules.specs.Outcome.{answer_of}
 use Rattle.rules.specs.Numbers.{ask}
 use Rattle.rules.specs.Batch.{
   request,
@@ -24,7 +23,9 @@ use Rattle.rules.specs.Batch.{
   batch_outcome,
   ask_all,
 }
-use Rattle.books.specs.Passing.{stopped, passed}
+use Rattle.books.specs.declared.refusal.Refusal.{Refusal}
+use Rattle.books.specs.Refusals.{number_of}
+use Rattle.books.specs.Passing.{refuses, lets_pass}
 use Rattle.plans.specs.Kept.{Tested, as_many}
 
 -- what stands past a row's end
@@ -77,11 +78,14 @@ module _ (h₀ : Heap) (first : List Request) where
         tested = tested;
       }
 
-  turn_left : (h : Heap) (now : List Request) (i : ℕ) (h' : Heap) (z : Request) → Left h now i → i < length now
+  pub begin : Tested h₀ → Left h₀ first 0
+  begin tested = record { done = []; rest = first; row = refl; place = refl; whole = refl; tested = tested }
+
+  pub turn : (h : Heap) (now : List Request) (i : ℕ) (h' : Heap) (z : Request) → Left h now i → i < length now
       → let r = get_or now i none in
       h' ≡ (ask h r.size).heap → z ≡ replied r (ask h r.size).answer → Tested h'
       → Left h' (set now i z) (i + 1)
-  turn_left h now i h' z l lt e f tested =
+  turn h now i h' z l lt e f tested =
       subst (λ (j : ℕ). Left h' (set now j z) (j + 1)) l.place
       (subst (λ (xs : List Request). Left h' (set xs (length l.done) z) (length l.done + 1)) (sym l.row)
       (next h l.done l.rest h' z l.whole
@@ -96,7 +100,7 @@ module _ (h₀ : Heap) (first : List Request) where
           ap (λ (xs : List Request). g (get_or xs i none)) l.row
           ∙ ap (λ (j : ℕ). g (get_or (l.done ++ l.rest) j none)) (sym l.place)
 
-  long : (h : Heap) (now : List Request) (i : ℕ) → Left h now i → length now ≡ length first
+  pub long : (h : Heap) (now : List Request) (i : ℕ) → Left h now i → length now ≡ length first
   long h now i l =
       ap length l.row
       ∙ length-append l.done l.rest
@@ -112,62 +116,23 @@ module _ (h₀ : Heap) (first : List Request) where
   ended h done [] le = refl
   ended h done (r ∷ rest) le = absurd (omega (arith, length-append done (r ∷ rest), le))
 
-  end_left : (h : Heap) (now : List Request) (i : ℕ) → Left h now i → length now ≤ i
+  end : (h : Heap) (now : List Request) (i : ℕ) → Left h now i → length now ≤ i
       → served h now ≡ one_by_one h₀ first
-  end_left h now i l le =
+  end h now i l le =
       ap (served h) l.row
       ∙ sym (ended h l.done l.rest
       (subst (λ (xs : List Request). length xs ≤ length l.done) l.row (rw l.place le)))
       ∙ sym l.whole
 
-  -- ---- the same where the tests answered `number`: of a row that they refuse none is served
-  abbrev pub Come : ℕ → Heap → List Request → ℕ → Type 0
-  Come zero h now i = Left h now i
-  Come (suc k) h now i = (h ≡ h₀) × (now ≡ first)
-
-  -- how many are gone through
-  abbrev pub wanted : ℕ → ℕ
-  wanted number = passing number (λ k. 0) (length first)
-
-  pub begin : (number : ℕ) → (number ≡ 0 → Tested h₀) → Come number h₀ first 0
-  begin zero tested = record { done = []; rest = first; row = refl; place = refl; whole = refl; tested = tested refl }
-  begin (suc k) tested = (refl, refl)
-
-  pub as_long : (number : ℕ) (h : Heap) (now : List Request) (i : ℕ) → Come number h now i
-      → length now ≡ length first
-  as_long zero h now i l = long h now i l
-  as_long (suc k) h now i l = ap length l.1
-
-  -- a turn is for a request of the row, on a heap that is tested
-  pub in_row : (number : ℕ) (h : Heap) (now : List Request) (i : ℕ) → Come number h now i → i < wanted number
-      → i < length now
-  in_row zero h now i l lt = omega (arith, long h now i l, lt)
-  in_row (suc k) h now i l lt = absurd (omega arith)
-
-  pub still_tested : (number : ℕ) (h : Heap) (now : List Request) (i : ℕ) → Come number h now i
-      → i < wanted number → Tested h
-  still_tested zero h now i l lt = l.tested
-  still_tested (suc k) h now i l lt = absurd (omega arith)
-
-  pub turn : (number : ℕ) (h : Heap) (now : List Request) (i : ℕ) (h' : Heap) (z : Request)
-      → Come number h now i → i < wanted number
-      → let r = get_or now i none in
-      h' ≡ (ask h r.size).heap → z ≡ replied r (ask h r.size).answer → Tested h'
-      → Come number h' (set now i z) (i + 1)
-  turn zero h now i h' z l lt = turn_left h now i h' z l (omega (arith, long h now i l, lt))
-  turn (suc k) h now i h' z l lt = absurd (omega arith)
-
-  -- the whole batch, where none is left
-  pub end : (number : ℕ) (h : Heap) (now : List Request) (i : ℕ) (r : Answer) → Come number h now i
-      → wanted number ≤ i → number ≡ batch_tests h₀ (length first) → r ≡ answer_of number 0
-      → batch_outcome r (served h now) ≡ ask_all h₀ first
+  -- the whole batch, where none is left and the tests were passed
+  pub goes_through : (h : Heap) (now : List Request) (i : ℕ) → Left h now i → length now ≤ i
+      → 0 ≡ batch_tests h₀ (length first) → batch_outcome (answer_of 0 0) (served h now) ≡ ask_all h₀ first
   unfolding ask_all
-  end zero h now i r l le e f =
-      ap (λ (x : Answer). batch_outcome x (served h now)) f
-      ∙ ap (batch_outcome (answer_of 0 0)) (end_left h now i l (omega (arith, long h now i l, le)))
-      ∙ sym (passed (λ j. batch_outcome (answer_of j 0) (served h₀ first)) _ _ (sym e))
-  end (suc k) h now i r l le e f =
-      ap (λ (x : Answer). batch_outcome x (served h now)) (f ∙ ap (λ (j : ℕ). answer_of j 0) e)
-      ∙ ap (λ (x : Heap). batch_outcome (answer_of (batch_tests h₀ (length first)) 0) (served x now)) l.0
-      ∙ ap (λ (xs : List Request). batch_outcome (answer_of (batch_tests h₀ (length first)) 0) (served h₀ xs)) l.1
-      ∙ sym (stopped (λ j. batch_outcome (answer_of j 0) (served h₀ first)) _ _ (λ z. absurd (omega (arith, e, z))))
+  goes_through h now i l le e =
+      lets_pass (λ k. batch_outcome (answer_of k 0) (served h₀ first)) _ _ _ e (ap (batch_outcome (answer_of 0 0)) (end h now i l le))
+
+-- a row that the tests refuse
+pub all_refused : (h : Heap) (row : List Request) (r : Refusal) → number_of r ≡ batch_tests h (length row)
+    → batch_outcome (answer_of (number_of r) 0) (served h row) ≡ ask_all h row
+unfolding ask_all
+all_refused h row r e = refuses (λ k. batch_outcome (answer_of k 0) (served h row)) _ r _ e

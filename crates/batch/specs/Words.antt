@@ -4,10 +4,9 @@
 use Rattle.std.specs.Prelude.{◌≡◌, refl, List, [], ◌∷◌, ◌++◌, ℕ, zero, suc, ◌+◌, ◌*◌, ◌/◌, ◌<◌, ◌≤◌, length, get_or, set, drop}
 use Rattle.std.proofs.Common.{sym, ◌∙◌, arith}
 use Rattle.std.proofs.Math.Path.{ap}
-use Rattle.rules.specs.declared.Answer.{Answer}
 use Rattle.rules.specs.declared.Request.{Request}
 use Rattle.rules.specs.Books.{Heap, at}
-use Rattle.rules.specs.Outcome.{answer_of, passing}
+use Rattle.rules.specs.Outcome.{answer_of}
 use Rattle.rules.specs.Numbers.{ask}
 use Rattle.rules.specs.Batch.{
   request,
@@ -20,7 +19,9 @@ use Rattle.rules.specs.Batch.{
   ask_rows,
 }
 use Rattle.plans.specs.Kept.{Tested}
-use Rattle.batch.specs.Left.{none, Come, wanted, begin, as_long, in_row, still_tested, turn, end}
+use Rattle.books.specs.declared.refusal.Refusal.{Refusal}
+use Rattle.books.specs.Refusals.{number_of}
+use Rattle.batch.specs.Left.{none, Left, begin, long, turn, goes_through, all_refused}
 
 -- ---- words as requests
 -- the words past the last whole request
@@ -41,17 +42,6 @@ entries_are [] = refl
 entries_are (s ∷ []) = refl
 entries_are (s ∷ k ∷ []) = refl
 entries_are (s ∷ k ∷ o ∷ words) = omega (arith, entries_are words)
-
-words_long : (now : List Request) (behind : List ℕ)
-    → length (in_words now ++ behind) ≡ 3 * length now + length behind
-unfolding in_words
-words_long [] behind = omega arith
-words_long (r ∷ now) behind = omega (arith, words_long now behind)
-
--- of a row that the tests refuse none is gone through
-at_most : (number entries : ℕ) → passing number (λ k. 0) entries ≤ entries
-at_most zero entries = omega arith
-at_most (suc k) entries = omega arith
 
 -- the word for request i's size, and those for its number and offset
 size_there : (now : List Request) (behind : List ℕ) (i : ℕ) → i < length now
@@ -74,45 +64,33 @@ put_there (r ∷ now) behind (suc i) k o lt =
     rw (q, p)
     (ap (λ (l : List ℕ). r.size ∷ r.number ∷ r.offset ∷ l) (put_there now behind i k o (omega arith)))
 
--- ---- of the heap h₀ and the words as they came, and those now, the tests having answered `number`
-module _ (h₀ : Heap) (first : List ℕ) (number : ℕ) where
+-- ---- of the heap h₀ and the words as they came, and those now
+module _ (h₀ : Heap) (first : List ℕ) where
   -- i requests are served
   pub record Rows (h : Heap) (words : List ℕ) (i : ℕ) : Type 0 where
     pub now : List Request
     pub laid : words ≡ in_words now ++ past first
-    pub come : Come h₀ (requests_in first) number h now i
+    pub left : Left h₀ (requests_in first) h now i
 
-  pub rows_begin : (number ≡ 0 → Tested h₀) → Rows h₀ first 0
+  pub rows_begin : Tested h₀ → Rows h₀ first 0
   rows_begin tested = record {
     now = requests_in first;
     laid = laid_out first;
-    come = begin h₀ (requests_in first) number tested;
+    left = begin h₀ (requests_in first) tested;
   }
 
   module _ {h : Heap} {words : List ℕ} {i : ℕ} (l : Rows h words i) where
-    pub rows_long : length words ≡ length first
-    rows_long =
-        ap length l.laid
-        ∙ words_long l.now (past first)
-        ∙ ap (λ (n : ℕ). 3 * n + length (past first))
-        (as_long h₀ (requests_in first) number h l.now i l.come)
-        ∙ sym (words_long (requests_in first) (past first))
-        ∙ ap length (sym (laid_out first))
+    as_many_now : length l.now ≡ length (requests_in first)
+    as_many_now = long h₀ (requests_in first) h l.now i l.left
 
-    -- the words of all requests that are gone through are in the row
-    pub rows_in : 3 * passing number (λ k. 0) (length first / 3) ≤ length words
-    rows_in = omega (arith, rows_long, at_most number (length first / 3))
+    -- the heap stays tested
+    pub rows_tested : Tested h
+    rows_tested = l.left.tested
 
-    -- a turn, on a heap that is tested
-    module _ (lt : i < passing number (λ k. 0) (length first / 3)) where
-      goes : i < wanted h₀ (requests_in first) number
-      goes = rw (sym (entries_are first)) lt
-
-      pub rows_tested : Tested h
-      rows_tested = still_tested h₀ (requests_in first) number h l.now i l.come goes
-
+    -- a turn
+    module _ (lt : i < length first / 3) where
       there : i < length l.now
-      there = in_row h₀ (requests_in first) number h l.now i l.come goes
+      there = omega (arith, lt, entries_are first, as_many_now)
 
       size_is : at words (3 * i) ≡ (get_or l.now i none).size
       size_is = ap (λ (w : List ℕ). at w (3 * i)) l.laid ∙ size_there l.now (past first) i there
@@ -129,18 +107,26 @@ module _ (h₀ : Heap) (first : List ℕ) (number : ℕ) where
             now = set l.now i new;
             laid = ap (λ (w : List ℕ). set (set w (3 * i + 1) z.number) (3 * i + 2) z.offset) l.laid
                 ∙ put_there l.now (past first) i z.number z.offset there;
-            come = turn h₀ (requests_in first) number h l.now i h' new l.come goes
+            left = turn h₀ (requests_in first) h l.now i h' new l.left there
                 (e ∙ ap (λ (s : ℕ). (ask h s).heap) size_is)
                 (ap (λ (q : Request). request size q.number q.offset) z-is) tested;
           }
 
-    -- the whole batch, where none is left
-    pub rows_end : (r : Answer) → passing number (λ k. 0) (length first / 3) ≤ i
-        → number ≡ batch_tests h₀ (length first / 3) → r ≡ answer_of number 0
-        → rows_outcome r h words ≡ ask_rows h₀ first
+    -- the whole batch, where none is left and the tests were passed
+    pub rows_end : length first / 3 ≤ i → 0 ≡ batch_tests h₀ (length first / 3)
+        → rows_outcome (answer_of 0 0) h words ≡ ask_rows h₀ first
     unfolding ask_rows
-    rows_end r le e f =
-        ap (rows_outcome r h) l.laid
+    rows_end le e =
+        ap (rows_outcome (answer_of 0 0) h) l.laid
         ∙ ap (λ (x : BatchOutcome). rows_outcome x.answer x.left.heap (in_words x.left.row ++ past first))
-        (end h₀ (requests_in first) number h l.now i r l.come
-        (rw (sym (entries_are first)) le) (e ∙ ap (batch_tests h₀) (entries_are first)) f)
+        (goes_through h₀ (requests_in first) h l.now i l.left (omega (arith, le, entries_are first, as_many_now))
+        (e ∙ ap (batch_tests h₀) (entries_are first)))
+
+-- a row that the tests refuse
+pub rows_refused : (h : Heap) (first : List ℕ) (r : Refusal) → number_of r ≡ batch_tests h (length first / 3)
+    → rows_outcome (answer_of (number_of r) 0) h first ≡ ask_rows h first
+unfolding ask_rows
+rows_refused h first r e =
+    ap (rows_outcome (answer_of (number_of r) 0) h) (laid_out first)
+    ∙ ap (λ (x : BatchOutcome). rows_outcome x.answer x.left.heap (in_words x.left.row ++ past first))
+    (all_refused h (requests_in first) r (e ∙ ap (batch_tests h) (entries_are first)))

@@ -4,72 +4,81 @@
 // answers and what it leaves, in the row too, is what the rules say.
 #![tactic(auto)]
 
-ghost use Rattle.std.specs.Prelude.{◌≡◌};
-ghost use Rattle.rules.specs.Outcome.{heap_of, passing};
+ghost use Rattle.std.specs.Prelude.{◌≡◌, OnOk};
+ghost use Rattle.rules.specs.Outcome.{heap_of, outcome};
 ghost use Rattle.rules.specs.Numbers.{ask};
 ghost use Rattle.rules.specs.Batch.{replied, batch_tests};
 ghost use Rattle.rules.specs.Promises.{AskAllPromise, AskRowsPromise};
+ghost use Rattle.books.specs.Refusals.{number_in, done_in, answer_in};
 ghost use Rattle.plans.specs.Kept.{Tested};
 
-use asks::answers::{answer, refuse};
 use asks::ask::ask_step;
-use books::numbers::{DOES_NOT_FIT, shape_number, size_number};
+use books::numbers::{test_shape, test_size};
+use books::refusal::Refusal;
 use books::words::shape_of;
-use rules::{Answer, Request};
+use rules::Request;
 
 // The most requests in a row.
 const MOST_ENTRIES: usize = 4096;
 
-// The number of the tests that come once, first: 1 or 2, then 7; and 0 where the row can be gone through.
-fn batch_number(memory: &[u8], books: &[u32], map: &[u64], entries: usize) -> u32
-    ensures { (result ≡ batch_tests (heap_of memory.now books.now map.now) entries)
-        × (result ≡ 0 → Tested (heap_of memory.now books.now map.now)) }
+// The row can be gone through: the tests that come once, first, are passed, 1 and 2 and then 7.
+fn test_batch(memory: &[u8], books: &[u32], map: &[u64], entries: usize) -> Result<(), Refusal>
+    ensures number { number_in result ≡ batch_tests (heap_of memory.now books.now map.now) entries }
+    ensures tested { OnOk result (Tested (heap_of memory.now books.now map.now)) }
 {
-    let number = shape_number(memory, books, map);
-    if number != 0 {
-        return number;
-    }
+    test_shape(memory, books, map)?;
     if MOST_ENTRIES < entries {
-        return DOES_NOT_FIT;
+        return Err(Refusal::DoesNotFit);
     }
-    0
+    Ok(())
 }
 
-// How many requests are gone through: none where the tests refuse.
-fn how_many(number: u32, entries: usize) -> usize
-    ensures { result ≡ passing number (λ k. 0) entries }
+// Ask, on a heap whose shape is tested.
+fn ask_tested(
+    memory: &mut [u8],
+    books: &mut [u32],
+    map: &mut [u64],
+    size: usize,
+) -> Result<u32, Refusal>
+    requires { Tested (heap_of memory.old books.old map.old) }
+    ensures asks { outcome (answer_in result) (heap_of memory.new books.new map.new)
+        ≡ ask (heap_of memory.old books.old map.old) size }
+    ensures tested { Tested (heap_of memory.new books.new map.new) }
 {
-    if number != 0 {
-        return 0;
+    test_size(size)?;
+    let shape = shape_of(books);
+    ask_step(memory, books, map, shape, size)
+}
+
+// The request with what an ask answered in the places for it.
+fn reply(request: Request, asked: Result<u32, Refusal>) -> Request
+    ensures { result ≡ replied request (answer_in asked) }
+{
+    match asked {
+        Ok(offset) => Request {
+            number: 0,
+            offset,
+            ..request
+        },
+        Err(refusal) => Request {
+            number: u32::from(refusal),
+            offset: 0,
+            ..request
+        },
     }
-    entries
 }
 
 // One request, on a heap whose shape is tested: the ask for its size, and the answer in the places for it.
 fn serve(memory: &mut [u8], books: &mut [u32], map: &mut [u64], request: Request) -> Request
     requires { Tested (heap_of memory.old books.old map.old) }
-    ensures { (heap_of memory.new books.new map.new
-        ≡ (ask (heap_of memory.old books.old map.old) request.size).heap)
-        × (result ≡ replied request
-        (ask (heap_of memory.old books.old map.old) request.size).answer)
-        × Tested (heap_of memory.new books.new map.new) }
+    ensures heap { heap_of memory.new books.new map.new
+        ≡ (ask (heap_of memory.old books.old map.old) request.size).heap }
+    ensures places { result ≡ replied request
+        (ask (heap_of memory.old books.old map.old) request.size).answer }
+    ensures tested { Tested (heap_of memory.new books.new map.new) }
 {
-    let size = request.size as usize;
-    let number = size_number(size);
-    if number != 0 {
-        return Request {
-            size: request.size,
-            number,
-            offset: 0,
-        };
-    }
-    let s = shape_of(books);
-    let reply = answer(ask_step(memory, books, map, s.arenas, s.pools, size));
-    Request {
-        size: request.size,
-        number: reply.number,
-        offset: reply.offset,
-    }
+    let asked = ask_tested(memory, books, map, request.size as usize);
+    reply(request, asked)
 }
 
 // What stands in a request's places before it is served is not read.
@@ -77,32 +86,29 @@ const UNREAD: u32 = 0;
 
 // Ask all, over a row of numbers: three words for each request, its size and the places for number and offset. Words
 // past the last whole one stay.
-pub fn ask_rows(memory: &mut [u8], books: &mut [u32], map: &mut [u64], row: &mut [u32]) -> Answer
+pub fn ask_rows(
+    memory: &mut [u8],
+    books: &mut [u32],
+    map: &mut [u64],
+    row: &mut [u32],
+) -> Result<(), Refusal>
     ensures { AskRowsPromise (heap_of memory.old books.old map.old)
-        (heap_of memory.new books.new map.new) row.old row.new result }
+        (heap_of memory.new books.new map.new) row.old row.new (done_in result) }
 {
     let entries = row.len() / 3;
-    let number = batch_number(memory, books, map, entries);
-    let wanted = how_many(number, entries);
-    let mut i: usize = 0;
-    while i < wanted {
+    test_batch(memory, books, map, entries)?;
+    for i in 0..entries {
         let at = 3 * i;
-        let size = row[at];
-        let served = serve(
-            memory,
-            books,
-            map,
-            Request {
-                size,
-                number: UNREAD,
-                offset: UNREAD,
-            },
-        );
+        let request = Request {
+            size: row[at],
+            number: UNREAD,
+            offset: UNREAD,
+        };
+        let served = serve(memory, books, map, request);
         row[at + 1] = served.number;
         row[at + 2] = served.offset;
-        i += 1;
     }
-    refuse(number)
+    Ok(())
 }
 
 // Ask all: each request of the row is the ask for its size, on what those before it left; a refusal does not stop the
@@ -112,18 +118,14 @@ pub fn ask_all(
     books: &mut [u32],
     map: &mut [u64],
     requests: &mut [Request],
-) -> Answer
+) -> Result<(), Refusal>
     ensures { AskAllPromise (heap_of memory.old books.old map.old)
         (heap_of memory.new books.new map.new)
-        requests.old requests.new result }
+        requests.old requests.new (done_in result) }
 {
-    let entries = requests.len();
-    let number = batch_number(memory, books, map, entries);
-    let n = how_many(number, entries);
-    let mut i: usize = 0;
-    while i < n {
+    test_batch(memory, books, map, requests.len())?;
+    for i in 0..requests.len() {
         requests[i] = serve(memory, books, map, requests[i]);
-        i = i + 1;
     }
-    refuse(number)
+    Ok(())
 }
