@@ -88,16 +88,16 @@ fn take_from(books: &mut [u32], shape: Shape, source: Source, p: usize) -> usize
     match source {
         Source::Freed(a) => {
             take_freed(books, shape.arenas, a, p);
-            return a;
+            a
         }
         Source::Carved(a) => {
             carve(books, shape.arenas, a, p);
-            return a;
+            a
         }
         Source::Opened(a) => {
             open_arena(books, shape, a);
             carve(books, shape.arenas, a, p);
-            return a;
+            a
         }
     }
 }

@@ -1,8 +1,8 @@
 -- What becomes of an arena, one of whose pools comes free: what its path knows of the arenas' lists once it is planned,
 -- whatever the books hold; and its writes.
 -- Assumes nothing.
-use Rattle.std.specs.Prelude.{◌≡◌, refl, ◌≢◌, true, false, List, [], leb, eqb, length, replicate}
-use Rattle.std.proofs.Common.{sym, ◌∙◌, inl, true≢false, leb-true}
+use Rattle.std.specs.Prelude.{◌≡◌, refl, ◌≢◌, true, false, List, [], Option, None, Some, leb, eqb, length, replicate}
+use Rattle.std.proofs.Common.{◌∙◌, inl, leb-true}
 use Prim.Native.Nat.{ℕ, zero, suc, ◌+◌, ◌-◌, ◌≤◌, ◌<◌}
 use native.Mathlib.Omega.{arith}
 use Rattle.std.proofs.lemmas.List.Edits.{sets}
@@ -10,13 +10,26 @@ use Rattle.std.proofs.Math.Seq.{length-sets}
 use Rattle.std.proofs.lemmas.Bool.{eqb-false}
 use Rattle.rules.specs.declared.BackPlan.{BackPlan}
 use Rattle.rules.specs.declared.BackPlan.TheVariants.{Damaged, Joins, Stays, Empties, Moves, Returns, Releases}
-use Rattle.rules.specs.Books.{at, usable_head, unused_head, free_pools, arena_next, arena_previous, arena_word, arena, none?, linked}
+use Rattle.rules.specs.Books.{at, books_length, usable_head, unused_head, free_pools, arena_next, arena_previous, arena_word, arena, none?, linked}
 use Rattle.rules.specs.Lists.{next_at, previous_at, leave, join, may_leave, may_join, arena_links}
 use Rattle.rules.specs.Outcome.{heap_of}
 use Rattle.rules.specs.GiveBack.{passes, goes_in, walk, settling, move_after, release}
+use Rattle.books.specs.declared.words.Shape.{Shape}
 use Rattle.books.specs.Tests.{either, after}
 use Rattle.books.specs.Lists.{Links, links, before_links, leave_keeps, length_leave_by}
 use Rattle.loops.specs.Sets.{sets_other}
+use Rattle.plans.specs.Range.{Range}
+
+-- ---- an arena, a, of books of the shape
+pub record ArenaIn (s : Shape) (b : List ℕ) (a : ℕ) : Type 0 where
+  pub range : Range s.arenas s.pools
+  pub books : length b ≡ books_length s.arenas s.pools
+  pub there : a < s.arenas
+
+-- the link to an arena, if any
+abbrev pub link_in : Option ℕ → ℕ
+link_in None = 0
+link_in (Some n) = n + 1
 
 -- ---- the walk by the tests that its function makes
 module _ (A : ℕ) (b : List ℕ) (a : ℕ) where
@@ -42,11 +55,6 @@ module _ (A : ℕ) (b : List ℕ) (a : ℕ) where
   unfolding walk
   walk_on zero next last z e f = absurd (z refl)
   walk_on (suc more) next last z e f = let less : suc more - 1 ≡ more = omega arith in rw (e, f, less)
-
-  -- who is passed is there
-  pub passes_some : (next : ℕ) → passes A b a next ≡ true → next ≢ 0
-  passes_some zero e = absurd (true≢false (sym e))
-  passes_some (suc next) e = λ z. absurd (omega arith)
 
 -- ---- what a planned path knows
 -- the links that will be used lead to arenas or to none; Joins and Stays are no paths of an arena

@@ -25,7 +25,7 @@ use Rattle.books.specs.declared.pool.Pool.{Pool}
 use Rattle.books.specs.Lists.{pool_may_leave}
 use Rattle.books.specs.Records.{pool_at, may_give, links_lead}
 use Rattle.steps.specs.Arenas.{FitsArena, settled}
-use Rattle.steps.specs.Backs.{gave, may_empty}
+use Rattle.steps.specs.Backs.{may_empty}
 
 -- a give-back whose class and path are known, and so what it leaves
 pub step_is : (al A P c : ℕ) (h : Heap) (o : ℕ) (x : Outcome) (q : BackPlan) → c ≡ class_at A h.books o
@@ -36,7 +36,7 @@ step_is al A P c h o x q e f g =
     g ∙ ap (given_back al A P c h o) (sym f) ∙ ap (λ (d : ℕ). given_back al A P d h o (plan_back al A P h.books d (o / 4096))) e
 
 -- one that ends at a broken rule is refused, and changes nothing
-pub damaged : (al A P c : ℕ) (h : Heap) (o : ℕ) → outcome (gave o 6) h ≡ given_back al A P c h o Damaged
+pub damaged : (al A P c : ℕ) (h : Heap) (o : ℕ) → outcome (answer_of 6 0) h ≡ given_back al A P c h o Damaged
 unfolding back_answer after_back
 damaged al A P c h o = refl
 
@@ -78,26 +78,25 @@ module _ (al A P : ℕ) (b : List ℕ) (c p : ℕ) (q : Pool) (loaded : q ≡ po
       → plan_back al A P b c p ≡ Joins
   joins t z u = rw (plan_is (size_of al c) q.freeblock refl refl, t, eq-eqb q.freeblock 0 z, u)
 
--- ---- and of the last block of its pool, whose arena a has so many free pools
+-- ---- and of the last block of its pool, of arena a
 -- the rules of the pool's return, made one test
 one_test : (x y z : Bool) (rest : BackPlan) → (x ⇛ y ⇛ z ⇛ rest) ≡ (x && y && z ⇛ rest)
 one_test true true z rest = refl
 one_test true false z rest = refl
 one_test false y z rest = refl
 
-module _ (al A P : ℕ) (b : List ℕ) (c p a free : ℕ) (q : Pool) (loaded : q ≡ pool_at A b p)
-    (home : a ≡ p / P) (so-many : free ≡ arena b free_pools a) where
-  emptying_is : emptying al A P b c p ≡ (may_empty A P a q free b ⇛ settling A b a P)
+module _ (al A P : ℕ) (b : List ℕ) (c p a : ℕ) (q : Pool) (loaded : q ≡ pool_at A b p) (home : a ≡ p / P) where
+  emptying_is : emptying al A P b c p ≡ (may_empty A P a q b ⇛ settling A b a P)
   unfolding emptying
   emptying_is =
-      rw (so-many, home, loaded, pool_may_leave (A * P) A p b)
+      rw (home, loaded, pool_may_leave (A * P) A p b)
       (one_test (links_lead (pool_at A b p) (A * P)) (leb (arena b freed_head (p / P)) (A * P)) (leb (arena b free_pools (p / P)) (P - 1))
       (settling A b (p / P) P))
 
-  pub stuck : may_empty A P a q free b ≡ false → emptying al A P b c p ≡ Damaged
+  pub stuck : may_empty A P a q b ≡ false → emptying al A P b c p ≡ Damaged
   stuck t = rw (emptying_is, t)
 
-  pub settles : may_empty A P a q free b ≡ true → emptying al A P b c p ≡ settling A b a P
+  pub settles : may_empty A P a q b ≡ true → emptying al A P b c p ≡ settling A b a P
   settles t = rw (emptying_is, t)
 
 -- what a give-back leaves that empties its pool: the block is taken back, the pool goes to its arena, and the arena

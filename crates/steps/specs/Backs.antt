@@ -1,6 +1,6 @@
 -- The books after each part of a give-back, and the words that a part leaves as they were for the next.
 -- Assumes nothing.
-use Rattle.std.specs.Prelude.{◌≡◌, refl, ◌≢◌, Bool, true, ◌&&◌, List, [], ℕ, zero, suc, ◌+◌, ◌*◌, ◌-◌, ◌/◌, ◌%◌, ◌≤◌, ◌<◌, leb, length}
+use Rattle.std.specs.Prelude.{◌≡◌, ◌≢◌, Bool, true, ◌&&◌, List, [], Result, Ok, Err, ⊤, ℕ, ◌+◌, ◌*◌, ◌-◌, ◌/◌, ◌%◌, ◌≤◌, ◌<◌, leb, length}
 use Rattle.std.proofs.Common.{◌∙◌, arith, leb-true, length-set, get_or-set_other}
 use Rattle.rules.specs.declared.Answer.{Answer}
 use Rattle.rules.specs.declared.BackPlan.{BackPlan}
@@ -24,63 +24,63 @@ use Rattle.rules.specs.Books.{
   pool_word,
   pool,
 }
-use Rattle.rules.specs.Blocks.{size_of, block_no, class_at, size_at}
+use Rattle.rules.specs.Blocks.{size_of, block_no, class_at}
 use Rattle.rules.specs.Lists.{next_at, previous_at, leave, arena_links, pool_links}
 use Rattle.rules.specs.GiveBack.{take_back, empty}
-use Rattle.rules.specs.Outcome.{heap_of, answer_of, passing}
+use Rattle.rules.specs.Outcome.{heap_of, answer_of}
 use Rattle.books.specs.declared.pool.Pool.{Pool}
+use Rattle.books.specs.declared.refusal.Refusal.{Refusal}
+use Rattle.books.specs.Refusals.{number_of}
+use Rattle.books.specs.declared.numbers.Block.{Block}
 use Rattle.books.specs.Sizes.{Aligned, size_low, size_high, class_low}
-use Rattle.books.specs.Known.{LiveBlock}
+use Rattle.books.specs.Known.{BlockAt}
 use Rattle.books.specs.Records.{pool_at, may_give, links_lead, leads}
 use Rattle.books.specs.Starts.{Start}
 use Rattle.books.specs.Tests.{both}
 use Rattle.books.specs.Lists.{Links, before_links, leave_keeps, length_leave_by, pool_leave_keeps}
 use Rattle.steps.specs.Arenas.{FitsArena}
 
--- ---- what a give-back answers, as one number, which comes back in a register
--- of offset o: its number
-abbrev pub gave : ℕ → ℕ → Answer
-gave o r = passing r (λ n. answer_of n 0) (answer_of 0 o)
-
-pub gave_number : (o r : ℕ) → (gave o r).number ≡ r
-gave_number o zero = refl
-gave_number o (suc r) = refl
+-- ---- what a give-back of offset o answers, by its result
+abbrev pub gave : ℕ → Result ⊤ Refusal → Answer
+gave o (Ok _) = answer_of 0 o
+gave o (Err refusal) = answer_of (number_of refusal) 0
 
 -- two heaps are the same where their three buffers are
 pub heap_is : {m m' b b' k k' : List ℕ} → m ≡ m' → b ≡ b' → k ≡ k' → ◌≡◌ {A = Heap} (heap_of m b k) (heap_of m' b' k')
 heap_is {m} {m'} {b} {b'} {k} {k'} e f g = cc
 
 -- ---- what a give-back knows once its tests have passed
--- block k of pool p, at f, p's record being q: it is there, and its pool counts it, at the alignment al
-pub record Counted (al A P p f k : ℕ) (q : Pool) (b : List ℕ) : Type 0 where
-  pub loaded : q ≡ pool_at A b p
+-- the block at offset o is there, and its pool, whose record is q, counts it, at the alignment al
+pub record Counted (al A P o : ℕ) (block : Block) (q : Pool) (b : List ℕ) : Type 0 where
+  pub loaded : q ≡ pool_at A b (o / 4096)
   pub class : q.class ≤ 63
   pub low : 8 ≤ size_of al q.class
   pub high : size_of al q.class ≤ 512
-  pub there : p < A * P
-  pub start : Start (size_of al q.class) f
-  pub number : k ≡ block_no (size_of al q.class) f
+  pub there : o / 4096 < A * P
+  pub start : Start (size_of al q.class) (o % 4096)
+  pub number : block.number ≡ block_no (size_of al q.class) (o % 4096)
+  pub size : block.size ≡ size_of al q.class
   pub some : 1 ≤ q.count
 
 -- a live block is one if the test of the count has passed
-pub counted : {al : ℕ} → Aligned al → (A P k o : ℕ) (q : Pool) (b m : List ℕ) → q ≡ pool_at A b (o / 4096)
-    → LiveBlock al A P b m o → k ≡ block_no (size_at al A b o) (o % 4096)
-    → may_give q ≡ true → Counted al A P (o / 4096) (o % 4096) k q b
-counted L A P k o q b m loaded live number t =
+pub counted : {al : ℕ} → Aligned al → (A P o : ℕ) (block : Block) (q : Pool) (b m : List ℕ)
+    → q ≡ pool_at A b (o / 4096) → BlockAt al A P b m o block → may_give q ≡ true → Counted al A P o block q b
+counted L A P o block q b m loaded t gives =
     record {
       loaded = loaded;
-      class = rw loaded (omega (arith, class_low L (class_at A b o) live.class));
-      low = rw loaded (size_low L (class_at A b o) live.class);
-      high = rw loaded (size_high L (class_at A b o) live.class);
-      there = live.pool;
-      start = rw loaded live.start;
-      number = rw loaded number;
-      some = leb-true 1 q.count (both (leb 1 q.count) (leb q.count 506) t).0;
+      class = rw loaded (omega (arith, class_low L (class_at A b o) t.live.class));
+      low = rw loaded (size_low L (class_at A b o) t.live.class);
+      high = rw loaded (size_high L (class_at A b o) t.live.class);
+      there = t.live.pool;
+      start = rw loaded t.live.start;
+      number = rw loaded t.number;
+      size = rw loaded t.size;
+      some = leb-true 1 q.count (both (leb 1 q.count) (leb q.count 506) gives).0;
     }
 
--- the pool of record q may leave its class list and return to its arena a, which has so many free pools
-abbrev pub may_empty : ℕ → ℕ → ℕ → Pool → ℕ → List ℕ → Bool
-may_empty A P a q free b = links_lead q (A * P) && leb (arena b freed_head a) (A * P) && leb free (P - 1)
+-- the pool of record q may leave its class list and return to its arena a
+abbrev pub may_empty : ℕ → ℕ → ℕ → Pool → List ℕ → Bool
+may_empty A P a q b = links_lead q (A * P) && leb (arena b freed_head a) (A * P) && leb (arena b free_pools a) (P - 1)
 
 -- pool p has the links of the record q, and may do so
 pub record FitsEmpty (A P p : ℕ) (q : Pool) (b : List ℕ) : Type 0 where
@@ -90,19 +90,18 @@ pub record FitsEmpty (A P p : ℕ) (q : Pool) (b : List ℕ) : Type 0 where
   pub head : arena b freed_head (p / P) ≤ A * P
   pub free : arena b free_pools (p / P) ≤ P - 1
 
-pub fits_empty : (A P a p free : ℕ) (q : Pool) (b : List ℕ) → q ≡ pool_at A b p → a ≡ p / P
-    → free ≡ arena b free_pools a
-    → may_empty A P a q free b ≡ true
+pub fits_empty : (A P a p : ℕ) (q : Pool) (b : List ℕ) → q ≡ pool_at A b p → a ≡ p / P
+    → may_empty A P a q b ≡ true
     → FitsEmpty A P p q b
-fits_empty A P a p free q b loaded home so-many e =
-    let t = both (links_lead q (A * P) && leb (arena b freed_head a) (A * P)) (leb free (P - 1)) e in
+fits_empty A P a p q b loaded home e =
+    let t = both (links_lead q (A * P) && leb (arena b freed_head a) (A * P)) (leb (arena b free_pools a) (P - 1)) e in
     let u = both (links_lead q (A * P)) (leb (arena b freed_head a) (A * P)) t.0 in
     record {
       next = rw loaded;
       previous = rw loaded;
       links = leads q (A * P) u.0;
       head = rw (← home) (leb-true _ (A * P) u.1);
-      free = rw (← home, ← so-many) (leb-true free (P - 1) t.1);
+      free = rw (← home) (leb-true _ (P - 1) t.1);
     }
 
 -- ---- the books' part of each write

@@ -3,4 +3,5 @@
 pub mod Arenas
 pub mod Backs
 pub mod BackPath
+pub mod Moved
 pub mod Moves

@@ -2,21 +2,22 @@
 -- meet; and a resize by its parts.
 -- Assumes nothing.
 use Rattle.std.specs.Prelude.{◌≡◌, refl, List, Bool, true, false, ◌⊎◌, ℕ, zero, suc, ◌+◌, ◌-◌, ◌/◌, ◌%◌, ◌≤◌, ◌<◌, min}
-use Rattle.std.proofs.Math.Path.{sym}
+use Rattle.std.proofs.Math.Path.{sym, subst}
 use Rattle.std.proofs.Common.{ap, ap₂, ◌∙◌, inl, inr, mul-le-mul_right, suc-mul, mul-add, mul-one, mul-zero, mod-lt, arith}
 use Rattle.std.proofs.Math.Nat.{div-add-mod, zero-div, min-le_left, min-le_right}
 use Rattle.std.proofs.Math.Decide.{dec_lt, ℕ_discrete}
 use Rattle.rules.specs.Books.{Heap, memory_length, is_set, class, pool, offset_of}
 use Rattle.rules.specs.Blocks.{class_of, size_of, start_of, block_no, size_at}
-use Rattle.rules.specs.declared.Answer.{Answer}
 use Rattle.rules.specs.declared.AskPlan.{AskPlan}
 use Rattle.rules.specs.declared.AskPlan.TheVariants.{NoRoom, Damaged, Follow, Ready, Last, Again, Anew}
-use Rattle.rules.specs.Outcome.{outcome, done}
+use Rattle.rules.specs.Outcome.{Outcome, done, refused}
 use Rattle.rules.specs.Ask.{plan_ask, ask_answer, ask_step}
 use Rattle.rules.specs.Resize.{keeps, copy, give_old, half_done, moved, resize_step}
 use Rattle.books.specs.Known.{LiveBlock}
 use Rattle.loops.specs.Copy.{Apart}
-use Rattle.books.specs.Passing.{stopped, passed}
+use Rattle.books.specs.declared.refusal.Refusal.{Refusal}
+use Rattle.books.specs.Passing.{stopped}
+use Rattle.books.specs.Refusals.{number_of, number_low}
 use Rattle.plans.specs.Fits.{Spare, FitsAsk, fits_ask}
 
 -- ---- sizes
@@ -50,8 +51,10 @@ module _ (a b k : ℕ) where
       go (yes q) = inl (omega (arith, suc-mul i s, mul-le-mul_right s q))
       go (no q) = let r : suc j ≤ i = omega arith in inr (omega (arith, suc-mul j s, mul-le-mul_right s r))
 
--- k bytes can be copied from one offset to the other: the two runs do not meet, and both lie in memory
+-- k bytes can be copied from one offset to the other, which is a block's: the two runs do not meet, and both lie in
+-- memory
 pub record Moves (A P from to k : ℕ) : Type 0 where
+  pub low : 48 ≤ to
   pub apart : Apart from to k
   pub old_inside : from + k ≤ memory_length A P
   pub new_inside : to + k ≤ memory_length A P
@@ -122,6 +125,7 @@ module _ (al A P : ℕ) (h : Heap) (o n : ℕ) (low : 8 ≤ al) (old : LiveBlock
         let a = min-le_right n s₀ in
         let b : k ≤ s = omega (arith, min-le_left n s₀, class_holds al n (omega arith)) in
         record {
+          low = omega (arith, g.place, g.spare.start.low);
           apart = go (ℕ_discrete p₀ g.p) a b;
           old_inside = omega (arith, old.ends);
           new_inside = omega (arith, g.spare.start.ends, g.place, g.spare.there);
@@ -135,31 +139,34 @@ module _ (al A P : ℕ) (h : Heap) (o n : ℕ) (low : 8 ≤ al) (old : LiveBlock
             (omega (arith, g.spare.start.ends))
 
   -- "copy the first min(n, s) bytes": where the ask is done, they can be copied to the block that it hands out
-  pub moves_apart : (ask_step al A P h n).answer.number ≡ 0 → Moves A P o (ask_step al A P h n).answer.offset (min n s₀)
+  pub moves_apart : (to : ℕ) (left : Heap) → done to left ≡ ask_step al A P h n → Moves A P o to k
   unfolding ask_step
-  moves_apart e =
-      moves (ask_step al A P h n).answer.offset
+  moves_apart to left e =
+      moves to
+      (subst (Handed A P (size_of al c) c h.books h.map) (sym (ap (λ (x : Outcome). x.answer.offset) e))
       (handed A P (size_of al c) c h.books h.map (plan_ask al A P h c)
-      (fits_ask al A P h c (omega (arith, class_holds al n (omega arith))) (some_pools A P o old.inside)) e)
+      (fits_ask al A P h c (omega (arith, class_holds al n (omega arith))) (some_pools A P o old.inside))
+      (sym (ap (λ (x : Outcome). x.answer.number) e))))
 
 -- ---- a resize by its test: the offset is kept, or the block moves
 module _ (al A P : ℕ) (h : Heap) (o n : ℕ) where
-  pub resize_kept : keeps (size_at al A h.books o) n ≡ true → done o h ≡ resize_step al A P h o n
+  abbrev size : ℕ
+  size = size_at al A h.books o
+
+  pub resize_kept : keeps size n ≡ true → done o h ≡ resize_step al A P h o n
   unfolding resize_step
   resize_kept e = rw e
 
-  pub resize_moved : keeps (size_at al A h.books o) n ≡ false
-      → moved al A P o (min n (size_at al A h.books o)) (ask_step al A P h n) ≡ resize_step al A P h o n
-  unfolding resize_step
-  resize_moved e = rw e
+  -- after an ask that is refused, and after one that is done
+  module _ (moves : keeps size n ≡ false) (left : Heap) where
+    pub resize_refused : (r : Refusal) → refused (number_of r) left ≡ ask_step al A P h n
+        → refused (number_of r) left ≡ resize_step al A P h o n
+    unfolding resize_step moved
+    resize_refused r asked =
+        rw (moves, ← asked)
+        (sym (stopped (λ _. refused (number_of r) left) _ (number_of r) (λ z. absurd (omega (arith, number_low r, z)))))
 
--- a move after an ask that was refused, and after one that was done
-module _ (al A P o k : ℕ) (r : Answer) (h : Heap) where
-  pub moved_refused : (r.number ≡ 0 → ⊥) → outcome r h ≡ moved al A P o k (outcome r h)
-  unfolding moved
-  moved_refused n = sym (stopped (λ _. outcome r h) _ r.number n)
-
-  pub moved_done : r.number ≡ 0
-      → half_done al A P r.offset (give_old al A P (copy o r.offset k h) o) ≡ moved al A P o k (outcome r h)
-  unfolding moved
-  moved_done e = sym (passed (λ _. outcome r h) _ r.number e)
+    pub resize_moves : (to : ℕ) → done to left ≡ ask_step al A P h n
+        → half_done al A P to (give_old al A P (copy o to (min n size) left) o) ≡ resize_step al A P h o n
+    unfolding resize_step moved
+    resize_moves to asked = rw (moves, ← asked)

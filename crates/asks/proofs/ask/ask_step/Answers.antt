@@ -1,7 +1,6 @@
 -- `asks::ask::ask_step` goes by the class head, as the rules do; what a new pool's path knows of its numbers follows
 -- from the plan being the rules' own.
 use Rattle.std.proofs.Common.{arith}
-use Rattle.rules.specs.Books.{alignment_of}
 use Rattle.rules.specs.Ask.{plan_ask, ask_answer, after_ask, ask_step}
 use Rattle.rules.specs.Outcome.{heap_of}
 use Rattle.plans.specs.Fits.{fits_new}
@@ -12,8 +11,8 @@ write_new-requires c =
     let a = c.args in
     let class = c.serving-class.result in
     let h = heap_of a.memory.now a.books.now a.map.now in
-    let fits = fits_new (alignment_of class.edition) a.shape.arenas a.shape.pools h class.number (omega (arith, class.sized, class.size_low)) (omega (arith, c.requires.0.pools_low)) in
-    (c.requires.0, rw (c.plan_new-plan.ensures, class.sized) fits)
+    let low = rw class.sized at class.size_low in
+    (c.requires.0, rw (c.plan_new-plan.ensures, class.sized) (fits_new _ _ _ h class.number low (omega (arith, c.requires.0.pools_low))))
 
 pub returns-in-None : goal.returns-in-None
 unfolding ask_step plan_ask

@@ -3,14 +3,10 @@
 use mathlib.Core.Path.{refl, ap}
 use mathlib.Core.List.{List}
 use Prim.Native.Nat.{ℕ}
-use lib.ListN.{length-set}
 use Rattle.rules.specs.Books.{put, class_head, link_to}
 use Rattle.rules.specs.Outcome.{heap_of}
 use Rattle.books.specs.Records.{anew_stored}
 use Rattle.asks.proofs.ask.list_anew.Goals as goal
-
-pub shape_of-books : goal.shape_of-books
-shape_of-books c = simp (length-set, c.store_pool.auto.books)
 
 pub returns : goal.returns
 returns c al P =

@@ -3,19 +3,9 @@ use mathlib.Core.Path.{ap, ◌∙◌}
 use mathlib.Core.List.{List}
 use Prim.Native.Nat.{ℕ}
 use native.Mathlib.Omega.{arith}
-use lib.ListN.{length-set}
 use Rattle.rules.specs.Outcome.{heap_of}
-use Rattle.asks.specs.HandOut.{spend_stays, spend_leaves, spend_links}
+use Rattle.asks.specs.HandOut.{spend_stays, spend_leaves}
 use Rattle.asks.proofs.ask.spend.Goals as goal
-
-pub leave-requires : goal.leave-requires
-leave-requires c =
-    let a = c.args in
-    let l = spend_links a.arenas a.a a.books.now (omega arith) (c.requires.2.links (omega arith)) in
-    simp length-set (omega arith)
-
-pub shape_of-books-then-free-eq0 : goal.shape_of-books-then-free-eq0
-shape_of-books-then-free-eq0 c = simp (length-set, c.leave.auto.books)
 
 pub returns-then-free-eq0 : goal.returns-then-free-eq0
 returns-then-free-eq0 c al P class =

@@ -19,30 +19,15 @@ known c s e =
     let a = c.args in
     subst (λ (x : Source). FitsSource a.shape.arenas a.shape.pools a.books.now x a.p) e c.requires.4
 
-pub take_freed-requires : goal.take_freed-requires
-take_freed-requires c =
-    let fits = known (goal.at.take_freed-requires c).Start _ c.in-Freed.is in
-    (fits.0.there, c.requires.3)
-
 pub returns-in-Freed : goal.returns-in-Freed
 unfolding take_from
 returns-in-Freed c al class =
     rw c.in-Freed.is (refl, c.take_freed.ensures)
 
-pub carve-requires : goal.carve-requires
-carve-requires c =
-    let fits = known (goal.at.carve-requires c).Start _ c.in-Carved.is in
-    (fits.0.there, c.requires.3, omega arith)
-
 pub returns-in-Carved : goal.returns-in-Carved
 unfolding take_from
 returns-in-Carved c al class =
     rw c.in-Carved.is (refl, c.carve.ensures al c.args.shape.pools class)
-
-pub open_arena-requires : goal.open_arena-requires
-open_arena-requires c =
-    let fits = known (goal.at.open_arena-requires c).Start _ c.in-Opened.is in
-    omega arith
 
 pub carve-requires-in-Opened : goal.carve-requires-in-Opened
 carve-requires-in-Opened c =

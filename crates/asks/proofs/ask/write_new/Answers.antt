@@ -13,7 +13,6 @@ use Rattle.rules.specs.Blocks.{put_link}
 use Rattle.rules.specs.Ask.{take_from, ask_answer, after_ask, asked}
 use Rattle.plans.specs.Fits.{FitsNew}
 use Rattle.asks.specs.HandOut.{with_link, chain, taken_spends, handed}
-use borrow.Author.Rules.{rules}
 use Rattle.asks.proofs.ask.write_new.Goals.{Start}
 use Rattle.asks.proofs.ask.write_new.Goals as goal
 
@@ -42,30 +41,15 @@ pub returns-in-NoRoom : goal.returns-in-NoRoom
 unfolding ask_answer after_ask
 returns-in-NoRoom c = rw c.in-NoRoom.is
 
-pub take_freed-requires : goal.take_freed-requires
-take_freed-requires c =
-    let fits = known (goal.at.take_freed-requires c).Start _ c.in-Again.is in
-    search rules
-
 pub spend-requires : goal.spend-requires
 unfolding take_from
 spend-requires c =
     let a = c.args in
     let fits = known (goal.at.spend-requires c).Start _ c.in-Again.is in
     let al = alignment_of a.class.edition in
-    let spends = taken_spends al a.shape.arenas a.shape.pools a.class.number c.in-Again.p a.books.now _ (Freed c.in-Again.a) c.requires.0.pools_low
+    let spends = taken_spends al _ _ a.class.number c.in-Again.p a.books.now _ (Freed c.in-Again.a) c.requires.0.pools_low
     (omega arith) fits.0 c.take_freed.ensures in
     (c.requires.0.arenas_high, omega arith, spends)
-
-pub list_again-requires : goal.list_again-requires
-list_again-requires c =
-    let fits = known (goal.at.list_again-requires c).Start _ c.in-Again.is in
-    search rules
-
-pub hand_out-requires : goal.hand_out-requires
-hand_out-requires c =
-    let fits = known (goal.at.hand_out-requires c).Start _ c.in-Again.is in
-    search rules
 
 pub returns-in-Again : goal.returns-in-Again
 unfolding ask_answer after_ask take_from
@@ -73,50 +57,19 @@ returns-in-Again c =
     let a = c.args in
     let spent = c.spend.ensures (alignment_of a.class.edition) a.shape.pools a.class.number in
     let listed = c.list_again in
-    rw (c.in-Again.is, ← c.args.class.sized)
-    (handed a.class.size _ _ (heap_of a.memory.now listed.new.books a.map.now) _ _ _
+    rw (c.in-Again.is, ← a.class.sized)
+    (handed _ _ _ (heap_of a.memory.now listed.new.books a.map.now) _ _ _
     ((chain (chain c.take_freed.ensures spent) (listed.ensures (alignment_of a.class.edition) a.shape.pools)).same a.memory.now a.map.now)
     c.hand_out.ensures.0
     c.hand_out.ensures.1)
-
-pub take_from-a-requires : goal.take_from-a-requires
-take_from-a-requires c =
-    let fits = known (goal.at.take_from-a-requires c).Start _ c.in-Anew.is in
-    search rules
 
 pub spend-requires-in-Anew : goal.spend-requires-in-Anew
 spend-requires-in-Anew c =
     let a = c.args in
     let fits = known (goal.at.spend-requires-in-Anew c).Start _ c.in-Anew.is in
     let taken = c.take_from-a.ensures (alignment_of a.class.edition) a.class.number in
-    let spends = taken_spends (alignment_of a.class.edition) a.shape.arenas a.shape.pools a.class.number _ a.books.now _ _ c.requires.0.pools_low
-    (omega arith) fits.0 taken.1 in
+    let spends = taken_spends _ _ _ _ _ a.books.now _ _ c.requires.0.pools_low (omega arith) fits.0 taken.1 in
     (c.requires.0.arenas_high, omega arith, rw taken.0 spends)
-
-pub list_anew-requires : goal.list_anew-requires
-list_anew-requires c =
-    let fits = known (goal.at.list_anew-requires c).Start _ c.in-Anew.is in
-    search rules
-
-pub overflow_mul-p : goal.overflow_mul-p
-overflow_mul-p c =
-    let fits = known (goal.at.overflow_mul-p c).Start _ c.in-Anew.is in
-    search rules
-
-pub overflow_add-p : goal.overflow_add-p
-overflow_add-p c =
-    let fits = known (goal.at.overflow_add-p c).Start _ c.in-Anew.is in
-    search rules
-
-pub put_link-requires : goal.put_link-requires
-put_link-requires c =
-    let fits = known (goal.at.put_link-requires c).Start _ c.in-Anew.is in
-    search rules
-
-pub hand_out-requires-in-Anew : goal.hand_out-requires-in-Anew
-hand_out-requires-in-Anew c =
-    let fits = known (goal.at.hand_out-requires-in-Anew c).Start _ c.in-Anew.is in
-    search rules
 
 pub returns-in-Anew : goal.returns-in-Anew
 unfolding ask_answer after_ask
@@ -126,8 +79,8 @@ returns-in-Anew c =
     let spent = rw taken.0 at (c.spend-in-Anew.ensures (alignment_of a.class.edition) a.shape.pools a.class.number) in
     let listed = c.list_anew in
     let linked = c.put_link in
-    rw (c.in-Anew.is, ← c.args.class.sized)
-    (handed a.class.size _ 48 (heap_of linked.new.memory listed.new.books a.map.now) _ _ _
+    rw (c.in-Anew.is, ← a.class.sized)
+    (handed _ _ _ (heap_of linked.new.memory listed.new.books a.map.now) _ _ _
     (with_link (put_link _ 0) a.memory.now _ _ _ _ linked.ensures
     ((chain (chain taken.1 spent) (listed.ensures (alignment_of a.class.edition) a.shape.pools)).same a.memory.now a.map.now))
     c.hand_out-in-Anew.ensures.0
@@ -135,7 +88,4 @@ returns-in-Anew c =
 
 pub returns-in_default : goal.returns-in_default
 returns-in_default c =
-    let a = c.args in
-    let h = heap_of a.memory.now a.books.now a.map.now in
-    refused_path (alignment_of a.class.edition) a.shape.arenas a.shape.pools a.class.size a.class.number h a.plan c.in_default.not-NoRoom
-    c.in_default.not-Again c.in_default.not-Anew c.requires.1
+    refused_path _ _ _ _ _ _ _ c.in_default.not-NoRoom c.in_default.not-Again c.in_default.not-Anew c.requires.1

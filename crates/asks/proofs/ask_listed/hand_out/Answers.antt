@@ -1,5 +1,4 @@
 -- `asks::ask_listed::hand_out` sets the bit of a block whose start passes the test, and answers its offset.
-use mathlib.Core.Path.{refl}
 use Rattle.asks.specs.HandOut.{starts}
 use Rattle.asks.proofs.ask_listed.hand_out.Goals as goal
 
@@ -7,7 +6,3 @@ pub block_no-requires : goal.block_no-requires
 block_no-requires c =
     let a = c.args in
     (a.class.size_low, a.class.size_high, starts a.class.size a.f c.requires.0)
-
-pub returns : goal.returns
-returns c =
-    (refl, simp (c.set_bit.ensures, c.block_no.ensures.0))

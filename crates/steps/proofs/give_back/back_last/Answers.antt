@@ -9,7 +9,7 @@ use Rattle.rules.specs.declared.BackPlan.{BackPlan}
 use Rattle.rules.specs.Books.{alignment_of, Heap, on_books}
 use Rattle.rules.specs.GiveBack.{emptying, given_back}
 use Rattle.rules.specs.Outcome.{heap_of, outcome, answer_of}
-use Rattle.plans.specs.Class.{ranged}
+use Rattle.plans.specs.Range.{ranged}
 use Rattle.steps.specs.Arenas.{FitsArena, fits_settling, settled}
 use Rattle.steps.specs.Backs.{fits_empty, taken_back, emptied, length_taken, taken_fits, last_length, last_fits}
 use Rattle.steps.specs.BackPath.{damaged, stuck, settles, emptied_settled}
@@ -22,8 +22,7 @@ returns-then-not-may_empty c =
     let s = a.shape in
     let h = heap_of a.memory.now a.books.now a.map.now in
     let broken = stuck (alignment_of s.edition) s.arenas s.pools a.books.now a.pool.class (a.offset / 4096) c.arena_of-a.result
-    c.arena_word-free.result a.pool c.requires.1.loaded
-    c.arena_of-a.ensures.0 c.arena_word-free.ensures.0 (sym c.may_empty.ensures ∙ c.if-not-may_empty.true) in
+    a.pool c.requires.1.loaded c.arena_of-a.ensures.0 (sym c.may_empty.ensures ∙ c.if-not-may_empty.true) in
     damaged (alignment_of s.edition) s.arenas s.pools a.pool.class h a.offset
     ∙ ap (given_back (alignment_of s.edition) s.arenas s.pools a.pool.class h a.offset) (sym broken)
 
@@ -36,8 +35,7 @@ path c =
     let a = c.args in
     let s = a.shape in
     settles (alignment_of s.edition) s.arenas s.pools a.books.now a.pool.class (a.offset / 4096) c.arena_of-a.result
-    c.arena_word-free.result a.pool c.requires.1.loaded
-    c.arena_of-a.ensures.0 c.arena_word-free.ensures.0 (sym c.may_empty.ensures ∙ c.if-not-may_empty.false)
+    a.pool c.requires.1.loaded c.arena_of-a.ensures.0 (sym c.may_empty.ensures ∙ c.if-not-may_empty.false)
     ∙ sym c.settling-plan.ensures
 
 pub returns-in-Damaged : goal.returns-in-Damaged
@@ -56,13 +54,14 @@ empty_pool-requires c =
     let p = a.offset / 4096 in
     let f = a.offset % 4096 in
     let e = ap (λ (h : Heap). h.books) c.take_back.ensures in
-    let fits = fits_empty s.arenas s.pools c.arena_of-a.result p c.arena_word-free.result a.pool a.books.now
-    c.requires.1.loaded c.arena_of-a.ensures.0 c.arena_word-free.ensures.0
-    (sym c.may_empty.ensures ∙ c.if-not-may_empty.false) in (
-      ranged c.requires.0,
-      omega (arith, ap length e, length_taken s.arenas p f a.books.now, c.requires.0.books),
+    let fits = fits_empty s.arenas s.pools c.arena_of-a.result p a.pool a.books.now
+    c.requires.1.loaded c.arena_of-a.ensures.0 (sym c.may_empty.ensures ∙ c.if-not-may_empty.false) in (
+      record {
+        range = ranged c.requires.0;
+        books = omega (arith, ap length e, length_taken s.arenas p f a.books.now, c.requires.0.books);
+        there = c.arena_of-a.ensures.1;
+      },
       c.arena_of-a.ensures.0,
-      c.arena_of-a.ensures.1,
       c.requires.1.there,
       c.requires.1.class,
       rw e
@@ -105,9 +104,11 @@ settle-requires c =
     let last = emptied s.arenas s.pools a.pool.class p (taken_back s.arenas p f a.books.now) in
     let kept = last_fits s.arenas s.pools a.pool.class p f a.books.now c.requires.1.class
     (omega (arith, home, c.arena_of-a.ensures.1)) plan (fits (goal.at.settle-requires c).After-settling-plan) in (
-      ranged c.requires.0,
-      omega (arith, ap length e, last_length s.arenas s.pools a.pool.class p f a.books.now, c.requires.0.books),
-      c.arena_of-a.ensures.1,
+      record {
+        range = ranged c.requires.0;
+        books = omega (arith, ap length e, last_length s.arenas s.pools a.pool.class p f a.books.now, c.requires.0.books);
+        there = c.arena_of-a.ensures.1;
+      },
       subst (λ (x : List ℕ). FitsArena s.arenas x c.arena_of-a.result plan) (sym e)
           (subst (λ (n : ℕ). FitsArena s.arenas last n plan) (sym home) kept),
     )

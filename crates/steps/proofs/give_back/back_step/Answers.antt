@@ -8,7 +8,6 @@ use native.Mathlib.Omega.{arith}
 use lib.ListN.{length}
 use borrow.Author.Tests.{leb-true}
 use Rattle.rules.specs.Books.{alignment_of, Heap, at, on_books, class_head}
-use Rattle.rules.specs.Blocks.{size_of}
 use Rattle.rules.specs.Lists as L
 use Rattle.rules.specs.GiveBack.{after_back, back_answer}
 use Rattle.rules.specs.Outcome.{heap_of, outcome, answer_of}
@@ -17,7 +16,6 @@ use Rattle.books.specs.declared.pool.Pool.{Pool}
 use Rattle.books.specs.Records.{may_give}
 use Rattle.steps.specs.Backs.{Counted, counted, length_taken, taken_before}
 use Rattle.steps.specs.BackPath.{step_is, damaged, miscounted, listless, joins, no_start, falls_empty, stays}
-use borrow.Author.Rules.{rules}
 use Rattle.steps.proofs.give_back.back_step.Goals.{Else-not-may_give}
 use Rattle.steps.proofs.give_back.back_step.Goals as goal
 
@@ -40,13 +38,12 @@ gives c = (sym c.may_give.ensures ∙ c.if-not-may_give.false)
 block : (c : Else-not-may_give)
     → let a = c.args in
     let s = a.shape in
-    Counted (alignment_of s.edition) s.arenas s.pools (a.offset / 4096) (a.offset % 4096) a.block.number c.load_pool-pool.result
-    a.books.now
+    Counted (alignment_of s.edition) s.arenas s.pools a.offset a.block c.load_pool-pool.result a.books.now
 block c =
     let a = c.args in
     let s = a.shape in
-    counted (aligned s.edition) s.arenas s.pools a.block.number a.offset c.load_pool-pool.result a.books.now a.map.now
-    c.load_pool-pool.ensures c.requires.1 c.requires.2 (gives c)
+    counted (aligned s.edition) s.arenas s.pools a.offset a.block c.load_pool-pool.result a.books.now a.map.now
+    c.load_pool-pool.ensures c.requires.1 (gives c)
 
 pub may_join-requires : goal.may_join-requires
 may_join-requires c =
@@ -111,17 +108,10 @@ returns-then-pool-eq0 c =
     ∙ ap (λ (x : Heap). outcome (answer_of 0 a.offset) (on_books (L.join (L.pool_links s.arenas) (class_head q.class) (a.offset / 4096)) x))
     c.take_back.ensures)
 
--- the size is that of the pool's class
-size : (c : Else-not-may_give)
-    → let a = c.args in a.block.size ≡ size_of (alignment_of a.shape.edition) c.load_pool-pool.result.class
-size c =
-    c.requires.3
-    ∙ ap (size_of (alignment_of c.args.shape.edition)) (sym (ap (λ (x : Pool). x.class) c.load_pool-pool.ensures))
-
 pub is_start-requires : goal.is_start-requires
 is_start-requires c =
-    let at-if1 = (goal.at.is_start-requires c).Else-not-may_give in
-    (omega (arith, size at-if1, (block at-if1).low), omega (arith, size at-if1, (block at-if1).high))
+    let b = block (goal.at.is_start-requires c).Else-not-may_give in
+    (omega (arith, b.size, b.low), omega (arith, b.size, b.high))
 
 pub returns-then-not-is_start : goal.returns-then-not-is_start
 returns-then-not-is_start c =
@@ -130,7 +120,7 @@ returns-then-not-is_start c =
     let h = heap_of a.memory.now a.books.now a.map.now in
     let q = c.load_pool-pool.result in
     let path = no_start (alignment_of s.edition) s.arenas s.pools a.books.now q.class (a.offset / 4096) q c.load_pool-pool.ensures
-    a.block.size c.index.result (size (goal.at.returns-then-not-is_start c).Else-not-may_give) c.index.ensures.0
+    a.block.size c.index.result (block (goal.at.returns-then-not-is_start c).Else-not-may_give).size c.index.ensures.0
     c.if-pool-eq0.false (sym c.is_start.ensures ∙ c.if-not-is_start.true) in
     step_is (alignment_of s.edition) s.arenas s.pools q.class h a.offset _ _ (ap (λ (x : Pool). x.class) c.load_pool-pool.ensures) path
     (damaged (alignment_of s.edition) s.arenas s.pools q.class h a.offset)
@@ -147,7 +137,7 @@ returns-then-pool-eq1 c =
     let h = heap_of a.memory.now a.books.now a.map.now in
     let q = c.load_pool-pool.result in
     let path = falls_empty (alignment_of s.edition) s.arenas s.pools a.books.now q.class (a.offset / 4096) q c.load_pool-pool.ensures
-    a.block.size c.index.result (size at-if1) c.index.ensures.0
+    a.block.size c.index.result (block at-if1).size c.index.ensures.0
     (gives at-if1) c.if-pool-eq0.false (sym c.is_start.ensures ∙ c.if-not-is_start.false) c.if-pool-eq1.true in
     step_is (alignment_of s.edition) s.arenas s.pools q.class h a.offset _ _ (ap (λ (x : Pool). x.class) c.load_pool-pool.ensures) path
     c.back_last.ensures
@@ -165,7 +155,7 @@ returns c =
     let h = heap_of a.memory.now a.books.now a.map.now in
     let q = c.load_pool-pool.result in
     let path = stays (alignment_of s.edition) s.arenas s.pools a.books.now q.class (a.offset / 4096) q c.load_pool-pool.ensures
-    a.block.size c.index.result (size at-if1) c.index.ensures.0
+    a.block.size c.index.result (block at-if1).size c.index.ensures.0
     (gives at-if1) c.if-pool-eq0.false (sym c.is_start.ensures ∙ c.if-not-is_start.false) c.if-pool-eq1.false in
     step_is (alignment_of s.edition) s.arenas s.pools q.class h a.offset _ _ (ap (λ (x : Pool). x.class) c.load_pool-pool.ensures) path
     (ap (λ (x : Heap). outcome (answer_of 0 a.offset) x) c.take_back-2.ensures)

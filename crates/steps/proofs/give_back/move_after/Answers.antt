@@ -9,13 +9,13 @@ use Rattle.steps.proofs.give_back.move_after.Goals as goal
 pub go_in_after-requires : goal.go_in_after-requires
 go_in_after-requires c =
     let a = c.args in
-    let fits = c.requires.3 in (
+    let fits = c.requires.1 in (
       omega arith,
       omega arith,
       omega arith,
       omega (arith, c.leave.auto.books),
       rw c.leave.ensures
-          (leave_low a.arenas arena_links usable_head a.a (next_at arena_links a.q) a.books.now fits.0 fits.2),
+          (leave_low a.shape.arenas arena_links usable_head a.a (next_at arena_links a.q) a.books.now fits.0 fits.2),
     )
 
 pub returns : goal.returns

@@ -6,7 +6,6 @@ use Prim.Native.Nat.{ℕ, ◌+◌, ◌*◌}
 use native.Mathlib.Omega.{arith}
 use lib.ListN.{length, replicate}
 use lib.Seq.{sets}
-use borrow.Author.Rules.{rules}
 use Rattle.rules.specs.Books.{unused_head}
 use Rattle.rules.specs.Lists as L
 use Rattle.steps.specs.Arenas.{zeroed, zeroed_keeps}
@@ -15,14 +14,14 @@ use Rattle.steps.proofs.give_back.release.Goals as goal
 pub join-requires : goal.join-requires
 join-requires c =
     let a = c.args in
-    let e : c.put_words.new.books ≡ zeroed a.a a.books.now = c.put_words.ensures
+    let e : c.store.new.to ≡ zeroed a.a a.books.now = c.store.ensures
     ∙ ap (λ (x : List ℕ). sets x (72 + 8 * a.a + 0) (replicate 8 0)) c.leave.ensures in
     let k = zeroed_keeps a.a a.books.now in
-    (omega arith, omega arith, omega (arith, ap length e), omega (arith, ap length e), rw (e, k.1) c.requires.4)
+    (omega arith, omega arith, omega (arith, ap length e), omega (arith, ap length e), rw (e, k.1) c.requires.2)
 
 pub returns : goal.returns
 returns c =
     let a = c.args in
-    let e : c.put_words.new.books ≡ zeroed a.a a.books.now = c.put_words.ensures ∙ ap
+    let e : c.store.new.to ≡ zeroed a.a a.books.now = c.store.ensures ∙ ap
     (λ (x : List ℕ). sets x (72 + 8 * a.a + 0) (replicate 8 0)) c.leave.ensures in
     c.join.ensures ∙ ap (L.join L.arena_links unused_head a.a) e

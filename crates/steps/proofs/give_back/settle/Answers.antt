@@ -13,10 +13,10 @@ use Rattle.steps.proofs.give_back.settle.Goals as goal
 -- what the path knows, by the plan's form; `rw .. at` would rewrite the plan all over the start
 known : (c : After-slice_known-1) (q : BackPlan) → c.args.plan ≡ q
     → let a = c.args in
-    FitsArena a.arenas a.books.now a.a q
+    FitsArena a.shape.arenas a.books.now a.a q
 known c q e =
     let a = c.args in
-    subst (λ (x : BackPlan). FitsArena a.arenas a.books.now a.a x) e c.requires.3
+    subst (λ (x : BackPlan). FitsArena a.shape.arenas a.books.now a.a x) e c.requires.1
 
 -- the variants that have no arm of their own write nothing
 unsettled : (a : ℕ) (plan : BackPlan) (b : List ℕ) → ((q : ℕ) → plan ≡ Moves q → ⊥) → (plan ≡ Returns → ⊥)
@@ -31,7 +31,7 @@ unsettled a Releases b moves returns releases = absurd (releases refl)
 
 pub move_after-requires : goal.move_after-requires
 move_after-requires c =
-    (c.requires.0, c.requires.1, c.requires.2, known (goal.at.move_after-requires c).After-slice_known-1 _ c.in-Moves.is)
+    (c.requires.0, known (goal.at.move_after-requires c).After-slice_known-1 _ c.in-Moves.is)
 
 pub join-requires : goal.join-requires
 join-requires c =
@@ -41,7 +41,7 @@ join-requires c =
 pub release-requires : goal.release-requires
 release-requires c =
     let fits = known (goal.at.release-requires c).After-slice_known-1 Releases c.in-Releases.is in
-    (c.requires.0, c.requires.1, c.requires.2, fits.0, fits.1)
+    (c.requires.0, fits.0, fits.1)
 
 pub returns-in-Moves : goal.returns-in-Moves
 returns-in-Moves c = rw c.in-Moves.is c.move_after.ensures
