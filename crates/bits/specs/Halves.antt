@@ -96,6 +96,11 @@ unfolding ones_in
 no_ones zero = refl
 no_ones (suc n) = omega (arith, no_ones n)
 
+pub few_ones : (n w : ℕ) → ones_in n w ≤ n
+unfolding ones_in
+few_ones zero w = omega arith
+few_ones (suc n) w = omega (arith, few_ones n (w / 2))
+
 -- a word that is cut to n bits has those ones
 low_ones : (n w : ℕ) → ones (w % 2 ^ n) ≡ ones_in n w
 unfolding ones ones_in

@@ -1,8 +1,10 @@
 -- Loops that store a list, a part of it each turn, or count its words: what is left of the list at each turn.
 -- Assumes nothing.
-use Rattle.std.specs.Prelude.{◌≡◌, refl, List, [], ◌∷◌, ◌++◌, ◌⊎◌, ℕ, zero, suc, ◌+◌, ◌-◌, ◌≤◌, ◌<◌, length, get_or, set, drop}
-use Rattle.std.proofs.Common.{sym, ap, ap₂, ◌∙◌, inl, inr, add-one, arith, length-append, drop-cons}
+use Rattle.std.specs.Prelude.{◌≡◌, refl, List, [], ◌∷◌, ◌++◌, ◌⊎◌, ℕ, zero, suc, ◌+◌, ◌-◌, ◌*◌, ◌≤◌, ◌<◌, length, get_or, set, drop, map, sum}
+use Rattle.std.proofs.Common.{sym, ap, ap₂, ◌∙◌, inl, inr, add-one, mul-add, arith, length-append, drop-cons}
 use Rattle.std.proofs.lemmas.List.Edits.{sets}
+use Rattle.std.specs.List.{range_with_len}
+use Rattle.std.proofs.lemmas.List.Sums.{sum_by-cons}
 use Rattle.std.proofs.Math.Seq.{length-sets, drop-length}
 use Rattle.loops.specs.Sets.{sets_append, sets_other}
 
@@ -75,6 +77,20 @@ module _ {all : List ℕ} {n : ℕ} {rest part : ℕ → List ℕ} (parts : Part
   -- at the end nothing is left
   pub none_left : (i : ℕ) → i ≡ n → rest i ≡ []
   none_left i e = ap rest e ∙ parts.last
+
+  -- where each part's length is w times a number, the whole's is w times their sum
+  pub together : (w : ℕ) (f : ℕ → ℕ) → ((i : ℕ) → i < n → length (part i) ≡ w * f i)
+      → w * sum (map f (range_with_len 0 n)) ≡ length all
+  together w f each = from 0 n (omega arith) ∙ ap length parts.first
+    where
+      from : (i k : ℕ) → i + k ≡ n → w * sum (map f (range_with_len i k)) ≡ length (rest i)
+      from i zero e = omega (arith, ap length (none_left i (omega arith)))
+      from i (suc k) e =
+          let others = sum (map f (range_with_len (i + 1) k)) in
+          ap (λ (x : ℕ). w * x) (sum_by-cons (λ x. x) (f i) (map f (range_with_len (i + 1) k)))
+          ∙ mul-add w (f i) others
+          ∙ ap₂ (λ (x y : ℕ). x + y) (sym (each i (omega arith))) (from (i + 1) k (omega arith))
+          ∙ sym (fewer i (omega arith))
 
   -- nothing is stored yet
   pub begin : (x : List ℕ) (at j : ℕ) → j ≡ at → Left x at all x j (rest 0)

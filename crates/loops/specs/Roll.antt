@@ -134,7 +134,7 @@ module _ {al : ℕ} (L : Aligned al) (A : ℕ) (b m : List ℕ) (p : ℕ) where
 
 -- ---- so the roll of n pools has 1,012 words for each of them at most
 module _ (al A : ℕ) (b m : List ℕ) (h : 8 ≤ al) where
-  length_pool : (p : ℕ) → length (roll_pool al A b m p) ≤ 1012
+  pub length_pool : (p : ℕ) → length (roll_pool al A b m p) ≤ 1012
   unfolding roll_pool
   length_pool p =
       let c = pool A b class p in

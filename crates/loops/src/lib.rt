@@ -114,11 +114,10 @@ fn count_blocks(map: &[u64], pool: usize, size: usize) -> usize
     ensures { result ≡ length (roll_blocks map.now pool size 0 (capacity size)) }
 {
     let blocks = 4048 / size;
-    let mut words: usize = 0;
-    for i in 0..(blocks + 63) / 64 {
-        words += 2 * bits::count_live(map[8 * pool + i], in_word(blocks, i));
-    }
-    words
+    let live: usize = (0..blocks.div_ceil(64))
+        .map(|i| bits::count_live(map[8 * pool + i], in_word(blocks, i)))
+        .sum();
+    2 * live
 }
 
 // The size of the pool's blocks, where any of its bits is set and it has a class: otherwise it has no live block.
@@ -156,11 +155,7 @@ pub fn count_words(books: &[u32], map: &[u64], shape: Shape, n: usize) -> usize
     ensures { result
         ≡ length (roll_pools (alignment_of shape.edition) shape.arenas books.now map.now 0 n) }
 {
-    let mut words: usize = 0;
-    for pool in 0..n {
-        words += count_pool(books, map, shape, pool);
-    }
-    words
+    (0..n).map(|pool| count_pool(books, map, shape, pool)).sum()
 }
 
 // The roll of the n pools fits into so many words. No block is counted where there is room for every block that the
