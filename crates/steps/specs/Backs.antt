@@ -147,17 +147,7 @@ module _ (A P c p : ℕ) (b : List ℕ) where
   pub length_emptied : length (emptied A P c p b) ≡ length b
   length_emptied = simp (length-set, length_leave_by)
 
--- ---- what the code reads before its writes, the rules read after some of them
-pub freed_reads : (A a p v w : ℕ) (b : List ℕ) → a < A
-    → at (b ▷ put (pool_word A pool_next p) v ▷ put (pool_word A pool_previous p) 0
-    ▷ put (arena_word freed_head a) w) (arena_word free_pools a) ≡ arena b free_pools a
-freed_reads A a p v w b l =
-    let d : (arena_word free_pools a ≢ arena_word freed_head a)
-    × (arena_word free_pools a ≢ pool_word A pool_previous p)
-    × (arena_word free_pools a ≢ pool_word A pool_next p) = (omega arith, omega arith, omega arith) in
-    simp (get_or-set_other, d.0, d.1, d.2)
-
--- leaving the class list keeps the books' length and the arena's free pools
+-- ---- leaving the class list keeps the books' length and the arena's free pools
 pub left_keeps : (A c p a : ℕ) (b : List ℕ) → a < A → class_head c < 72
     → (length (leave (pool_links A) (class_head c) p b) ≡ length b)
     × (arena (leave (pool_links A) (class_head c) p b) free_pools a ≡ arena b free_pools a)

@@ -20,7 +20,7 @@ ghost use Rattle.books.specs.Lists.{Links};
 ghost use Rattle.steps.specs.Backs.{gave, Counted, FitsEmpty, freed_first, emptied};
 ghost use Rattle.steps.specs.Arenas.{ArenaIn, FitsArena, moved_after, released, settled};
 
-use crate::walk::Arena;
+use crate::arena::Arena;
 use bits::clear_bit;
 use books::blocks::is_start;
 use books::links::put_link;
@@ -64,12 +64,13 @@ fn free_pool(books: &mut [u32], arenas: usize, a: usize, p: usize)
         × (arena books.old free_pools a ≤ 64) }
     ensures { books.new ≡ freed_first arenas a p books.old }
 {
-    let first = books[RECORDS + 8 * a + FREED_HEAD];
-    let free = books[RECORDS + 8 * a + FREE_POOLS];
-    books[RECORDS + 8 * arenas + 8 * p + NEXT] = first;
-    books[RECORDS + 8 * arenas + 8 * p + PREVIOUS] = 0;
-    books[RECORDS + 8 * a + FREED_HEAD] = link_to(p);
-    books[RECORDS + 8 * a + FREE_POOLS] = free + 1;
+    let record = RECORDS + 8 * a;
+    let own = RECORDS + 8 * arenas + 8 * p;
+    let first = books[record + FREED_HEAD];
+    books[own + NEXT] = first;
+    books[own + PREVIOUS] = 0;
+    books[record + FREED_HEAD] = link_to(p);
+    books[record + FREE_POOLS] += 1;
 }
 
 // Pool p of arena a, at count 0, leaves its class list, by the links of its record, and goes to the front of the

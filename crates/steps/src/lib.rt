@@ -1,6 +1,6 @@
-// The give-back, with the walk of an arena, and resize, which is made of an ask, a copy and a give-back.
+// The give-back, with what becomes of an arena, and resize, which is made of an ask, a copy and a give-back.
 #![tactic(auto)]
 
+mod arena;
 pub mod give_back;
 pub mod resize;
-mod walk;

@@ -1,9 +1,9 @@
--- `steps::walk::Arena::walk` is the rules' walk: at each turn the walk that is left is the one that was to be made.
+-- `steps::arena::Arena::walk` is the rules' walk: at each turn the walk that is left is the one that was to be made.
 use Rattle.std.proofs.Common.{◌≡◌, ◌-◌}
 use Rattle.rules.specs.Books.{arena_next, arena}
 use Rattle.rules.specs.GiveBack.{walk}
 use Rattle.steps.specs.Arenas.{link_in}
-use Rattle.steps.proofs.walk.Arena.walk.Given as goal
+use Rattle.steps.proofs.arena.Arena.walk.Given as goal
 
 abbrev pub invariant-loop : goal.invariant-loop
 invariant-loop l =
