@@ -1,22 +1,16 @@
--- What is known once the tests for a size or an offset are passed, and the later tests after the others.
+-- What is known once the tests for an offset are passed, and the later tests after the others.
 -- Assumes nothing.
-use Rattle.std.specs.Prelude.{◌≡◌, refl, List, ℕ, zero, suc, ◌≤◌, length}
+use Rattle.std.specs.Prelude.{◌≡◌, refl, List, ℕ, zero, suc, length}
 use Rattle.rules.specs.Books.{at, alignment_of}
 use Rattle.rules.specs.Outcome.{passing}
 use Rattle.rules.specs.Numbers.{in_order}
-use Rattle.books.specs.Known.{Shaped, LiveBlock}
+use Rattle.books.specs.declared.numbers.Block.{Block}
+use Rattle.books.specs.Known.{Shaped, BlockAt}
 
--- a heap of the right shape and edition, and a size that can be asked for
-pub record Askable (m b k : List ℕ) (n : ℕ) : Type 0 where
+-- a heap of the right shape, and the block that is live at an offset in it
+pub record Tested (m b k : List ℕ) (o : ℕ) (block : Block) : Type 0 where
   pub shaped : Shaped (at b 0) (at b 1) (length m) (length b) (length k)
-  pub edition : at b 68 ≤ 1
-  pub low : 1 ≤ n
-  pub high : n ≤ 512
-
--- a heap of the right shape, and a live offset in it
-pub record Passed (m b k : List ℕ) (o : ℕ) : Type 0 where
-  pub shaped : Shaped (at b 0) (at b 1) (length m) (length b) (length k)
-  pub live : LiveBlock (alignment_of (at b 68)) (at b 0) (at b 1) b k o
+  pub found : BlockAt (alignment_of (at b 68)) (at b 0) (at b 1) b k o block
 
 -- ---- 5 and 7 come after the tests before them
 pub offset_after : (shape size offset : ℕ)

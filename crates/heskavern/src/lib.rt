@@ -4,7 +4,7 @@
 // made there from `heskavern_view_size`, since an exported function cannot return a slice.
 #![tactic(auto)]
 
-ghost use Rattle.std.specs.Prelude.{◌≡◌};
+ghost use Rattle.std.specs.Prelude.{◌≡◌, Ok, Err};
 ghost use Rattle.rules.specs.Outcome.{heap_of};
 ghost use Rattle.rules.specs.Promises.{
   FormatPromise,
@@ -19,16 +19,74 @@ ghost use Rattle.rules.specs.Promises.{
   ComparePromise,
 };
 ghost use Rattle.heskavern.specs.Answers.{answer_in, sized_in, rolled_in, compared_in};
+ghost use Rattle.heskavern.specs.Answers.{laid_out, laid_out_done, laid_out_moved};
 
-use rules::{Answer, Request};
+use books::refusal::Refusal;
+use books::words::Shape;
+use rules::Request;
+use steps::resize::ResizeRefusal;
 
-// What each call answers: 01's number, and the offset, block size or count that stands beside it. The answers of crates
+// What each call answers: 01's number, and the offset, block size or count that stands beside it. The results of crates
 // heap, batch and compare, in the layout of C.
 #[repr(C)]
 #[derive(Clone, Copy)]
 pub struct HeskavernAnswer {
     pub number: u32,
     pub value: u32,
+}
+
+// A call that is done: the value beside 0.
+fn done(value: u32) -> HeskavernAnswer
+    ensures { result ≡ laid_out (Ok value) }
+{
+    HeskavernAnswer { number: 0, value }
+}
+
+// A call that is refused: the number, and no value.
+fn refused(refusal: Refusal) -> HeskavernAnswer
+    ensures { result ≡ laid_out (Err refusal) }
+{
+    HeskavernAnswer {
+        number: u32::from(refusal),
+        value: 0,
+    }
+}
+
+impl From<Result<u32, Refusal>> for HeskavernAnswer {
+    ghost from_gives = { λ result answer. answer ≡ laid_out result };
+
+    fn from(result: Result<u32, Refusal>) -> HeskavernAnswer {
+        match result {
+            Ok(value) => done(value),
+            Err(refusal) => refused(refusal),
+        }
+    }
+}
+
+impl From<Result<(), Refusal>> for HeskavernAnswer {
+    ghost from_gives = { λ result answer. answer ≡ laid_out_done result };
+
+    fn from(result: Result<(), Refusal>) -> HeskavernAnswer {
+        match result {
+            Ok(()) => done(0),
+            Err(why) => refused(why),
+        }
+    }
+}
+
+impl From<Result<u32, ResizeRefusal>> for HeskavernAnswer {
+    ghost from_gives = { λ result answer. answer ≡ laid_out_moved result };
+
+    fn from(result: Result<u32, ResizeRefusal>) -> HeskavernAnswer {
+        match result {
+            Ok(offset) => done(offset),
+            Err(ResizeRefusal::Refused(refusal)) => refused(refusal),
+            Err(ResizeRefusal::HalfDone(value)) => HeskavernAnswer {
+                number: u32::from(Refusal::Damaged),
+                value,
+            },
+        }
+    }
 }
 
 // Format: makes a fresh heap of so many arenas and pools, of the edition 0, eight, or 1, sixteen.
@@ -44,11 +102,12 @@ pub extern "C" fn heskavern_format(
     ensures { FormatPromise (heap_of memory.now books.old map.old)
         (heap_of memory.now books.new map.new) arenas pools edition (answer_in result) }
 {
-    let answer = heap::format(memory, books, map, arenas, pools, edition);
-    HeskavernAnswer {
-        number: answer.number,
-        value: answer.offset,
-    }
+    let shape = Shape {
+        arenas,
+        pools,
+        edition,
+    };
+    HeskavernAnswer::from(heap::format(memory, books, map, shape))
 }
 
 // Ask: hands out a block of at least `size` bytes; the value is its offset.
@@ -62,21 +121,7 @@ pub extern "C" fn heskavern_ask(
     ensures { AskPromise (heap_of memory.old books.old map.old)
         (heap_of memory.new books.new map.new) size (answer_in result) }
 {
-    let answer = heap::ask(memory, books, map, size);
-    HeskavernAnswer {
-        number: answer.number,
-        value: answer.offset,
-    }
-}
-
-// An answer with an offset, in that layout.
-fn in_c(answered: Answer) -> HeskavernAnswer
-    ensures { answer_in result ≡ answered }
-{
-    HeskavernAnswer {
-        number: answered.number,
-        value: answered.offset,
-    }
+    HeskavernAnswer::from(heap::ask(memory, books, map, size))
 }
 
 // Ask all: each request of the row is the ask for its size, one after the other; the value is 0.
@@ -91,8 +136,7 @@ pub extern "C" fn heskavern_ask_all(
         (heap_of memory.new books.new map.new)
         requests.old requests.new (answer_in result) }
 {
-    let answer = batch::ask_all(memory, books, map, requests);
-    in_c(answer)
+    HeskavernAnswer::from(batch::ask_all(memory, books, map, requests))
 }
 
 // Give back: the block is live no more; the value is the offset.
@@ -106,11 +150,7 @@ pub extern "C" fn heskavern_give_back(
     ensures { GiveBackPromise (heap_of memory.old books.old map.old)
         (heap_of memory.new books.new map.new) offset (answer_in result) }
 {
-    let answer = heap::give_back(memory, books, map, offset);
-    HeskavernAnswer {
-        number: answer.number,
-        value: answer.offset,
-    }
+    HeskavernAnswer::from(heap::give_back(memory, books, map, offset))
 }
 
 // Resize: the block is kept, or its text moves to a block of at least `size` bytes; the value is where
@@ -126,11 +166,7 @@ pub extern "C" fn heskavern_resize(
     ensures { ResizePromise (heap_of memory.old books.old map.old)
         (heap_of memory.new books.new map.new) offset size (answer_in result) }
 {
-    let answer = heap::resize(memory, books, map, offset, size);
-    HeskavernAnswer {
-        number: answer.number,
-        value: answer.offset,
-    }
+    HeskavernAnswer::from(heap::resize(memory, books, map, offset, size))
 }
 
 // View's companion: its number and, when done, the block size.
@@ -144,11 +180,7 @@ pub extern "C" fn heskavern_view_size(
     ensures { ViewSizePromise (heap_of memory.now books.now map.now)
         (heap_of memory.now books.now map.now) offset (sized_in result) }
 {
-    let sized = heap::view_size(memory, books, map, offset);
-    HeskavernAnswer {
-        number: sized.number,
-        value: sized.size,
-    }
+    HeskavernAnswer::from(heap::view_size(memory, books, map, offset))
 }
 
 // Write: copies the text to the start of a live block; the value is the offset.
@@ -163,11 +195,7 @@ pub extern "C" fn heskavern_write(
     ensures { WritePromise (heap_of memory.old books.now map.now)
         (heap_of memory.new books.now map.now) offset text.now (answer_in result) }
 {
-    let answer = heap::write(memory, books, map, offset, text);
-    HeskavernAnswer {
-        number: answer.number,
-        value: answer.offset,
-    }
+    HeskavernAnswer::from(heap::write(memory, books, map, offset, text))
 }
 
 // Roll call: its number and, when done, how many blocks are live.
@@ -182,11 +210,7 @@ pub extern "C" fn heskavern_roll_call(
         (heap_of memory.now books.now map.now)
         roll.old roll.new (rolled_in result) }
 {
-    let rolled = heap::roll_call(memory, books, map, roll);
-    HeskavernAnswer {
-        number: rolled.number,
-        value: rolled.count,
-    }
+    HeskavernAnswer::from(heap::roll_call(memory, books, map, roll))
 }
 
 // Audit: 0 for yes, or the number of the first broken rule.
@@ -217,8 +241,5 @@ pub extern "C" fn heskavern_compare(
         list.old list.new changes.old changes.new (compared_in result) }
 {
     let compared = compare::compare(memory, books, map, memory2, books2, map2, list, changes);
-    HeskavernAnswer {
-        number: compared.number,
-        value: compared.entries,
-    }
+    HeskavernAnswer::from(compared)
 }

@@ -1,32 +1,29 @@
 -- `heap::format` meets its contract: it tests the shape and then writes all books and map.
-use mathlib.Core.List.{List}
-use mathlib.Core.Path.{ap, ap₂, ◌∙◌}
-use Prim.Native.Nat.{ℕ}
-use lib.ListN.{replicate}
-use native.Mathlib.Omega.{arith}
+use Rattle.std.proofs.Common.{List, ℕ, replicate, ap, ap₂, ◌∙◌, arith}
+use Rattle.std.proofs.lemmas.Result.{err_from_is_err_and}
 use Rattle.rules.specs.Numbers.{format}
-use Rattle.rules.specs.Outcome.{heap_of, done}
-use Rattle.books.specs.Passing.{refusal, step}
+use Rattle.rules.specs.Outcome.{heap_of, done, refused}
+use Rattle.books.specs.Passing.{refuses, lets_pass}
 use Rattle.heap.proofs.format.Goals as goal
 
-pub returns-then-number-ne0 : goal.returns-then-number-ne0
+pub returns-in_err-test_fit : goal.returns-in_err-test_fit
 unfolding format
-returns-then-number-ne0 c =
+returns-in_err-test_fit c =
     let a = c.args in
-    refusal (heap_of a.memory.now a.books.now a.map.now) _ c.refuse.result c.fit_number-number.result _ c.refuse.ensures
-    c.fit_number-number.ensures.0 c.if-number-ne0.true
+    let p = err_from_is_err_and c.from_residual.result c.from_residual.ensures.1 in
+    rw (p.1, p.2)
+    (refuses (λ k. refused k (heap_of a.memory.now a.books.now a.map.now)) _ c.in_err-test_fit.field-0.0 _ c.in_err-test_fit.ensures.number)
 
 pub fresh_books-requires : goal.fresh_books-requires
 fresh_books-requires c =
-    let s = c.fit_number-number.ensures.1 c.if-number-ne0.false in
-    (s.0.arenas_high, s.0.pools_high, omega (arith, s.1), s.0.books)
+    let s = c.in_ok-test_fit.ensures.fits in
+    (s.0.arenas_high, s.0.pools_high, s.1, s.0.books)
 
 pub returns : goal.returns
 unfolding format
 returns c =
     let a = c.args in
-    let s = (c.fit_number-number.ensures.1 c.if-number-ne0.false).0 in
-    step (heap_of a.memory.now a.books.now a.map.now) _ _ c.fit_number-number.result _
+    let s = c.in_ok-test_fit.ensures.fits.0 in
+    lets_pass (λ k. refused k (heap_of a.memory.now a.books.now a.map.now)) _ _ _ c.in_ok-test_fit.ensures.number
     (ap₂ (λ (x y : List ℕ). done 0 (heap_of a.memory.now x y)) c.fresh_books.ensures
-    (c.wipe.ensures ∙ ap (λ (n : ℕ). replicate n 0) s.map))
-    c.fit_number-number.ensures.0 c.if-number-ne0.false
+    (c.fill.ensures.after (λ y e. e) ∙ ap (λ (n : ℕ). replicate n 0) s.map))
