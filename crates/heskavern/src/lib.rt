@@ -53,10 +53,10 @@ fn refused(refusal: Refusal) -> HeskavernAnswer
 }
 
 impl From<Result<u32, Refusal>> for HeskavernAnswer {
-    ghost from_gives = { λ result answer. answer ≡ laid_out result };
+    ghost from_gives = { λ outcome answer. answer ≡ laid_out outcome };
 
-    fn from(result: Result<u32, Refusal>) -> HeskavernAnswer {
-        match result {
+    fn from(outcome: Result<u32, Refusal>) -> HeskavernAnswer {
+        match outcome {
             Ok(value) => done(value),
             Err(refusal) => refused(refusal),
         }
@@ -64,10 +64,10 @@ impl From<Result<u32, Refusal>> for HeskavernAnswer {
 }
 
 impl From<Result<(), Refusal>> for HeskavernAnswer {
-    ghost from_gives = { λ result answer. answer ≡ laid_out_done result };
+    ghost from_gives = { λ outcome answer. answer ≡ laid_out_done outcome };
 
-    fn from(result: Result<(), Refusal>) -> HeskavernAnswer {
-        match result {
+    fn from(outcome: Result<(), Refusal>) -> HeskavernAnswer {
+        match outcome {
             Ok(()) => done(0),
             Err(why) => refused(why),
         }
@@ -75,10 +75,10 @@ impl From<Result<(), Refusal>> for HeskavernAnswer {
 }
 
 impl From<Result<u32, ResizeRefusal>> for HeskavernAnswer {
-    ghost from_gives = { λ result answer. answer ≡ laid_out_moved result };
+    ghost from_gives = { λ outcome answer. answer ≡ laid_out_moved outcome };
 
-    fn from(result: Result<u32, ResizeRefusal>) -> HeskavernAnswer {
-        match result {
+    fn from(outcome: Result<u32, ResizeRefusal>) -> HeskavernAnswer {
+        match outcome {
             Ok(offset) => done(offset),
             Err(ResizeRefusal::Refused(refusal)) => refused(refusal),
             Err(ResizeRefusal::HalfDone(value)) => HeskavernAnswer {
