@@ -1,15 +1,16 @@
 -- A pool's set bits, word by word: how many there are, and that none is at or past a block.
 -- Assumes nothing.
-use Rattle.std.specs.Prelude.{◌≡◌, ◌≢◌, true, false, List, ℕ, zero, suc, ◌+◌, ◌*◌, ◌-◌, ◌/◌, ◌%◌, ◌^◌, ◌≤◌, ◌<◌, eqb, if◌then◌else◌}
+use Rattle.std.specs.Prelude.{◌≡◌, ◌≢◌, Bool, true, ◌&&◌, List, ℕ, zero, suc, ◌+◌, ◌*◌, ◌-◌, ◌/◌, ◌%◌, ◌^◌, ◌≤◌, ◌<◌, eqb, if◌then◌else◌}
 use Rattle.std.proofs.Common.{sym, ap, ◌∙◌, add-suc, add-zero, add-one, arith, shr-shr, shr_lt, eq-eqb, ne_eqb, eqb-true}
+use Rattle.std.proofs.lemmas.Bool.Decides.{same_from_decides}
 use Rattle.std.proofs.Math.Nat.{zero-div}
 use Rattle.std.proofs.Math.Decide.{ℕ_discrete, dec_lt}
 use Rattle.std.specs.Int.Count.{ones_in}
-use Rattle.rules.specs.Say.{how_many}
+use Rattle.rules.specs.Say.{all_below, how_many}
 use Rattle.rules.specs.Books.{at, bit, is_set}
 use Rattle.rules.specs.Audit.{bits_below}
-use Rattle.sequences.specs.Update.{is_false}
-use Rattle.sequences.specs.Counting.{below_is, is_below}
+use Rattle.books.specs.Tests.{both}
+use Rattle.sequences.specs.Counting.{every_is, is_every, below_is, is_below}
 
 -- ---- how many
 -- the ones among the first suc j bits, by the last of them
@@ -62,23 +63,23 @@ cleared (suc k) j w l f =
     omega (arith, half, cleared k (suc j) w (rw e at l) (λ i a b. f i (omega arith) (omega arith)))
 
 module _ (map : List ℕ) (n v : ℕ) where
-  -- so a word that is not made 0 has a bit that none may be at
-  pub bits_past : (i j : ℕ) → i < 8 → j < 64 → v ≤ 64 * i + j → at map (8 * n + i) < 2 ^ 64
-      → at map (8 * n + i) / 2 ^ j ≢ 0 → bits_below map n v ≡ false
-  bits_past i j a b u l d = is_false (bits_below map n v) (λ e. d (cleared (64 - j) j (at map (8 * n + i)) (rw top l) (none e)))
+  -- so where no bit is at v or past it, a word that lies there is made 0
+  bits_past : (i j : ℕ) → i < 8 → j < 64 → v ≤ 64 * i + j → at map (8 * n + i) < 2 ^ 64 → bits_below map n v ≡ true
+      → at map (8 * n + i) / 2 ^ j ≡ 0
+  bits_past i j a b u l e = cleared (64 - j) j (at map (8 * n + i)) (rw top l) none
     where
       top : 64 - j + j ≡ 64
       top = omega arith
 
-      none : bits_below map n v ≡ true → (x : ℕ) → j ≤ x → x < 64 - j + j → bit (at map (8 * n + i)) x ≢ 1
-      none e x p q s =
+      none : (x : ℕ) → j ≤ x → x < 64 - j + j → bit (at map (8 * n + i)) x ≢ 1
+      none x p q s =
           let word : (64 * i + x) / 64 ≡ i = omega arith in
           let place : (64 * i + x) % 64 ≡ x = omega arith in
           let set : is_set map n (64 * i + x) ≡ true = rw (word, place) (eq-eqb (bit (at map (8 * n + i)) x) 1 s) in
           omega (arith, below_is map n v e (64 * i + x) (omega arith) set)
 
   -- and where the word of block v is made 0, and each later one is 0, no bit is at v or past it
-  pub bits_end : at map (8 * n + v / 64) / 2 ^ (v % 64) ≡ 0 → ((i : ℕ) → i < 8 → v / 64 < i → at map (8 * n + i) ≡ 0)
+  bits_end : at map (8 * n + v / 64) / 2 ^ (v % 64) ≡ 0 → ((i : ℕ) → i < 8 → v / 64 < i → at map (8 * n + i) ≡ 0)
       → bits_below map n v ≡ true
   bits_end z f = is_below map n v (λ k l q. low k l (dec_lt k v) (ℕ_discrete (k / 64) (v / 64)) (eqb-true (bit (at map (8 * n + k / 64)) (k % 64)) 1 q))
     where
@@ -89,3 +90,30 @@ module _ (map : List ℕ) (n v : ℕ) where
       low k l (no d) (no e) s =
           let w : at map (8 * n + k / 64) ≡ 0 = f (k / 64) (omega arith) (omega arith) in
           absurd (omega (arith, s, no_bit (at map (8 * n + k / 64)) 0 (k % 64) (omega arith) (omega arith)))
+
+  -- and so two tests say where they end: of the word of block v, with the blocks below v shifted out, and of each later
+  -- word
+  pub ends_is : v < 512 → ((i : ℕ) → at map i < 2 ^ 64)
+      → (eqb (at map (8 * n + v / 64) / 2 ^ (v % 64)) 0
+      && all_below (λ i. eqb (at map (8 * n + (v / 64 + 1 + i))) 0) (8 - (v / 64 + 1)))
+      ≡ bits_below map n v
+  ends_is l fits = same_from_decides _ (bits_below map n v) (there, back) (λ e. e, λ e. e)
+    where
+      first : Bool
+      first = eqb (at map (8 * n + v / 64) / 2 ^ (v % 64)) 0
+
+      later : ℕ → Bool
+      later i = eqb (at map (8 * n + (v / 64 + 1 + i))) 0
+
+      there : (first && all_below later (8 - (v / 64 + 1))) ≡ true → bits_below map n v ≡ true
+      there e =
+          let t = both first (all_below later (8 - (v / 64 + 1))) e in
+          bits_end (eqb-true _ 0 t.0) (λ i a b.
+          let k : v / 64 + 1 + (i - (v / 64 + 1)) ≡ i = omega arith in
+          rw k at (eqb-true _ 0 (every_is later (8 - (v / 64 + 1)) t.1 (i - (v / 64 + 1)) (omega arith))))
+
+      back : bits_below map n v ≡ true → (first && all_below later (8 - (v / 64 + 1))) ≡ true
+      back e =
+          let f : first ≡ true = eq-eqb _ 0 (bits_past (v / 64) (v % 64) (omega arith) (omega arith) (omega arith) (fits _) e) in
+          rw f (is_every later (8 - (v / 64 + 1)) (λ k m. eq-eqb _ 0
+          (omega (arith, bits_past (v / 64 + 1 + k) 0 (omega arith) (omega arith) (omega arith) (fits _) e))))

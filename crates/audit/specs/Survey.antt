@@ -1,7 +1,7 @@
 -- What the audit's survey finds and keeps: numbers in locals, the list that each record is to be on, by its head, and
 -- that the members which the rules ask for are those.
 -- Assumes nothing.
-use Rattle.std.specs.Prelude.{◌≡◌, Bool, not, List, ℕ, ◌+◌, ◌*◌, ◌/◌, ◌≤◌, ◌<◌, leb, eqb, length, set, if◌then◌else◌}
+use Rattle.std.specs.Prelude.{◌≡◌, Bool, not, List, ℕ, ◌+◌, ◌*◌, ◌/◌, ◌<◌, leb, eqb, length, set, if◌then◌else◌}
 use Rattle.std.proofs.Math.Path.{refl}
 use Rattle.std.proofs.Common.{sym, ◌∙◌, arith, get_or-set_same, get_or-set_other}
 use Rattle.std.proofs.Math.Bool.{true, false, and-true, and-false}
@@ -9,23 +9,7 @@ use Rattle.std.proofs.Math.Decide.{ℕ_discrete, dec_lt}
 use Rattle.std.proofs.Math.Dec.{ltb}
 use borrow.Author.Tests.{eq-eqb, ne_eqb, lt-ltb, le-ltb, leb-true}
 use Rattle.rules.specs.Say.{how_many}
-use Rattle.rules.specs.Books.{
-  at,
-  books_length,
-  map_length,
-  alignment_of,
-  usable_head,
-  unused_head,
-  class_head,
-  open_word,
-  free_pools,
-  freed_head,
-  arena_word,
-  arena,
-  class,
-  pool,
-  carved,
-}
+use Rattle.rules.specs.Books.{at, usable_head, unused_head, class_head, open_word, free_pools, freed_head, arena_word, arena, class, pool, carved}
 use Rattle.rules.specs.Blocks.{size_of, last_class, capacity}
 use Rattle.rules.specs.Audit.{
   set_bits,
@@ -38,7 +22,8 @@ use Rattle.rules.specs.Audit.{
   unused_member,
   class_member,
 }
-use Rattle.books.specs.declared.words.Shape.{Shape}
+use Rattle.books.specs.declared.reader.Reader.{Reader}
+use Rattle.books.specs.Readers.{alignment_in}
 use Rattle.books.specs.Sizes.{Aligned, class_low}
 use Rattle.sequences.specs.Update.{same_test}
 use Rattle.audit.specs.Turns.{counts, passes}
@@ -90,17 +75,14 @@ arena_home_of b a =
     else if eqb (arena b open_word a) 1 then (if eqb (arena b free_pools a) 0 then 0 else usable_head)
     else 1
 
--- ---- what the survey of a heap of this shape has found
-pub record Surveyed (s : Shape) (b map counts homes : List ℕ) : Type 0 where
-  pub arenas_high : s.arenas ≤ 16
-  pub pools_low : 1 ≤ s.pools
-  pub all : s.arenas * s.pools ≤ 1024
-  pub books : length b ≡ books_length s.arenas s.pools
-  pub words : length map ≡ map_length s.arenas s.pools
-  pub counts_long : s.arenas * s.pools ≤ length counts
-  pub homes_long : s.arenas * s.pools ≤ length homes
-  pub counted : Filled (set_bits map) (s.arenas * s.pools) counts
-  pub homed : Filled (home_of (alignment_of s.edition) s.arenas s.pools b map) (s.arenas * s.pools) homes
+-- ---- what the survey of a heap has found
+pub record Surveyed (heap : Reader) (counts homes : List ℕ) : Type 0 where
+  pub counts_long : length counts ≡ heap.shape.arenas * heap.shape.pools
+  pub homes_long : length homes ≡ heap.shape.arenas * heap.shape.pools
+  pub counted : Filled (set_bits heap.map.now) (heap.shape.arenas * heap.shape.pools) counts
+  pub homed : Filled (home_of (alignment_in heap) heap.shape.arenas heap.shape.pools heap.books.now heap.map.now)
+      (heap.shape.arenas * heap.shape.pools)
+      homes
 
 -- ---- members by their heads
 -- a number of blocks above any is a class's

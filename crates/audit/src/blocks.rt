@@ -1,6 +1,6 @@
 // A pool's blocks (02, W-201, rules 5 and 8): where its set bits end, and that each block is live, on the freed chain
 // or virgin.
-ghost use Rattle.std.specs.Prelude.{◌≡◌, true, ◌||◌, ◌*◌, ◌+◌, ◌/◌, ◌<◌, ◌≤◌, eqb, length};
+ghost use Rattle.std.specs.Prelude.{◌≡◌, ◌||◌, ◌*◌, ◌+◌, ◌<◌, ◌≤◌, eqb, length};
 ghost use Rattle.rules.specs.Books.{is_set};
 ghost use Rattle.rules.specs.Blocks.{start_of, is_start, capacity};
 ghost use Rattle.rules.specs.Audit.{set_bits, bits_below, is_dead, chained};
@@ -18,75 +18,7 @@ pub fn bits_below(map: &[u64], n: usize, v: usize) -> bool
     ensures { result ≡ bits_below map.now n v }
 {
     let first = v / 64;
-    if map[8 * n + first] >> (v % 64) != 0 {
-        return false;
-    }
-    for i in first + 1..8 {
-        if map[8 * n + i] != 0 {
-            return false;
-        }
-    }
-    true
-}
-
-// The link l leads to a block of this size, below block v, that is not live.
-fn is_dead(map: &[u64], n: usize, size: usize, v: usize, l: usize) -> bool
-    requires { (8 ≤ size) × (size ≤ 512) × (8 * n + 8 ≤ length map.now) }
-    ensures { result ≡ is_dead size (is_set map.now n) v l }
-{
-    if !is_start(size, l) {
-        return false;
-    }
-    let k = block_no(size, l);
-    (k < v) & !bits::is_set(map, n, k)
-}
-
-// From the link `first` on so many dead blocks of pool n are met, and then the chain ends.
-fn chained(
-    memory: &[u8],
-    map: &[u64],
-    n: usize,
-    size: usize,
-    v: usize,
-    count: usize,
-    first: usize,
-) -> bool
-    requires { (8 ≤ size) × (size ≤ 512) × (8 * n + 8 ≤ length map.now)
-        × (4096 * n + 4096 ≤ length memory.now) }
-    ensures { result ≡ chained size n memory.now (is_set map.now n) v count first }
-{
-    let mut k = count;
-    let mut l = first;
-    while k > 0 {
-        if !is_dead(map, n, size, v, l) {
-            return false;
-        }
-        l = index(link_at(memory, 4096 * n + l));
-        k -= 1;
-    }
-    l == 0
-}
-
-// How many blocks a pool with so many live ones is to have on its chain at least.
-fn least_on_chain(live: usize, size: usize) -> usize
-    requires { 1 ≤ size }
-    ensures { result ≡ least_by live (capacity size) }
-{
-    if live == 0 {
-        return 2;
-    }
-    if live < 4048 / size {
-        return 1;
-    }
-    0
-}
-
-// A block of this size starts at o in its pool, or the last one ends there.
-fn is_next(size: usize, o: usize) -> bool
-    requires { (8 ≤ size) × (size ≤ 512) }
-    ensures { result ≡ (is_start size o || eqb o (start_of size (capacity size))) }
-{
-    is_start(size, o) | (o == 48 + 4048 / size * size)
+    (map[8 * n + first] >> (v % 64) == 0) & (first + 1..8).all(|i| map[8 * n + i] == 0)
 }
 
 // The record of a pool that has no class, and no set bit, is 0 but for its class and next.
@@ -101,28 +33,78 @@ pub fn else_zero(pool: Pool) -> bool
         & (pool.spare == 0)
 }
 
-// Each block of pool n, whose record, block size and number of live blocks are given, is live, on the chain or virgin.
-pub fn is_divided(
-    memory: &[u8],
-    map: &[u64],
-    n: usize,
-    pool: Pool,
-    size: usize,
-    live: usize,
-) -> bool
-    requires { (8 ≤ size) × (size ≤ 512) × (8 * n + 8 ≤ length map.now) × (4096 * n + 4096 ≤ length memory.now)
-        × (live ≡ set_bits map.now n) }
-    ensures { result ≡ divided memory.now map.now n pool size live }
-{
-    let next = index(pool.nextoffset);
-    if !((index(pool.maxnextoffset) == 4096 - size) & is_next(size, next)) {
-        return false;
+// The blocks of a pool, of one size.
+#[derive(Clone, Copy)]
+pub struct Blocks<'a> {
+    pub memory: &'a [u8],
+    pub map: &'a [u64],
+    pub pool: usize,
+    pub size: usize,
+    ghost fits: { (8 ≤ size) × (size ≤ 512) × (8 * pool + 8 ≤ length map.now)
+        × (4096 * pool + 4096 ≤ length memory.now) },
+}
+
+impl Blocks<'_> {
+    // The link l leads to a block of this size, below block v, that is not live.
+    fn is_dead(&self, v: usize, l: usize) -> bool
+        ensures { result ≡ is_dead self.now.size (is_set self.now.map.now self.now.pool) v l }
+    {
+        if !is_start(self.size, l) {
+            return false;
+        }
+        let k = block_no(self.size, l);
+        (k < v) & !bits::is_set(self.map, self.pool, k)
     }
-    let v = (next - 48) / size;
-    if !bits_below(map, n, v) {
-        return false;
+
+    // From the link `first` on so many dead blocks are met, and then the chain ends.
+    fn chained(&self, v: usize, count: usize, first: usize) -> bool
+        ensures { result ≡ chained self.now.size self.now.pool self.now.memory.now
+            (is_set self.now.map.now self.now.pool) v count first }
+    {
+        let mut l = first;
+        for _ in 0..count {
+            if !self.is_dead(v, l) {
+                return false;
+            }
+            l = index(link_at(self.memory, 4096 * self.pool + l));
+        }
+        l == 0
     }
-    let count = v - live;
-    chained(memory, map, n, size, v, count, index(pool.freeblock))
-        & (least_on_chain(live, size) <= count)
+
+    // How many blocks are to be on the chain at least, where so many are live.
+    fn least_on_chain(&self, live: usize) -> usize
+        ensures { result ≡ least_by live (capacity self.now.size) }
+    {
+        if live == 0 {
+            return 2;
+        }
+        if live < 4048 / self.size {
+            return 1;
+        }
+        0
+    }
+
+    // A block starts at o in its pool, or the last one ends there.
+    fn is_next(&self, o: usize) -> bool
+        ensures { result ≡ (is_start self.now.size o || eqb o (start_of self.now.size (capacity self.now.size))) }
+    {
+        is_start(self.size, o) | (o == 48 + 4048 / self.size * self.size)
+    }
+
+    // Each block is live, on the chain or virgin, by the pool's record and the number of its live blocks.
+    pub fn are_divided(&self, pool: Pool, live: usize) -> bool
+        requires { live ≡ set_bits self.now.map.now self.now.pool }
+        ensures { result ≡ divided self.now.memory.now self.now.map.now self.now.pool pool self.now.size live }
+    {
+        let next = index(pool.nextoffset);
+        if !((index(pool.maxnextoffset) == 4096 - self.size) & self.is_next(next)) {
+            return false;
+        }
+        let v = (next - 48) / self.size;
+        if !bits_below(self.map, self.pool, v) {
+            return false;
+        }
+        let count = v - live;
+        self.chained(v, count, index(pool.freeblock)) & (self.least_on_chain(live) <= count)
+    }
 }

@@ -2,64 +2,55 @@
 // read alone; what is kept on the way stands in locals.
 #![tactic(auto)]
 
-pub mod blocks;
-pub mod keeps;
-pub mod lists;
-pub mod survey;
+mod blocks;
+mod homes;
+mod keeps;
+mod lists;
+mod survey;
 
-ghost use Rattle.std.specs.Prelude.{◌≡◌, ◌*◌, length};
-ghost use Rattle.rules.specs.Books.{alignment_of};
+ghost use Rattle.std.specs.Prelude.{◌≡◌};
 ghost use Rattle.rules.specs.Outcome.{heap_of};
 ghost use Rattle.rules.specs.Numbers.{shape_number};
 ghost use Rattle.rules.specs.Audit.{audit_by, number_of};
 ghost use Rattle.rules.specs.Promises.{AuditPromise};
-ghost use Rattle.audit.specs.Survey.{Surveyed};
+ghost use Rattle.books.specs.Readers.{heap_in, alignment_in};
 
-use crate::keeps::{arenas_keep, pools_keep, rule_2, rule_6};
-use crate::survey::{count_bits, find_homes};
-use books::numbers::shape_number;
-use books::words::{Shape, shape_of};
+use crate::homes::{count_bits, find_homes};
+use crate::survey::Survey;
+use books::numbers::test_shape;
+use books::reader::Reader;
 use rules::Verdict;
 
 const MOST_POOLS: usize = 1024;
 
 // The first broken rule, from the second on, of a heap that keeps the first and was surveyed; or yes.
-fn first_broken(
-    memory: &[u8],
-    books: &[u32],
-    map: &[u64],
-    s: Shape,
-    counts: &[u16],
-    homes: &[u8],
-) -> Verdict
-    requires { Surveyed s books.now map.now counts.now homes.now
-        × (length memory.now ≡ s.arenas * s.pools * 4096)
-        × (shape_number (heap_of memory.now books.now map.now) ≡ 0) }
-    ensures { number_of result ≡ audit_by (alignment_of s.edition) s.arenas s.pools
-        (heap_of memory.now books.now map.now) }
+fn first_broken(survey: &Survey) -> Verdict
+    requires { shape_number (heap_in survey.now.heap) ≡ 0 }
+    ensures { number_of result ≡ audit_by (alignment_in survey.now.heap) survey.now.heap.shape.arenas
+        survey.now.heap.shape.pools (heap_in survey.now.heap) }
 {
-    if !rule_2(memory, books, map, s, counts, homes) {
+    if !survey.rule_2() {
         return Verdict::Zeros;
     }
-    if !arenas_keep(books, map, s, counts, homes, 3) {
+    if !survey.rule_3() {
         return Verdict::Closed;
     }
-    if !arenas_keep(books, map, s, counts, homes, 4) {
+    if !survey.rule_4() {
         return Verdict::Open;
     }
-    if !pools_keep(memory, books, map, s, counts, homes, 5) {
+    if !survey.rule_5() {
         return Verdict::Bits;
     }
-    if !rule_6(memory, books, map, s, counts, homes) {
+    if !survey.rule_6() {
         return Verdict::Lists;
     }
-    if !pools_keep(memory, books, map, s, counts, homes, 7) {
+    if !survey.rule_7() {
         return Verdict::Counts;
     }
-    if !pools_keep(memory, books, map, s, counts, homes, 8) {
+    if !survey.rule_8() {
         return Verdict::Blocks;
     }
-    if !arenas_keep(books, map, s, counts, homes, 9) {
+    if !survey.rule_9() {
         return Verdict::Order;
     }
     Verdict::Yes
@@ -70,18 +61,30 @@ pub fn audit(memory: &[u8], books: &[u32], map: &[u64]) -> Verdict
     ensures { AuditPromise (heap_of memory.now books.now map.now)
         (heap_of memory.now books.now map.now) result }
 {
-    if shape_number(memory, books, map) != 0 {
+    let Ok(shape) = test_shape(memory, books, map) else {
         return Verdict::Shape;
-    }
-    let s = shape_of(books);
+    };
+    let heap = Reader {
+        memory,
+        books,
+        map,
+        shape,
+    };
+    let all = shape.arenas * shape.pools;
     let mut counts: [u16; MOST_POOLS] = [0; MOST_POOLS];
-    count_bits(map, s.arenas * s.pools, &mut counts);
+    let counts = &mut counts[..all];
+    count_bits(map, counts);
     let mut homes: [u8; MOST_POOLS] = [0; MOST_POOLS];
-    find_homes(books, s, &counts, &mut homes);
-    first_broken(memory, books, map, s, &counts, &homes)
+    let homes = &mut homes[..all];
+    find_homes(&heap, counts, homes);
+    first_broken(&Survey {
+        heap,
+        counts,
+        homes,
+    })
 }
 
-// The number of a verdict: 0 for yes, and that of the broken rule.
+// The number of a verdict: 0 for yes, and that of the broken rule. It is no `From`, since neither type is of this crate.
 pub fn number_of(verdict: Verdict) -> u32
     ensures { result ≡ number_of verdict }
 {

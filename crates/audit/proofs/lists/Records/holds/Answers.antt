@@ -1,0 +1,69 @@
+-- `audit::lists::Records::holds` walks: at each turn the answer is that of the members that are left to meet from the
+-- link l on.
+use Rattle.std.proofs.Common.{◌≡◌, sym, ap₂, ◌∙◌, true, ℕ, ◌-◌, ◌+◌, ◌≤◌, if◌then◌else◌, arith, length, eqb}
+use Rattle.rules.specs.Books.{at}
+use Rattle.rules.specs.Lists.{next_at, previous_at}
+use Rattle.rules.specs.Audit.{leads, meets}
+use Rattle.sequences.specs.Walks.{leads_is}
+use Rattle.audit.specs.Turns.{meets_end, meets_goes, meets_fails}
+use Rattle.audit.proofs.lists.Records.holds.Goals.{Else-not-leads, then-doubly, else-doubly}
+use Rattle.audit.proofs.lists.Records.holds.Goals as goal
+
+pub loop-init : goal.loop-init
+loop-init c =
+    let s = c.args.self.now in
+    let all = s.tallied.tallied c.args.head (omega arith) in (
+      ap₂ (λ (k l : ℕ). meets (next_at s.base) (previous_at s.base) (λ y. eqb (at s.homes.now y) c.args.head) (length s.homes.now)
+          s.books.now c.args.doubly k l 0) (omega (arith, all)) (sym c.word-l.ensures.0),
+      omega (arith, c.word-l.ensures.1),
+    )
+
+pub leads-requires : goal.leads-requires
+leads-requires c = omega arith
+
+pub returns-then-not-leads : goal.returns-then-not-leads
+returns-then-not-leads c =
+    sym (c.loop.invariant.0 ∙ meets_fails _ _ _ _ _ _ _ _ _ (omega arith) (sym c.leads.ensures ∙ c.if-not-leads.true))
+
+-- a member that is met is one of the records
+met : (c : Else-not-leads)
+    → let s = c.args.self.now in
+    leads (previous_at s.base) (λ y. eqb (at s.homes.now y) c.args.head) (length s.homes.now) s.books.now c.loop.l c.loop.p ≡ true
+met c = sym c.leads.ensures ∙ c.if-not-leads.false
+
+low : (c : Else-not-leads) → (1 ≤ c.loop.l) × (c.loop.l ≤ length c.args.self.now.homes.now)
+low c =
+    let s = c.args.self.now in
+    let t = leads_is (next_at s.base) (previous_at s.base) _ _ _ _ _ (met c) in
+    (omega (arith, t.0), omega (arith, t.0, t.2.0))
+
+pub overflow_sub-l : goal.overflow_sub-l
+overflow_sub-l c = omega (arith, low (goal.at.overflow_sub-l c).Else-not-leads)
+
+pub overflow_mul-l : goal.overflow_mul-l
+overflow_mul-l c = omega (arith, low (goal.at.overflow_mul-l c).Else-not-leads)
+
+pub overflow_add-self : goal.overflow_add-self
+overflow_add-self c = omega (arith, low (goal.at.overflow_add-self c).Else-not-leads)
+
+pub word-l-requires-in-loop : goal.word-l-requires-in-loop
+word-l-requires-in-loop c = omega (arith, low (goal.at.word-l-requires-in-loop c).Else-not-leads)
+
+pub loop-preserved : goal.loop-preserved
+loop-preserved c =
+    let s = c.args.self.now in
+    let x = c.loop in
+    let n = at s.tallies.now c.args.head in
+    let behind : c.if-doubly.p ≡ (if c.args.doubly then x.l else 0) = elim c.if-doubly.branch [
+      | then-doubly w ↦ rw (w.if-doubly.true, w.p-is)
+      | else-doubly w ↦ rw (w.if-doubly.false, w.p-is)
+    ] in
+    let less : n - x.counter - 1 ≡ n - (x.counter + 1) = omega arith in (
+      x.invariant.0
+          ∙ meets_goes _ _ _ _ _ _ _ _ _ (omega arith) (met (goal.at.loop-preserved c).Else-not-leads)
+          ∙ rw (less, c.word-l-in-loop.ensures.0, behind),
+      omega (arith, c.word-l-in-loop.ensures.1),
+    )
+
+pub returns : goal.returns
+returns c = sym (c.loop.invariant.0 ∙ meets_end _ _ _ _ _ _ _ _ _ (omega arith))
