@@ -40,8 +40,8 @@ pub fn count_bits(map: &[u64], counts: &mut [u16])
     requires { 8 * length counts.old ≤ length map.now }
     ensures { Filled (set_bits map.now) (length counts.new) counts.new }
 {
-    for n in 0..counts.len() {
-        counts[n] = set_bits(map, n) as u16;
+    for (n, count) in counts.iter_mut().enumerate() {
+        *count = set_bits(map, n) as u16;
     }
 }
 
@@ -84,8 +84,8 @@ pub fn find_homes(heap: &Reader, counts: &[u16], homes: &mut [u8])
     ensures { Filled (λ n. home_by (alignment_in heap.now) heap.now.shape.arenas heap.now.shape.pools heap.now.books.now
         n (at counts.now n)) (length homes.new) homes.new }
 {
-    for n in 0..homes.len() {
-        homes[n] = home_of(heap, n, usize::from(counts[n])) as u8;
+    for (n, home) in homes.iter_mut().enumerate() {
+        *home = home_of(heap, n, usize::from(counts[n])) as u8;
     }
 }
 
@@ -112,8 +112,8 @@ pub fn find_arena_homes(heap: &Reader, homes: &mut [u8])
     requires { length homes.old ≡ heap.now.shape.arenas }
     ensures { Filled (arena_home_of heap.now.books.now) (length homes.new) homes.new }
 {
-    for a in 0..homes.len() {
-        homes[a] = arena_home_of(heap, a) as u8;
+    for (a, home) in homes.iter_mut().enumerate() {
+        *home = arena_home_of(heap, a) as u8;
     }
 }
 

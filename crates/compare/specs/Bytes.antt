@@ -1,35 +1,40 @@
 -- The bytes of two memories, compared in runs.
 -- Assumes nothing.
-use Rattle.std.specs.Prelude.{◌≡◌, Bool, List}
-use Rattle.std.proofs.Math.Path.{refl, ap, ap₂}
-use Rattle.std.proofs.Common.{◌∙◌}
-use Rattle.std.proofs.Math.Bool.{true, false, ◌&&◌}
-use Prim.Native.Nat.{ℕ, zero, suc, ◌+◌}
-use native.Mathlib.Omega.{arith}
-use Rattle.std.proofs.Math.Dec.{eqb}
+use Rattle.std.specs.Prelude.{◌≡◌, refl, Bool, true, false, ◌&&◌, List, ℕ, zero, suc, ◌+◌, ◌*◌, eqb}
+use Rattle.std.specs.List.{list_all, range_with_len}
+use Rattle.std.proofs.Common.{sym, ap, ◌∙◌, suc-mul, arith}
 use Rattle.rules.specs.Say.{all_below}
 use Rattle.rules.specs.Books.{at}
 use Rattle.rules.specs.Compare.{same_bytes}
 
 module _ (m m' : List ℕ) where
-  -- a run is the same where its front is and what comes after it
-  pub run_more : (o k n : ℕ) → same_bytes m m' o k ≡ true → same_bytes m m' o (k + n) ≡ same_bytes m m' (o + k) n
+  -- a run is the same where its front is and what comes after it is
+  pub run_parts : (o k n : ℕ) → same_bytes m m' o k && same_bytes m m' (o + k) n ≡ same_bytes m m' o (k + n)
   unfolding all_below
-  run_more o k zero e = (let z : k + 0 ≡ k = omega arith in ap (same_bytes m m' o) z) ∙ e
-  run_more o k (suc n) e =
-      let z : k + suc n ≡ suc (k + n) = omega arith in
-      let t : o + (k + n) ≡ o + k + n = omega arith in
-      ap (same_bytes m m' o) z
-      ∙ ap₂ ◌&&◌ (ap (λ (x : ℕ). eqb (at m x) (at m' x)) t) (run_more o k n e)
-
-  -- and is not where its front is not
-  pub run_ends : (o k n : ℕ) → same_bytes m m' o k ≡ false → same_bytes m m' o (k + n) ≡ false
-  unfolding all_below
-  run_ends o k zero e = (let z : k + 0 ≡ k = omega arith in ap (same_bytes m m' o) z) ∙ e
-  run_ends o k (suc n) e =
-      let z : k + suc n ≡ suc (k + n) = omega arith in
-      ap (same_bytes m m' o) z ∙ rw (run_ends o k n e) (no (eqb (at m (o + (k + n))) (at m' (o + (k + n)))))
+  run_parts o k zero =
+      let z : k + 0 ≡ k = omega arith in rw z (true_last (same_bytes m m' o k))
     where
-      no : (t : Bool) → t && false ≡ false
-      no true = refl
-      no false = refl
+      true_last : (t : Bool) → t && true ≡ t
+      true_last true = refl
+      true_last false = refl
+  run_parts o k (suc n) =
+      let z : k + suc n ≡ suc (k + n) = omega arith in
+      let t : o + k + n ≡ o + (k + n) = omega arith in
+      rw (z, t) (swap (same_bytes m m' o k) (eqb (at m (o + (k + n))) (at m' (o + (k + n)))) (same_bytes m m' (o + k) n)
+      ∙ ap (λ (x : Bool). eqb (at m (o + (k + n))) (at m' (o + (k + n))) && x) (run_parts o k n))
+    where
+      swap : (t u v : Bool) → t && (u && v) ≡ u && (t && v)
+      swap true u v = refl
+      swap false true v = refl
+      swap false false v = refl
+
+  -- and where each of its groups is
+  pub run_groups : (o n j k : ℕ)
+      → list_all (λ i. same_bytes m m' (o + i * n) n) (range_with_len j k) ≡ same_bytes m m' (o + j * n) (k * n)
+  unfolding all_below
+  run_groups o n j zero = let z : 0 * n ≡ 0 = omega arith in rw z
+  run_groups o n j (suc k) =
+      let e : suc k * n ≡ n + k * n = omega (arith, suc-mul k n) in
+      let f : o + (j + 1) * n ≡ o + j * n + n = omega (arith, suc-mul j n) in
+      ap (λ (x : Bool). same_bytes m m' (o + j * n) n && x) (run_groups o n (j + 1) k ∙ ap (λ (x : ℕ). same_bytes m m' x (k * n)) f)
+      ∙ run_parts (o + j * n) n (k * n) ∙ ap (same_bytes m m' (o + j * n)) (sym e)

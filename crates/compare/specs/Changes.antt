@@ -36,13 +36,19 @@ use Rattle.std.specs.Int.Signed.{mag}
 use Rattle.std.specs.Int.{w32}
 use borrow.Author.Tests.{eq-eqb, ne_eqb, le-leb, lt-leb, le-ltb, lt-ltb}
 use Rattle.rules.specs.Say.{how_many, total}
-use Rattle.rules.specs.Books.{at, is_set, class, pool, offset_of}
+use Rattle.rules.specs.Books.{Heap, at, is_set, alignment_of, class, pool, offset_of}
 use Rattle.rules.specs.Blocks.{size_of, last_class, start_of, capacity}
 use Rattle.rules.specs.View.{roll_blocks, roll_pool}
-use Rattle.rules.specs.Compare.{change_from}
+use Rattle.rules.specs.Compare.{live_in_pool, live_of_class, change_from, changes_from, classes}
+use Rattle.books.specs.declared.words.Shape.{Shape}
+use Rattle.books.specs.declared.reader.Reader.{Reader}
+use Rattle.books.specs.Known.{shape_of}
+use Rattle.books.specs.Readers.{alignment_in}
 use Rattle.books.specs.Sizes.{Aligned, capacity_high, class_low}
 use Rattle.sequences.specs.Counting.{many_le}
 use Rattle.loops.specs.Word.{split}
+use Rattle.compare.specs.declared.pair.Pair.{Pair}
+use Rattle.compare.specs.Pools.{first, second, changes_in}
 
 -- how many blocks of pool p are live, where its class is c: `live_in_pool` of any books and map
 abbrev pub live_among : ℕ → ℕ → List ℕ → List ℕ → ℕ → ℕ → ℕ
@@ -234,23 +240,35 @@ pub changes_end : (xs ys : List ℕ) (c n : ℕ) → n ≤ c → changes_of xs y
 unfolding changes_of
 changes_end xs ys c n l = let e : n - c ≡ 0 = omega arith in ap (changes_of xs ys c) e
 
--- from the books and maps of two heaps with n pools each, of the n classes from class c on
-abbrev pub among_from : ℕ → ℕ → ℕ → List ℕ → List ℕ → List ℕ → List ℕ → ℕ → ℕ → List ℤ
-among_from al A n b map b' map' c zero = []
-among_from al A n b map b' map' c (suc k) =
-    change_from (total (live_among al A b map c) n) (total (live_among al A b' map' c) n)
-    ∷ among_from al A n b map b' map' (suc c) k
+-- ---- two heaps of one shape
+-- the live blocks of a class
+class_are : {s : Shape} (h : Heap) → shape_of h.books ≡ s → (c : ℕ)
+    → live_of_class h c ≡ total (live_among (alignment_of s.edition) s.arenas h.books h.map c) (s.arenas * s.pools)
+unfolding live_in_pool
+class_are h is c = ap (λ (t : Shape). total (live_among (alignment_of t.edition) t.arenas h.books h.map c) (t.arenas * t.pools)) is
 
--- of all classes
-abbrev pub changes_among : ℕ → ℕ → ℕ → List ℕ → List ℕ → List ℕ → List ℕ → List ℤ
-changes_among al A n b map b' map' = among_from al A n b map b' map' 0 (last_class al + 1)
+-- the counts of both give the changes
+module _ (h : Pair) where
+  pub classes_are : last_class (alignment_in h.first) + 1 ≡ classes (first h)
+  classes_are = sym (ap (λ (t : Shape). last_class (alignment_of t.edition) + 1) h.first_read)
 
--- the counts give them
-pub counts_give : (al A n : ℕ) (b map b' map' xs ys : List ℕ) → Counted al A b map n xs → Counted al A b' map' n ys
-    → changes_of xs ys 0 (last_class al + 1) ≡ changes_among al A n b map b' map'
-unfolding changes_of
-counts_give al A n b map b' map' xs ys C D = from 0 (last_class al + 1) (omega arith)
-  where
-    from : (c k : ℕ) → c + k ≤ last_class al + 1 → changes_of xs ys c k ≡ among_from al A n b map b' map' c k
-    from c zero h = refl
-    from c (suc k) h = rw (C c (omega arith), D c (omega arith), from (suc c) k (omega arith))
+  abbrev Counts : Reader → List ℕ → Type 0
+  Counts r xs = Counted (alignment_in r) r.shape.arenas r.books.now r.map.now (r.shape.arenas * r.shape.pools) xs
+
+  pub counts_give : (xs ys : List ℕ) → Counts h.first xs → Counts h.second ys
+      → changes_of xs ys 0 (last_class (alignment_in h.first) + 1) ≡ changes_in h
+  unfolding changes_of changes_from
+  counts_give xs ys C D =
+      from 0 (last_class (alignment_in h.first) + 1) (omega arith) ∙ ap (changes_from (first h) (second h) 0) classes_are
+    where
+      other : last_class (alignment_in h.second) ≡ last_class (alignment_in h.first)
+      other = ap (λ (t : Shape). last_class (alignment_of t.edition)) h.one_shape
+
+      from : (c k : ℕ) → c + k ≤ last_class (alignment_in h.first) + 1 → changes_of xs ys c k ≡ changes_from (first h) (second h) c k
+      from c zero l = refl
+      from c (suc k) l =
+          rw (
+            C c (omega arith) ∙ sym (class_are (first h) h.first_read c),
+            D c (omega (arith, other)) ∙ sym (class_are (second h) h.second_read c),
+            from (suc c) k (omega arith),
+          )

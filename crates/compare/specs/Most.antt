@@ -18,7 +18,8 @@ use Rattle.sequences.specs.Update.{is_false}
 use Rattle.sequences.specs.Listing.{listing_add, listing_none, length_steps, pool_is, starts_only}
 use Rattle.loops.specs.Roll.{eights}
 use Rattle.compare.specs.Kinds.{live_in}
-use Rattle.compare.specs.Pools.{Beside, at_pool}
+use Rattle.compare.specs.declared.pair.Pair.{Pair}
+use Rattle.compare.specs.Pools.{shape, first, second, second_is, kind_in, pools_in, at_pool}
 
 -- where a block starts, one of 8 bytes would
 coarse : (s x : ℕ) → 8 ≤ s → s % 8 ≡ 0 → is_start s x ≡ true → is_start 8 x ≡ true
@@ -30,50 +31,49 @@ coarse s x low e t =
     let q : x - 48 ≡ k * (s / 8) * 8 = omega (arith, S.place, mul_assoc k (s / 8) 8, ap (λ (n : ℕ). k * n) m) in
     rw (le-leb 48 x S.low, le-leb x (last_start 8) (omega (arith, S.ends)), q, mul-mod_left (k * (s / 8)) 8)
 
-module _ {s : Shape} {first second : Heap} (B : Beside s first second) (p : ℕ) (l : p < s.arenas * s.pools) where
+module _ (h : Pair) (p : ℕ) (l : p < pools_in h) where
   -- a live block of the pool starts there
-  starts : (h : Heap) → shape_of h.books ≡ s → (x : ℕ) → x < 4096
-      → is_live h (4096 * p + x) ≡ true → is_start 8 x ≡ true
+  starts : (g : Heap) → shape_of g.books ≡ shape h → (x : ℕ) → x < 4096
+      → is_live g (4096 * p + x) ≡ true → is_start 8 x ≡ true
   unfolding live_in
-  starts h is x u on =
+  starts g is x u on =
+      let s = shape h in
       let L = aligned s.edition in
-      let c = pool s.arenas h.books class p in
-      let here = ap (λ (t : Shape). live (alignment_of t.edition) t.arenas t.pools h.books h.map (4096 * p + x)) is in
-      let t = both (leb c (last_class (alignment_of s.edition))) _ (sym (at_pool L s.arenas s.pools h.books h.map p x l u) ∙ sym here ∙ on) in
+      let c = pool s.arenas g.books class p in
+      let here = ap (λ (t : Shape). live (alignment_of t.edition) t.arenas t.pools g.books g.map (4096 * p + x)) is in
+      let t = both (leb c (last_class (alignment_of s.edition))) _ (sym (at_pool L s.arenas s.pools g.books g.map p x l u) ∙ sym here ∙ on) in
       coarse (size_of (alignment_of s.edition) c) x (size_low L c (leb-true _ _ t.0)) (eights L c) (both _ _ t.1).0
 
-  none_else : (x : ℕ) → x < 4096 → is_start 8 x ≡ false → kind_at first second (4096 * p + x) ≡ 0
+  none_else : (x : ℕ) → x < 4096 → is_start 8 x ≡ false → kind_in h (4096 * p + x) ≡ 0
   unfolding kind_at
   none_else x u off =
       rw (
-        is_false (is_live first (4096 * p + x)) (λ e. false≢true (sym off ∙ starts first B.first_is x u e)),
-        is_false (is_live second (4096 * p + x)) (λ e. false≢true (sym off ∙ starts second B.second_is x u e)),
+        is_false (is_live (first h) (4096 * p + x)) (λ e. false≢true (sym off ∙ starts (first h) h.first_read x u e)),
+        is_false (is_live (second h) (4096 * p + x)) (λ e. false≢true (sym off ∙ starts (second h) (second_is h) x u e)),
       )
 
   -- so of one pool 506 differ at most, with two words each
-  pool_most : length (listing (kind_at first second) (4096 * p) 4096) ≤ 1012
+  pool_most : length (listing (kind_in h) (4096 * p) 4096) ≤ 1012
   pool_most =
-      let q = pool_is (starts_only (kind_at first second) p 8 (omega arith) none_else) in
-      omega (arith, ap length q, length_steps (kind_at first second) (4096 * p + 48) 8 506)
+      let q = pool_is (starts_only (kind_in h) p 8 (omega arith) none_else) in
+      omega (arith, ap length q, length_steps (kind_in h) (4096 * p + 48) 8 506)
 
 -- and of all of them so many times 1,012
-pub list_most : {s : Shape} {first second : Heap} → Beside s first second
-    → length (listing (kind_at first second) 0 (s.arenas * s.pools * 4096)) ≤ 1012 * (s.arenas * s.pools)
-list_most {s} {first} {second} B = from (s.arenas * s.pools) (omega arith)
+pub list_most : (h : Pair) → length (listing (kind_in h) 0 (pools_in h * 4096)) ≤ 1012 * pools_in h
+list_most h = from (pools_in h) (omega arith)
   where
-    from : (n : ℕ) → n ≤ s.arenas * s.pools → length (listing (kind_at first second) 0 (n * 4096)) ≤ 1012 * n
-    from zero h =
-        omega (arith, ap length (listing_none (kind_at first second) 0 (0 * 4096) (λ i l. absurd (omega arith))))
-    from (suc n) h =
+    from : (n : ℕ) → n ≤ pools_in h → length (listing (kind_in h) 0 (n * 4096)) ≤ 1012 * n
+    from zero l = omega (arith, ap length (listing_none (kind_in h) 0 (0 * 4096) (λ i l. absurd (omega arith))))
+    from (suc n) l =
         let e : suc n * 4096 ≡ n * 4096 + 4096 = omega arith in
         let q : 0 + n * 4096 ≡ 4096 * n = omega arith in
-        let t = ap (listing (kind_at first second) 0) e
-        ∙ listing_add (kind_at first second) 0 (n * 4096) 4096
-        ∙ ap (λ (o : ℕ). listing (kind_at first second) 0 (n * 4096) ++ listing (kind_at first second) o 4096) q in
+        let t = ap (listing (kind_in h) 0) e
+        ∙ listing_add (kind_in h) 0 (n * 4096) 4096
+        ∙ ap (λ (o : ℕ). listing (kind_in h) 0 (n * 4096) ++ listing (kind_in h) o 4096) q in
         omega (
           arith,
           ap length t,
-          length-append (listing (kind_at first second) 0 (n * 4096)) (listing (kind_at first second) (4096 * n) 4096),
+          length-append (listing (kind_in h) 0 (n * 4096)) (listing (kind_in h) (4096 * n) 4096),
           from n (omega arith),
-          pool_most B n (omega arith),
+          pool_most h n (omega arith),
         )

@@ -1,129 +1,85 @@
--- The order of the tests: where compare stops, and what it leaves where it passes them all. And what the tests of both
--- heaps say together.
+-- The order of the tests: where compare stops, and what it leaves where it passes them all.
 -- Assumes nothing.
-use Rattle.std.specs.Prelude.{◌≡◌, refl, true, ◌&&◌, List, ◌++◌, ℕ, zero, suc, ◌+◌, ◌*◌, ◌/◌, ◌≤◌, ◌<◌, eqb, ℤ, length, drop, if◌then◌else◌}
+use Rattle.std.specs.Prelude.{◌≡◌, refl, Bool, ◌&&◌, nat_eq, if◌then◌else◌, List, ◌++◌, ℕ, zero, suc, ◌+◌, ◌/◌, ◌≤◌, ◌<◌, ℤ, length, drop}
 use Rattle.std.proofs.Common.{sym, ap, ap₂, ◌∙◌, arith}
+use Rattle.std.proofs.Math.Bool.{and_assoc}
 use Rattle.std.proofs.lemmas.List.Edits.{sets, sets-eq}
-use borrow.Author.Tests.{eqb-true, le-ltb, lt-ltb}
-use Rattle.rules.specs.Say.{total}
-use Rattle.rules.specs.Books.{Heap, alignment_of}
-use Rattle.rules.specs.Blocks.{last_class}
-use Rattle.rules.specs.Outcome.{passing}
+use Rattle.rules.specs.Books.{Heap}
 use Rattle.rules.specs.Numbers.{shape_number, room_number, ◌before◌}
-use Rattle.rules.specs.Compare.{
-  differences,
-  live_in_pool,
-  live_of_class,
-  changes_from,
-  changes,
-  classes,
-  unequal_number,
-  CompareOutcome,
-  compare_outcome,
-  compare,
-}
+use Rattle.rules.specs.Compare.{differences, changes_from, changes, classes, unequal_number, compare_outcome, compare_tests, compare}
 use Rattle.books.specs.declared.words.Shape.{Shape}
 use Rattle.books.specs.Known.{shape_of}
-use Rattle.books.specs.Tests.{both}
-use Rattle.compare.specs.Changes.{live_among, among_from, changes_among}
-use Rattle.compare.specs.Pools.{Beside}
+use Rattle.books.specs.declared.refusal.Refusal.{Refusal}
+use Rattle.books.specs.Passing.{refuses, passed, lets_pass, too_little, enough}
+use Rattle.books.specs.Refusals.{number_of}
 
--- ---- the tests, one after the other
-module _ (first second : Heap) (list : List ℕ) (lent : List ℤ) where
-  -- a number that is not 0 stops the call, whatever comes after it
-  stop : (k j : ℕ) (rest : CompareOutcome) → (k ≡ 0 → ⊥)
-      → passing (k before j) (λ n. compare_outcome n 0 list lent) rest ≡ compare_outcome k 0 list lent
-  stop zero j rest d = absurd (d refl)
-  stop (suc k) j rest d = refl
+-- ---- the tests, one after the other; first those of both shapes
+abbrev pub pair_number : Heap → Heap → ℕ
+pair_number one two = shape_number one before shape_number two before unequal_number one two
 
-  pub stops_first : (k : ℕ) → k ≡ shape_number first → (k ≡ 0 → ⊥)
-      → compare first second list lent ≡ compare_outcome k 0 list lent
-  unfolding compare
-  stops_first k e d = rw e (stop (shape_number first) _ _ (λ z. d (e ∙ z)))
+-- where each heap has its shape, they go by whether the two are one
+abbrev same : Shape → Shape → Bool
+same s s' = nat_eq s.arenas s'.arenas && (nat_eq s.pools s'.pools && nat_eq s.edition s'.edition)
 
-  module _ (a : shape_number first ≡ 0) where
-    pub stops_second : (k : ℕ) → k ≡ shape_number second → (k ≡ 0 → ⊥)
-        → compare first second list lent ≡ compare_outcome k 0 list lent
-    unfolding compare
-    stops_second k e d = rw (e, a) (stop (shape_number second) _ _ (λ z. d (e ∙ z)))
-
-    module _ (b : shape_number second ≡ 0) where
-      pub stops_unequal : (k : ℕ) → k ≡ unequal_number first second → (k ≡ 0 → ⊥)
-          → compare first second list lent ≡ compare_outcome k 0 list lent
-      unfolding compare
-      stops_unequal k e d = rw (e, a, b) (stop (unequal_number first second) _ _ (λ z. d (e ∙ z)))
-
-      module _ (c : unequal_number first second ≡ 0) where
-        pub stops_list : length list < length (differences first second)
-            → compare first second list lent ≡ compare_outcome 7 0 list lent
-        unfolding compare room_number
-        stops_list l = rw (a, b, c, lt-ltb (length list) (length (differences first second)) l)
-
-        module _ (d : length (differences first second) ≤ length list) where
-          pub stops_changes : length lent < classes first
-              → compare first second list lent ≡ compare_outcome 7 0 list lent
-          unfolding compare room_number
-          stops_changes l =
-              rw (a, b, c, le-ltb (length list) (length (differences first second)) d, lt-ltb (length lent) (classes first) l)
-
-          pub goes_through : classes first ≤ length lent
-              → compare first second list lent
-              ≡ compare_outcome 0 (length (differences first second) / 2)
-              (differences first second ++ drop (length (differences first second)) list)
-              (changes first second ++ drop (classes first) lent)
-          unfolding compare room_number
-          goes_through l =
-              rw (a, b, c, le-ltb (length list) (length (differences first second)) d, le-ltb (length lent) (classes first) l)
-
--- ---- the numbers of both shapes
-abbrev pub unequal_by : Shape → Shape → ℕ
-unequal_by s s' =
-    if eqb s.arenas s'.arenas && eqb s.pools s'.pools && eqb s.edition s'.edition then 0 else 12
-
-pub unequal_is : (first second : Heap)
-    → unequal_number first second ≡ unequal_by (shape_of first.books) (shape_of second.books)
+pub by_shapes : (one two : Heap) (s s' : Shape) → 0 ≡ shape_number one → 0 ≡ shape_number two
+    → s ≡ shape_of one.books → s' ≡ shape_of two.books
+    → pair_number one two ≡ (if same s s' then 0 else 12)
 unfolding unequal_number
-unequal_is first second = refl
-
--- equal ones are one shape
-pub equal_shape : (s s' : Shape)
-    → eqb s.arenas s'.arenas && eqb s.pools s'.pools && eqb s.edition s'.edition ≡ true → s' ≡ s
-equal_shape s s' e =
-    let t = both (eqb s.arenas s'.arenas && eqb s.pools s'.pools) (eqb s.edition s'.edition) e in
-    let u = both (eqb s.arenas s'.arenas) (eqb s.pools s'.pools) t.0 in
-    sym (shape_path (eqb-true _ _ u.0) (eqb-true _ _ u.1) (eqb-true _ _ t.1))
+by_shapes one two s s' a b e f =
+    let t = shape_of one.books in
+    let t' = shape_of two.books in
+    rw (← a, ← b, e, f) (ap by_test (and_assoc (nat_eq t.arenas t'.arenas) (nat_eq t.pools t'.pools) (nat_eq t.edition t'.edition)))
   where
-    shape_path : s.arenas ≡ s'.arenas → s.pools ≡ s'.pools → s.edition ≡ s'.edition → s ≡ s'
-    shape_path x y z =
-        ap (λ (n : ℕ). record { arenas = n; pools = s.pools; edition = s.edition }) x
-        ∙ ap (λ (n : ℕ). record { arenas = s'.arenas; pools = n; edition = s.edition }) y
-        ∙ ap (λ (n : ℕ). record { arenas = s'.arenas; pools = s'.pools; edition = n }) z
+    by_test : Bool → ℕ
+    by_test u = if u then 0 else 12
 
--- ---- the changes of two heaps of one shape, by their books and maps
--- the live blocks of a class
-class_are : {s : Shape} (h : Heap) → shape_of h.books ≡ s → (c : ℕ)
-    → live_of_class h c
-    ≡ total (live_among (alignment_of s.edition) s.arenas h.books h.map c) (s.arenas * s.pools)
-unfolding live_in_pool
-class_are h is c =
-    ap (λ (t : Shape). total (live_among (alignment_of t.edition) t.arenas h.books h.map c) (t.arenas * t.pools)) is
+before_more : (a b c rest : ℕ) → ((a before b before c) before rest) ≡ (a before b before c before rest)
+before_more zero zero c rest = refl
+before_more zero (suc b) c rest = refl
+before_more (suc a) b c rest = refl
 
-pub changes_are : {s : Shape} {first second : Heap} → Beside s first second
-    → changes first second
-    ≡ changes_among (alignment_of s.edition) s.arenas (s.arenas * s.pools) first.books first.map
-    second.books second.map
-unfolding changes_from
-changes_are {s} {first} {second} B =
-    from 0 (classes first) ∙ ap (λ (t : Shape). among 0 (last_class (alignment_of t.edition) + 1)) B.first_is
-  where
-    among : ℕ → ℕ → List ℤ
-    among =
-        among_from (alignment_of s.edition) s.arenas (s.arenas * s.pools)
-        first.books first.map second.books second.map
+module _ (one two : Heap) (list : List ℕ) (lent : List ℤ) where
+  -- those of the room
+  abbrev rooms : ℕ
+  rooms = room_number (length (differences one two)) (length list) before room_number (classes one) (length lent)
 
-    from : (c n : ℕ) → changes_from first second c n ≡ among c n
-    from c zero = refl
-    from c (suc n) = rw (class_are first B.first_is c, class_are second B.second_is c, from (suc c) n)
+  in_turn : (pair_number one two before rooms) ≡ compare_tests one two (length list) (length lent)
+  in_turn = before_more (shape_number one) (shape_number two) (unequal_number one two) rooms
+
+  stops : (r : Refusal) → number_of r ≡ (pair_number one two before rooms)
+      → compare_outcome (number_of r) 0 list lent ≡ compare one two list lent
+  unfolding compare
+  stops r e = refuses (λ k. compare_outcome k 0 list lent) _ r _ (e ∙ in_turn)
+
+  pub pair_stops : (r : Refusal) → number_of r ≡ pair_number one two
+      → compare_outcome (number_of r) 0 list lent ≡ compare one two list lent
+  pair_stops r e = stops r (refuses (λ n. n) rooms r (pair_number one two) e)
+
+  module _ (p : 0 ≡ pair_number one two) where
+    room_stops : (r : Refusal) → number_of r ≡ rooms → compare_outcome (number_of r) 0 list lent ≡ compare one two list lent
+    room_stops r e = stops r (e ∙ sym (passed (λ n. n) rooms (pair_number one two) (sym p)))
+
+    pub list_stops : (r : Refusal) → number_of r ≡ 7 → length list < length (differences one two)
+        → compare_outcome (number_of r) 0 list lent ≡ compare one two list lent
+    list_stops r e l =
+        room_stops r (refuses (λ n. n) _ r _ (e ∙ sym (too_little (length (differences one two)) (length list) l)))
+
+    module _ (d : length (differences one two) ≤ length list) where
+      pub changes_stop : (r : Refusal) → number_of r ≡ 7 → length lent < classes one
+          → compare_outcome (number_of r) 0 list lent ≡ compare one two list lent
+      changes_stop r e l =
+          room_stops r (rw (enough (length (differences one two)) (length list) d) (e ∙ sym (too_little (classes one) (length lent) l)))
+
+      pub goes_through : classes one ≤ length lent
+          → compare_outcome 0 (length (differences one two) / 2)
+          (differences one two ++ drop (length (differences one two)) list)
+          (changes one two ++ drop (classes one) lent)
+          ≡ compare one two list lent
+      unfolding compare
+      goes_through l =
+          let room : rooms ≡ 0 = rw (enough (length (differences one two)) (length list) d) (enough (classes one) (length lent) l) in
+          lets_pass (λ k. compare_outcome k 0 list lent) _ _ (compare_tests one two (length list) (length lent))
+          (sym room ∙ sym (passed (λ n. n) rooms (pair_number one two) (sym p)) ∙ in_turn) refl
 
 -- ---- what is stored at the front of the changes, and what stays
 length_changes : (first second : Heap) (c n : ℕ) → length (changes_from first second c n) ≡ n

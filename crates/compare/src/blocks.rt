@@ -1,18 +1,18 @@
-// The kind of one block or offset, by where it is live, and its entry in the list.
-ghost use Rattle.std.specs.Prelude.{◌≡◌, ◌+◌, ◌%◌, ◌^◌, ◌≤◌, ◌<◌, length};
-ghost use Rattle.compare.specs.Kinds.{is_bit, entry_of, together, apart};
-ghost use Rattle.compare.specs.Noted.{Room, Noted};
+// The kind of one offset, by where a block is live, and its entry in the list.
+ghost use Rattle.std.specs.Prelude.{◌≡◌, ◌+◌, ◌%◌, ◌^◌, ◌≤◌, ◌<◌, ◌&&◌, Option, IsTrue, length};
+ghost use Rattle.compare.specs.Kinds.{is_bit, entry_of, by_side, together, apart, kind_number};
+ghost use Rattle.compare.specs.Noted.{Noted};
 
 use crate::bytes::same_block;
 
-// The kinds, as the header names them.
-pub const FIRST_ALONE: u32 = 1;
-
-pub const SECOND_ALONE: u32 = 2;
-
-pub const OTHER_SIZE: u32 = 3;
-
-pub const OTHER_BYTES: u32 = 4;
+// How the two heaps differ at an offset, as the header numbers it.
+#[derive(Clone, Copy, Debug, PartialEq, Eq)]
+pub enum Kind {
+    FirstAlone = 1,
+    SecondAlone = 2,
+    OtherSize = 3,
+    OtherBytes = 4,
+}
 
 // Bit j of a word is set.
 pub fn has_bit(word: u64, j: usize) -> bool
@@ -20,6 +20,24 @@ pub fn has_bit(word: u64, j: usize) -> bool
     ensures { result ≡ is_bit word j }
 {
     (word >> j) & 1 == 1
+}
+
+// The kind of an offset, by the heaps that have a live block there; `in_both` is asked only where both have.
+fn kind_by_side<F: FnOnce() -> Option<Kind>>(
+    in_first: bool,
+    in_second: bool,
+    in_both: F,
+) -> Option<Kind>
+    requires { IsTrue (in_first && in_second) → F.pre in_both }
+    ensures { (both : Option Kind) × (IsTrue (in_first && in_second) → F.post in_both both)
+        × (kind_number result ≡ by_side in_first in_second (kind_number both)) }
+{
+    match (in_first, in_second) {
+        (true, true) => in_both(),
+        (true, false) => Some(Kind::FirstAlone),
+        (false, true) => Some(Kind::SecondAlone),
+        (false, false) => None,
+    }
 }
 
 // The kind of a block that has one size in both heaps, if it is live in both.
@@ -30,54 +48,38 @@ pub fn kind_together(
     in_second: bool,
     offset: usize,
     size: usize,
-) -> u32
+) -> Option<Kind>
     requires { (size % 8 ≡ 0) × (offset + size ≤ length first.now) × (offset + size ≤ length second.now) }
-    ensures { result ≡ together first.now second.now in_first in_second offset size }
+    ensures { kind_number result ≡ together first.now second.now in_first in_second offset size }
 {
-    if in_first {
-        if in_second {
-            if same_block(first, second, offset, size) {
-                return 0;
-            }
-            return OTHER_BYTES;
+    kind_by_side(in_first, in_second, || {
+        if same_block(first, second, offset, size) {
+            None
+        } else {
+            Some(Kind::OtherBytes)
         }
-        return FIRST_ALONE;
-    }
-    if in_second {
-        return SECOND_ALONE;
-    }
-    0
+    })
 }
 
 // The kind of an offset that has another size in each heap, if it is live in both: its bytes are not looked at.
-pub fn kind_apart(in_first: bool, in_second: bool) -> u32
-    ensures { result ≡ apart in_first in_second }
+pub fn kind_apart(in_first: bool, in_second: bool) -> Option<Kind>
+    ensures { kind_number result ≡ apart in_first in_second }
 {
-    if in_first {
-        if in_second {
-            return OTHER_SIZE;
-        }
-        return FIRST_ALONE;
-    }
-    if in_second {
-        return SECOND_ALONE;
-    }
-    0
+    kind_by_side(in_first, in_second, || Some(Kind::OtherSize))
 }
 
-// The entry of an offset, if it has a kind, from word `at` of the list on, where entries are written and not only
-// counted: the place after it.
-pub fn note(list: &mut [u32], at: usize, writing: bool, offset: usize, kind: u32) -> usize
-    requires { (offset < 2 ^ 32) × Room writing list.old at (entry_of offset kind) }
-    ensures { Noted writing list.old at (entry_of offset kind) list.new result }
+// The entry of an offset, if it has a kind, from word `at` of the list on: the place after it. Where the list has no
+// room for it, it is only counted.
+pub fn note(list: &mut [u32], at: usize, offset: usize, kind: Option<Kind>) -> usize
+    requires { (offset < 2 ^ 32) × (at + length (entry_of offset (kind_number kind)) < 2 ^ 32) }
+    ensures { Noted list.old at (entry_of offset (kind_number kind)) list.new result }
 {
-    if kind == 0 {
+    let Some(kind) = kind else {
         return at;
+    };
+    if at + 2 <= list.len() {
+        list[at] = offset as u32;
+        list[at + 1] = kind as u32;
     }
-    if !writing {
-        return at + 2;
-    }
-    list[at] = offset as u32;
-    list[at + 1] = kind;
     at + 2
 }

@@ -20,12 +20,7 @@ fn same_groups(first: &[u8], second: &[u8], at: usize, groups: usize, group: usi
     requires { (at + groups * group ≤ length first.now) × (at + groups * group ≤ length second.now) }
     ensures { result ≡ same_bytes first.now second.now at (groups * group) }
 {
-    for i in 0..groups {
-        if !same_group(first, second, at + i * group, group) {
-            return false;
-        }
-    }
-    true
+    (0..groups).all(|i| same_group(first, second, at + i * group, group))
 }
 
 // The bytes of a block of the size are, in groups of 64 and then of 8, which every size is a multiple of.
@@ -34,8 +29,6 @@ pub fn same_block(first: &[u8], second: &[u8], at: usize, size: usize) -> bool
     ensures { result ≡ same_bytes first.now second.now at size }
 {
     let large = size / 64;
-    if !same_groups(first, second, at, large, 64) {
-        return false;
-    }
-    same_groups(first, second, at + large * 64, size % 64 / 8, 8)
+    same_groups(first, second, at, large, 64)
+        && same_groups(first, second, at + large * 64, size % 64 / 8, 8)
 }

@@ -1,13 +1,16 @@
-// The live blocks of each class in both heaps, and the signed change from the first to the second. What is the second
-// heap's ends in 2.
+// The live blocks of each class in both heaps, and the signed change from the first to the second.
 ghost use Rattle.std.specs.Prelude.{◌≡◌, ◌+◌, ◌*◌, ◌^◌, ◌≤◌, ◌<◌, length};
 ghost use Rattle.std.proofs.lemmas.List.Edits.{sets};
 ghost use Rattle.rules.specs.Books.{at, alignment_of};
 ghost use Rattle.rules.specs.Blocks.{last_class};
 ghost use Rattle.rules.specs.Compare.{change_from};
-ghost use Rattle.compare.specs.Changes.{Counted, added, Most, changes_of, changes_among};
+ghost use Rattle.books.specs.Readers.{alignment_in};
+ghost use Rattle.compare.specs.Changes.{Counted, added, Most, changes_of};
+ghost use Rattle.compare.specs.Pools.{changes_in};
 
-use books::words::{CLASS, EIGHT, Shape, pool_word};
+use crate::pair::Pair;
+use books::reader::Reader;
+use books::words::{CLASS, EIGHT, pool_word};
 use loops::count_pool;
 
 // How many classes an edition has.
@@ -21,8 +24,8 @@ pub fn classes(edition: usize) -> usize
 }
 
 // So many live blocks more of the class, if there are any.
-fn add(counts: &mut [u32], class: usize, live: usize)
-    requires { (live ≡ 0 → ⊥) → (class < length counts.old) × (at counts.old class + live < 2 ^ 32) }
+fn add(counts: &mut [u32; 64], class: usize, live: usize)
+    requires { (live ≡ 0 → ⊥) → (class < 64) × (at counts.old class + live < 2 ^ 32) }
     ensures { counts.new ≡ added class live counts.old }
 {
     if live == 0 {
@@ -32,17 +35,20 @@ fn add(counts: &mut [u32], class: usize, live: usize)
 }
 
 // The live blocks of each class are counted, pool by pool. Counts begin at 0.
-fn tally(books: &[u32], map: &[u64], s: Shape, counts: &mut [u32])
-    requires { (s.arenas * s.pools ≤ 1024) × (length books.now ≡ 72 + 8 * s.arenas + 8 * (s.arenas * s.pools))
-        × (length map.now ≡ 8 * (s.arenas * s.pools)) × (length counts.old ≡ 64)
-        × Counted (alignment_of s.edition) s.arenas books.now map.now 0 counts.old }
-    ensures { Counted (alignment_of s.edition) s.arenas books.now map.now
-        (s.arenas * s.pools) counts.new }
+fn tally(heap: &Reader, counts: &mut [u32; 64])
+    requires { Counted (alignment_in heap.now) heap.now.shape.arenas heap.now.books.now heap.now.map.now 0 counts.old }
+    ensures { Counted (alignment_in heap.now) heap.now.shape.arenas heap.now.books.now heap.now.map.now
+        (heap.now.shape.arenas * heap.now.shape.pools) counts.new }
 {
-    let all = s.arenas * s.pools;
-    for pool in 0..all {
-        let words = count_pool(books, map, s.arenas, s.edition, pool);
-        let class = pool_word(books, s.arenas, CLASS, pool);
+    let Reader {
+        books,
+        map,
+        shape,
+        ..
+    } = *heap;
+    for pool in 0..shape.arenas * shape.pools {
+        let words = count_pool(books, map, shape, pool);
+        let class = pool_word(books, shape.arenas, CLASS, pool);
         add(counts, class, words / 2);
     }
 }
@@ -57,39 +63,28 @@ fn change(count: u32, count2: u32) -> i32
 }
 
 // The changes of the first n classes.
-fn put_changes(counts: &[u32], counts2: &[u32], changes: &mut [i32], n: usize)
-    requires { (n ≤ length counts.now) × (n ≤ length counts2.now) × (n ≤ length changes.old)
-        × Most n counts.now × Most n counts2.now }
-    ensures { changes.new
-        ≡ sets changes.old 0 (changes_of counts.now counts2.now 0 n) }
+fn put_changes(counts: &[u32; 64], counts2: &[u32; 64], changes: &mut [i32], n: usize)
+    requires { (n ≤ 64) × (n ≤ length changes.old) × Most n counts.now × Most n counts2.now }
+    ensures { changes.new ≡ sets changes.old 0 (changes_of counts.now counts2.now 0 n) }
 {
     for c in 0..n {
-        let d = change(counts[c], counts2[c]);
-        changes[c] = d;
+        changes[c] = change(counts[c], counts2[c]);
     }
 }
 
 // The changes of all classes, from the first heap to the second, at the front of the changes.
-pub fn put_all(
-    books: &[u32],
-    map: &[u64],
-    books2: &[u32],
-    map2: &[u64],
-    s: Shape,
-    changes: &mut [i32],
-)
-    requires { (s.arenas * s.pools ≤ 1024) × (length books.now ≡ 72 + 8 * s.arenas + 8 * (s.arenas * s.pools))
-        × (length map.now ≡ 8 * (s.arenas * s.pools))
-        × (length books2.now ≡ 72 + 8 * s.arenas + 8 * (s.arenas * s.pools))
-        × (length map2.now ≡ 8 * (s.arenas * s.pools))
-        × (last_class (alignment_of s.edition) + 1 ≤ length changes.old) }
-    ensures { changes.new ≡ sets changes.old 0
-        (changes_among (alignment_of s.edition) s.arenas (s.arenas * s.pools) books.now
-        map.now books2.now map2.now) }
+pub fn put_all(heaps: &Pair, changes: &mut [i32])
+    requires { last_class (alignment_in heaps.now.first) + 1 ≤ length changes.old }
+    ensures { changes.new ≡ sets changes.old 0 (changes_in heaps.now) }
 {
-    let mut counts: [u32; 64] = [0; 64];
-    let mut counts2: [u32; 64] = [0; 64];
-    tally(books, map, s, &mut counts);
-    tally(books2, map2, s, &mut counts2);
-    put_changes(&counts, &counts2, changes, classes(s.edition));
+    let mut counts = [0; 64];
+    let mut counts2 = [0; 64];
+    tally(&heaps.first, &mut counts);
+    tally(&heaps.second, &mut counts2);
+    put_changes(
+        &counts,
+        &counts2,
+        changes,
+        classes(heaps.first.shape.edition),
+    );
 }

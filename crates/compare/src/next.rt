@@ -1,33 +1,28 @@
 // The next live block of a pool from a place on.
-ghost use Rattle.std.specs.Prelude.{◌≡◌, ℕ, ◌+◌, ◌*◌, ◌≤◌, ◌<◌, min, length};
-ghost use Rattle.compare.specs.Next.{NextSet, NextLive};
+ghost use Rattle.std.specs.Prelude.{◌≡◌, ℕ, ◌+◌, ◌*◌, ◌≤◌, ◌<◌, length};
+ghost use Rattle.compare.specs.Next.{NextSet, NextLive, earlier};
 
-// The lesser of two places.
-pub fn least(o: usize, p: usize) -> usize
-    ensures { result ≡ min o p }
+// The lesser of two places, of those that there are.
+pub fn earlier(o: Option<usize>, o2: Option<usize>) -> Option<usize>
+    ensures { result ≡ earlier o o2 }
 {
-    if o < p {
-        return o;
+    match (o, o2) {
+        (Some(o), Some(o2)) => Some(o.min(o2)),
+        _ => o.or(o2),
     }
-    p
 }
 
-// The number of the first set bit of the pool from bit k on, and 512 where none is.
-fn next_set(map: &[u64], pool: usize, k: usize) -> usize
+// The number of the first set bit of the pool from bit k on.
+fn next_set(map: &[u64], pool: usize, k: usize) -> Option<usize>
     requires { (k < 512) × (8 * pool + 8 ≤ length map.now) }
     ensures { NextSet map.now pool k result }
 {
     let rest = map[8 * pool + k / 64] >> (k % 64);
     if rest != 0 {
-        return k + u64::trailing_zeros(rest) as usize;
+        return Some(k + rest.trailing_zeros() as usize);
     }
-    for i in k / 64 + 1..8 {
-        let word = map[8 * pool + i];
-        if word != 0 {
-            return 64 * i + u64::trailing_zeros(word) as usize;
-        }
-    }
-    512
+    let i = (k / 64 + 1..8).find(|i| map[8 * pool + *i] != 0)?;
+    Some(64 * i + map[8 * pool + i].trailing_zeros() as usize)
 }
 
 // The number of the first block of the size that starts at o in its pool or after it.
@@ -42,15 +37,11 @@ fn block_from(size: usize, o: usize) -> usize
 }
 
 // Where the first live block of the pool starts, of those that start at x in the pool or after it, its blocks being of
-// the size; 4,096 where none does.
-pub fn next_live(map: &[u64], pool: usize, size: usize, x: usize) -> usize
+// the size.
+pub fn next_live(map: &[u64], pool: usize, size: usize, x: usize) -> Option<usize>
     requires { (8 ≤ size) × (size ≤ 512) × (x < 4096) × (8 * pool + 8 ≤ length map.now) }
     ensures { NextLive size map.now pool x result }
 {
-    let k = next_set(map, pool, block_from(size, x));
-    let o = 48 + k * size;
-    if 4096 - size < o {
-        return 4096;
-    }
-    o
+    let start = 48 + next_set(map, pool, block_from(size, x))? * size;
+    (start + size <= 4096).then_some(start)
 }

@@ -1,6 +1,6 @@
 -- `audit::homes::tally` counts: at each turn the records before it. A turn adds one to the head of its record, and leaves
 -- the others.
-use Rattle.std.proofs.Common.{◌≡◌, ◌<◌, sym, ◌∙◌, eqb, arith, length}
+use Rattle.std.proofs.Common.{◌<◌, sym, ◌∙◌, eqb, arith}
 use Rattle.rules.specs.Books.{at}
 use Rattle.sequences.specs.Counting.{many_le}
 use Rattle.audit.specs.Turns.{none_counted}
@@ -20,8 +20,3 @@ pub loop-home-preserved : goal.loop-home-preserved
 loop-home-preserved c =
     let low : c.from.result < 256 = omega (arith, c.from.ensures, c.type_inv.homes c.loop-home.home-index) in
     tallied c.args.homes.now c.loop-home.home-index c.from.result c.loop-home.tallies (omega arith) c.from.ensures c.loop-home.invariant
-
-pub returns : goal.returns
-returns c =
-    let e : c.loop-home.home-index ≡ length c.args.homes.now = omega arith in
-    rw e at c.loop-home.invariant

@@ -1,19 +1,10 @@
--- `compare::blocks::kind_apart` goes by the definition's own choices.
-use Rattle.compare.specs.Kinds.{apart}
+-- `compare::blocks::kind_apart`: an offset that is live in both has another size.
+use Rattle.std.proofs.Common.{◌∙◌, rules}
+use Rattle.compare.specs.Kinds.{kind_number, apart, by_side_same}
 use Rattle.compare.proofs.blocks.kind_apart.Goals as goal
-
-pub returns-then-in_second : goal.returns-then-in_second
-unfolding apart
-returns-then-in_second c = rw (c.if-in_first.true, c.if-in_second.true)
-
-pub returns-then-in_first : goal.returns-then-in_first
-unfolding apart
-returns-then-in_first c = rw (c.if-in_first.true, c.if-in_second.false)
-
-pub returns-then-in_second-2 : goal.returns-then-in_second-2
-unfolding apart
-returns-then-in_second-2 c = rw (c.if-in_first.false, c.if-in_second-2.true)
 
 pub returns : goal.returns
 unfolding apart
-returns c = rw (c.if-in_first.false, c.if-in_second-2.false)
+returns c =
+    let found = c.kind_by_side.ensures in
+    found.2 ∙ by_side_same c.args.in_first c.args.in_second (kind_number found.0) 3 (λ e. let said = found.1 e in search rules)

@@ -1,7 +1,6 @@
 -- `compare::bytes::same_group` compares them in turn: at turn i the answer is that of the bytes before byte i.
 use mathlib.Core.Path.{◌≡◌}
 use Prim.Native.Nat.{◌-◌, ◌≤◌}
-use Rattle.rules.specs.Books.{at}
 use Rattle.rules.specs.Compare.{same_bytes}
 use Rattle.compare.proofs.bytes.same_group.Given as goal
 

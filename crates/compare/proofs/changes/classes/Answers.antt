@@ -1,5 +1,5 @@
 -- `compare::changes::classes`: 64 of edition eight, and 32 of sixteen.
-use native.Mathlib.Omega.{arith}
+use Rattle.std.proofs.Common.{arith}
 use Rattle.books.specs.Sizes.{of_eight, of_sixteen}
 use Rattle.compare.proofs.changes.classes.Goals as goal
 

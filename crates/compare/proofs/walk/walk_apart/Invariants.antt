@@ -8,8 +8,8 @@ use Rattle.compare.proofs.walk.walk_apart.Given as goal
 
 abbrev pub invariant-loop-x : goal.invariant-loop-x
 invariant-loop-x l =
-    let kind = apart_at l.map l.map2 l.size l.size2 l.pool in
-    Noting l.writing l.initial.list l.at (listing kind (4096 * l.pool) 4096) l.list l.place (listing kind (4096 * l.pool + l.x) (4096 - l.x)) × (l.x ≤ 4096)
+    let kind = apart_at l.heaps.first.map.now l.heaps.second.map.now l.size l.size2 l.pool in
+    Noting l.initial.list l.at (listing kind (4096 * l.pool) 4096) l.list l.place (listing kind (4096 * l.pool + l.x) (4096 - l.x)) × (l.x ≤ 4096)
 
 abbrev pub decreases-loop-x : goal.decreases-loop-x
 decreases-loop-x l = 4096 - l.x

@@ -1,133 +1,153 @@
--- `compare::walk::walk_pool`: the sizes that the pool has in both heaps say how its offsets are to be noted.
-use mathlib.Core.Path.{◌≡◌, refl, sym, ap, ◌∙◌}
-use mathlib.Core.Bool.{true, false, not, false≢true}
-use Prim.Native.Nat.{◌+◌, ◌*◌, ◌%◌, ◌≤◌}
-use lib.Dec.{eqb}
-use borrow.Author.Tests.{eq-eqb}
+-- `compare::walk::walk_pool`: by the sizes that the pool has in the heaps, its offsets are the blocks of one size, or
+-- those of two, or none is live.
+use Rattle.std.proofs.Common.{◌≡◌, ◌+◌, ◌*◌, Option, Some, Bool, ℕ, true, false, if◌then◌else◌, unwrap_or, sym, ap, ◌∙◌, arith}
 use Rattle.rules.specs.Say.{listing}
-use Rattle.rules.specs.Books.{Heap}
+use Rattle.rules.specs.Books.{alignment_of}
 use Rattle.rules.specs.Blocks.{capacity}
-use Rattle.rules.specs.Outcome.{heap_of}
-use Rattle.rules.specs.Compare.{kind_at}
+use Rattle.books.specs.declared.words.Shape.{Shape}
 use Rattle.books.specs.Sizes.{aligned}
-use Rattle.books.specs.Tests.{both}
 use Rattle.sequences.specs.Listing.{listing_none, at_steps}
-use Rattle.loops.specs.Roll.{size_fits}
+use Rattle.loops.specs.Roll.{pool_size}
 use Rattle.compare.specs.Kinds.{together_at, apart_at}
-use Rattle.compare.specs.Noted.{noted_none}
-use Rattle.compare.specs.Pools.{inside, one_size, neither_kind, pool_together, pool_apart}
-use Rattle.compare.proofs.walk.walk_pool.Goals.{After-pool_size-two, Else-two-eq0, Else-two-one, Start, Then-two-one}
+use Rattle.compare.specs.Noted.{unnoted, finish}
+use Rattle.compare.specs.Pools.{kind_in, size_first, size_second, Found, found, neither_kind, pool_together, pool_apart}
+use Rattle.compare.proofs.walk.walk_pool.Goals.{After-pool_size-two, In-Some-None, In-None-Some, Then-size-size2, In-Some-Some-2}
 use Rattle.compare.proofs.walk.walk_pool.Goals as goal
 
--- both heaps
-abbrev one : Start → Heap
-one c = let a = c.args in heap_of a.memory.now a.books.now a.map.now
+-- what the heaps' answers say of the pool's sizes
+module _ (c : After-pool_size-two) where
+  abbrev first : ℕ
+  first = size_first c.args.heaps.now c.args.pool c.requires.0
 
-abbrev other : Start → Heap
-other c = let a = c.args in heap_of a.memory2.now a.books2.now a.map2.now
+  abbrev second : ℕ
+  second = size_second c.args.heaps.now c.args.pool c.requires.0
 
-pub returns-then-two-eq0 : goal.returns-then-two-eq0
-returns-then-two-eq0 c =
-    let at-start = (goal.at.returns-then-two-eq0 c).Start in
+  second_is : unwrap_or c.pool_size-two.result 0 ≡ second
+  second_is =
+      let h = c.args.heaps.now in
+      c.pool_size-two.ensures.value
+      ∙ ap (λ (s : Shape). pool_size (alignment_of s.edition) s.arenas h.second.books.now h.second.map.now c.args.pool) h.one_shape
+
+  first_found : (n : ℕ) → c.pool_size-one.result ≡ Some n → Found first n
+  first_found n e =
+      let h = c.args.heaps.now in
+      found (aligned h.first.shape.edition) h.first.shape.arenas h.first.books.now h.first.map.now c.args.pool n
+      c.pool_size-one.result e c.pool_size-one.ensures.value c.pool_size-one.ensures.range
+
+  second_found : (n : ℕ) → c.pool_size-two.result ≡ Some n → Found second n
+  second_found n e =
+      let h = c.args.heaps.now in
+      found (aligned h.first.shape.edition) h.first.shape.arenas h.second.books.now h.second.map.now c.args.pool n
+      c.pool_size-two.result e second_is c.pool_size-two.ensures.range
+
+  -- the pool's offsets, where those who have blocks there have the size n
+  one_size : {size : ℕ} (n : ℕ) (t t' : Bool) → Found size n → first ≡ (if t then n else 0) → second ≡ (if t' then n else 0)
+      → let h = c.args.heaps.now in
+      let p = c.args.pool in
+      listing (kind_in h) (4096 * p) 4096
+      ≡ at_steps (together_at h.first.memory.now h.second.memory.now h.first.map.now h.second.map.now t t' p n) (4096 * p + 48) n (capacity n)
+  one_size n t t' F e f =
+      pool_together c.args.heaps.now c.args.pool c.requires.0 n (λ z. omega (arith, F.low, z)) t t' e f F.low F.high
+
+pub returns-in-None-None : goal.returns-in-None-None
+returns-in-None-None c =
+    let at_second = (goal.at.returns-in-None-None c).After-pool_size-two in
     let a = c.args in
-    let none = listing_none (kind_at (one at-start) (other at-start)) (4096 * a.pool) 4096
-    (neither_kind c.requires.0 a.pool c.requires.1
-    (sym c.pool_size-one.ensures.0 ∙ c.if-one-eq0.true) (sym c.pool_size-two.ensures.0 ∙ c.if-two-eq0.true)) in
-    rw none (noted_none a.writing a.list.now a.at)
+    let one = sym c.pool_size-one.ensures.value ∙ ap (λ (o : Option ℕ). unwrap_or o 0) c.in-None-None.is-0 in
+    let two = sym (second_is at_second) ∙ ap (λ (o : Option ℕ). unwrap_or o 0) c.in-None-None.is-1 in
+    finish (unnoted a.list.now a.at (listing (kind_in a.heaps.now) (4096 * a.pool) 4096))
+    (listing_none (kind_in a.heaps.now) (4096 * a.pool) 4096 (λ x l. neither_kind a.heaps.now a.pool c.requires.0 one two x l))
 
--- a size that was found, and is not 0, is a block's
-first_fits : (c : After-pool_size-two) → let s = c.pool_size-one.result in (s ≡ 0 → ⊥) → (8 ≤ s) × (s ≤ 512) × (s % 8 ≡ 0)
-first_fits c d =
-    let a = c.args in
-    let e = c.pool_size-one.ensures.0 in
-    rw e (size_fits (aligned a.s.edition) a.s.arenas a.books.now a.map.now a.pool (λ z. d (e ∙ z)))
+-- only the first heap has blocks there
+first_alone : (c : In-Some-None)
+    → let h = c.args.heaps.now in
+    let p = c.args.pool in
+    let n = c.in-Some-None.size in
+    Found (first (goal.at.In-Some-None c).After-pool_size-two) n
+    × (listing (kind_in h) (4096 * p) 4096
+    ≡ at_steps (together_at h.first.memory.now h.second.memory.now h.first.map.now h.second.map.now true false p n) (4096 * p + 48) n (capacity n))
+first_alone c =
+    let at_second = (goal.at.In-Some-None c).After-pool_size-two in
+    let F = first_found at_second c.in-Some-None.size c.in-Some-None.is-0 in
+    let none = sym (second_is at_second) ∙ ap (λ (o : Option ℕ). unwrap_or o 0) c.in-Some-None.is-1 in
+    (F, one_size at_second c.in-Some-None.size true false F (sym F.is) none)
 
-second_fits : (c : After-pool_size-two) → let s = c.pool_size-two.result in (s ≡ 0 → ⊥) → (8 ≤ s) × (s ≤ 512) × (s % 8 ≡ 0)
-second_fits c d =
-    let a = c.args in
-    let e = c.pool_size-two.ensures.0 in
-    rw e (size_fits (aligned a.s.edition) a.s.arenas a.books2.now a.map2.now a.pool (λ z. d (e ∙ z)))
+pub walk_blocks-requires-in-Some-None : goal.walk_blocks-requires-in-Some-None
+walk_blocks-requires-in-Some-None c =
+    let t = first_alone (goal.at.walk_blocks-requires-in-Some-None c).In-Some-None in
+    (c.requires.0, t.0.low, t.0.high, t.0.eights, rw t.1 at c.requires.1)
 
--- ---- only the second heap has blocks there
-second_alone : (c : Else-two-eq0)
-    → let a = c.args in
-    let s = c.pool_size-two.result in
-    listing (kind_at (one (goal.at.Else-two-eq0 c).Start) (other (goal.at.Else-two-eq0 c).Start)) (4096 * a.pool) 4096
-    ≡ at_steps (together_at a.memory.now a.memory2.now a.map.now a.map2.now false true a.pool s)
-    (4096 * a.pool + 48) s (capacity s)
+pub returns-in-Some-None : goal.returns-in-Some-None
+returns-in-Some-None c =
+    rw (first_alone (goal.at.returns-in-Some-None c).In-Some-None).1 c.walk_blocks-in-Some-None.ensures
+
+-- only the second has
+second_alone : (c : In-None-Some)
+    → let h = c.args.heaps.now in
+    let p = c.args.pool in
+    let n = c.in-None-Some.size in
+    Found (second (goal.at.In-None-Some c).After-pool_size-two) n
+    × (listing (kind_in h) (4096 * p) 4096
+    ≡ at_steps (together_at h.first.memory.now h.second.memory.now h.first.map.now h.second.map.now false true p n) (4096 * p + 48) n (capacity n))
 second_alone c =
-    let t = second_fits (goal.at.Else-two-eq0 c).After-pool_size-two c.if-two-eq0.false in
-    pool_together c.requires.0 c.args.pool c.requires.1 c.pool_size-two.result c.if-two-eq0.false false true
-    (sym c.pool_size-one.ensures.0 ∙ c.if-one-eq0.true) (sym c.pool_size-two.ensures.0) t.0 t.1
+    let at_second = (goal.at.In-None-Some c).After-pool_size-two in
+    let S = second_found at_second c.in-None-Some.size c.in-None-Some.is-1 in
+    let none = sym c.pool_size-one.ensures.value ∙ ap (λ (o : Option ℕ). unwrap_or o 0) c.in-None-Some.is-0 in
+    (S, one_size at_second c.in-None-Some.size false true S none (sym S.is))
 
 pub walk_blocks-requires : goal.walk_blocks-requires
 walk_blocks-requires c =
-    let t = second_fits (goal.at.walk_blocks-requires c).After-pool_size-two c.if-two-eq0.false in
-    let i = inside c.requires.0 c.args.pool c.requires.1 in
-    (i.0, i.1, i.2, t.0, t.1, t.2, i.3, i.4, rw (second_alone (goal.at.walk_blocks-requires c).Else-two-eq0) at c.requires.2)
+    let t = second_alone (goal.at.walk_blocks-requires c).In-None-Some in
+    (c.requires.0, t.0.low, t.0.high, t.0.eights, rw t.1 at c.requires.1)
 
-pub returns-then-one-eq0 : goal.returns-then-one-eq0
-returns-then-one-eq0 c =
-    rw (second_alone (goal.at.returns-then-one-eq0 c).Else-two-eq0) c.walk_blocks.ensures
+pub returns-in-None-Some : goal.returns-in-None-Some
+returns-in-None-Some c = rw (second_alone (goal.at.returns-in-None-Some c).In-None-Some).1 c.walk_blocks.ensures
 
--- ---- both have, and of another size
-another : (c : Then-two-one)
-    → (c.pool_size-two.result ≡ 0 → ⊥) × (c.pool_size-one.result ≡ c.pool_size-two.result → ⊥)
-another c =
-    let t = both (not (eqb c.pool_size-two.result 0)) (not (eqb c.pool_size-one.result c.pool_size-two.result))
-    c.if-two-one.true in (
-      λ z. false≢true (sym (ap not (eq-eqb _ _ z)) ∙ t.0),
-      λ z. false≢true (sym (ap not (eq-eqb _ _ z)) ∙ t.1),
-    )
+-- both have, of one size
+both_alike : (c : Then-size-size2)
+    → let h = c.args.heaps.now in
+    let p = c.args.pool in
+    let n = c.in-Some-Some.size in
+    Found (first (goal.at.Then-size-size2 c).After-pool_size-two) n
+    × (listing (kind_in h) (4096 * p) 4096
+    ≡ at_steps (together_at h.first.memory.now h.second.memory.now h.first.map.now h.second.map.now true true p n) (4096 * p + 48) n (capacity n))
+both_alike c =
+    let at_second = (goal.at.Then-size-size2 c).After-pool_size-two in
+    let F = first_found at_second c.in-Some-Some.size c.in-Some-Some.is-0 in
+    let S = second_found at_second c.in-Some-Some.size2 c.in-Some-Some.is-1 in
+    (F, one_size at_second c.in-Some-Some.size true true F (sym F.is) (sym S.is ∙ sym c.if-size-size2.true))
 
-both_apart : (c : Then-two-one)
-    → let a = c.args in
-    listing (kind_at (one (goal.at.Then-two-one c).Start) (other (goal.at.Then-two-one c).Start)) (4096 * a.pool) 4096
-    ≡ listing (apart_at a.map.now a.map2.now c.pool_size-one.result c.pool_size-two.result a.pool)
-    (4096 * a.pool) 4096
+pub walk_blocks-requires-in-Some-Some : goal.walk_blocks-requires-in-Some-Some
+walk_blocks-requires-in-Some-Some c =
+    let t = both_alike (goal.at.walk_blocks-requires-in-Some-Some c).Then-size-size2 in
+    (c.requires.0, t.0.low, t.0.high, t.0.eights, rw t.1 at c.requires.1)
+
+pub returns-in-Some-Some : goal.returns-in-Some-Some
+returns-in-Some-Some c = rw (both_alike (goal.at.returns-in-Some-Some c).Then-size-size2).1 c.walk_blocks-in-Some-Some.ensures
+
+-- both have, of two sizes
+both_apart : (c : In-Some-Some-2)
+    → let h = c.args.heaps.now in
+    let at_second = (goal.at.In-Some-Some-2 c).After-pool_size-two in
+    let n = c.in-Some-Some.size in
+    let n' = c.in-Some-Some.size2 in
+    Found (first at_second) n × Found (second at_second) n'
+    × (listing (kind_in h) (4096 * c.args.pool) 4096
+    ≡ listing (apart_at h.first.map.now h.second.map.now n n' c.args.pool) (4096 * c.args.pool) 4096)
 both_apart c =
-    let d = another c in
-    pool_apart c.requires.0 c.args.pool c.requires.1 c.pool_size-one.result c.pool_size-two.result
-    c.pool_size-one.ensures.0 c.pool_size-two.ensures.0 c.if-one-eq0.false d.0 d.1
+    let at_second = (goal.at.In-Some-Some-2 c).After-pool_size-two in
+    let F = first_found at_second c.in-Some-Some.size c.in-Some-Some.is-0 in
+    let S = second_found at_second c.in-Some-Some.size2 c.in-Some-Some.is-1 in (
+      F,
+      S,
+      pool_apart c.args.heaps.now c.args.pool c.requires.0 c.in-Some-Some.size c.in-Some-Some.size2 F.is S.is
+          (λ z. omega (arith, F.low, z)) (λ z. omega (arith, S.low, z)) c.if-size-size2.false,
+    )
 
 pub walk_apart-requires : goal.walk_apart-requires
 walk_apart-requires c =
-    let at_second = (goal.at.walk_apart-requires c).After-pool_size-two in
-    let at-if3 = (goal.at.walk_apart-requires c).Then-two-one in
-    let t = first_fits at_second c.if-one-eq0.false in
-    let u = second_fits at_second (another at-if3).0 in
-    let i = inside c.requires.0 c.args.pool c.requires.1 in
-    (i.0, i.1, i.2, t.0, t.1, u.0, u.1, rw (both_apart at-if3) at c.requires.2)
+    let t = both_apart (goal.at.walk_apart-requires c).In-Some-Some-2 in
+    (c.requires.0, t.0.low, t.0.high, t.1.low, t.1.high, rw t.2 at c.requires.1)
 
-pub returns-then-two-one : goal.returns-then-two-one
-returns-then-two-one c =
-    rw (both_apart (goal.at.returns-then-two-one c).Then-two-one) c.walk_apart.ensures
-
--- ---- the first has, and the second of that size or none
-first_size : (c : Else-two-one)
-    → let a = c.args in
-    let s = c.pool_size-one.result in
-    let there = not (eqb c.pool_size-two.result 0) in
-    listing (kind_at (one (goal.at.Else-two-one c).Start) (other (goal.at.Else-two-one c).Start)) (4096 * a.pool) 4096
-    ≡ at_steps (together_at a.memory.now a.memory2.now a.map.now a.map2.now true there a.pool s)
-    (4096 * a.pool + 48) s (capacity s)
-first_size c =
-    let t = first_fits (goal.at.Else-two-one c).After-pool_size-two c.if-one-eq0.false in
-    let e = c.pool_size-one.ensures.0 in
-    let s = c.pool_size-one.result in
-    let there = not (eqb c.pool_size-two.result 0) in
-    let second =
-    one_size c.requires.0 c.args.pool c.requires.1 s c.pool_size-two.result e c.pool_size-two.ensures.0
-    there refl c.if-two-one.false in
-    pool_together c.requires.0 c.args.pool c.requires.1 s c.if-one-eq0.false true there
-    (sym e) second t.0 t.1
-
-pub walk_blocks-requires-2 : goal.walk_blocks-requires-2
-walk_blocks-requires-2 c =
-    let t = first_fits (goal.at.walk_blocks-requires-2 c).After-pool_size-two c.if-one-eq0.false in
-    let i = inside c.requires.0 c.args.pool c.requires.1 in
-    (i.0, i.1, i.2, t.0, t.1, t.2, i.3, i.4, rw (first_size (goal.at.walk_blocks-requires-2 c).Else-two-one) at c.requires.2)
-
-pub returns : goal.returns
-returns c =
-    rw (first_size (goal.at.returns c).Else-two-one) c.walk_blocks-2.ensures
+pub returns-in-Some-Some-2 : goal.returns-in-Some-Some-2
+returns-in-Some-Some-2 c = rw (both_apart (goal.at.returns-in-Some-Some-2 c).In-Some-Some-2).2 c.walk_apart.ensures

@@ -65,10 +65,6 @@ pub take_back-requires : goal.take_back-requires
 take_back-requires c =
     (c.requires.0, block (goal.at.take_back-requires c).Else-not-may_give)
 
-pub pool_links-requires : goal.pool_links-requires
-pool_links-requires c =
-    c.requires.0.arenas_high
-
 pub join-requires : goal.join-requires
 join-requires c =
     let a = c.args in

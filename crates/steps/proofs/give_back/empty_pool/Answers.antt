@@ -7,7 +7,7 @@ use lib.ListN.{length}
 use Rattle.rules.specs.Books.{arena, free_pools}
 use Rattle.rules.specs.Lists as L
 use Rattle.books.specs.Lists.{pool_leaves_lem}
-use Rattle.steps.specs.Backs.{left_keeps, freed_first}
+use Rattle.steps.specs.Backs.{left_keeps}
 use Rattle.steps.proofs.give_back.empty_pool.Goals.{After-leave_by}
 use Rattle.steps.proofs.give_back.empty_pool.Goals as goal
 
@@ -30,10 +30,3 @@ free_pool-requires c =
     let k = left_keeps a.shape.arenas a.pool.class a.p a.a a.books.now (omega arith) (omega arith) in
     let free = ap (λ (x : ℕ). arena a.books.now free_pools x) c.requires.1 in
     (omega arith, omega arith, omega arith, omega (arith, ap length e), rw e (omega (arith, k.1, c.requires.4.free, free)))
-
-pub returns : goal.returns
-returns c =
-    let a = c.args in
-    c.free_pool.ensures
-    ∙ ap (freed_first a.shape.arenas a.a a.p) (left (goal.at.returns c).After-leave_by)
-    ∙ ap (λ (x : ℕ). freed_first a.shape.arenas x a.p (L.leave (L.pool_links a.shape.arenas) (4 + a.pool.class) a.p a.books.now)) c.requires.1

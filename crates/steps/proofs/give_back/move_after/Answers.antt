@@ -1,8 +1,7 @@
 -- `steps::give_back::move_after` leaves and goes in: leaving writes no link that leads past the last arena.
-use mathlib.Core.Path.{ap, ◌∙◌}
 use native.Mathlib.Omega.{arith}
 use Rattle.rules.specs.Books.{usable_head}
-use Rattle.rules.specs.Lists.{next_at, arena_links, go_in_after}
+use Rattle.rules.specs.Lists.{next_at, arena_links}
 use Rattle.books.specs.Lists.{leave_low}
 use Rattle.steps.proofs.give_back.move_after.Goals as goal
 
@@ -17,8 +16,3 @@ go_in_after-requires c =
       rw c.leave.ensures
           (leave_low a.shape.arenas arena_links usable_head a.a (next_at arena_links a.q) a.books.now fits.0 fits.2),
     )
-
-pub returns : goal.returns
-returns c =
-    let a = c.args in
-    c.go_in_after.ensures ∙ ap (go_in_after arena_links a.q a.a) c.leave.ensures

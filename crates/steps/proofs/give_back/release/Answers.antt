@@ -6,8 +6,6 @@ use Prim.Native.Nat.{ℕ, ◌+◌, ◌*◌}
 use native.Mathlib.Omega.{arith}
 use lib.ListN.{length, replicate}
 use lib.Seq.{sets}
-use Rattle.rules.specs.Books.{unused_head}
-use Rattle.rules.specs.Lists as L
 use Rattle.steps.specs.Arenas.{zeroed, zeroed_keeps}
 use Rattle.steps.proofs.give_back.release.Goals as goal
 
@@ -18,10 +16,3 @@ join-requires c =
     ∙ ap (λ (x : List ℕ). sets x (72 + 8 * a.a + 0) (replicate 8 0)) c.leave.ensures in
     let k = zeroed_keeps a.a a.books.now in
     (omega arith, omega arith, omega (arith, ap length e), omega (arith, ap length e), rw (e, k.1) c.requires.2)
-
-pub returns : goal.returns
-returns c =
-    let a = c.args in
-    let e : c.store.new.to ≡ zeroed a.a a.books.now = c.store.ensures ∙ ap
-    (λ (x : List ℕ). sets x (72 + 8 * a.a + 0) (replicate 8 0)) c.leave.ensures in
-    c.join.ensures ∙ ap (L.join L.arena_links unused_head a.a) e

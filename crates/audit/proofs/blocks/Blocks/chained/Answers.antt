@@ -1,17 +1,12 @@
 -- `audit::blocks::Blocks::chained` walks: at each turn the answer is that of the blocks that are left to meet from the
 -- link l on. A block that is met lies in its pool, so that its link can be read.
-use Rattle.std.proofs.Common.{◌≡◌, ℕ, sym, ap, ◌∙◌, true, ◌-◌, ◌+◌, arith}
+use Rattle.std.proofs.Common.{◌≡◌, sym, ◌∙◌, true, ◌-◌, ◌+◌, arith}
 use Rattle.rules.specs.Books.{is_set}
-use Rattle.rules.specs.Audit.{is_dead, chained}
+use Rattle.rules.specs.Audit.{is_dead}
 use Rattle.books.specs.Starts.{Start, start}
 use Rattle.audit.specs.Turns.{chain_end, chain_goes, chain_fails, dead_starts}
 use Rattle.audit.proofs.blocks.Blocks.chained.Goals.{Else-not-is_dead}
 use Rattle.audit.proofs.blocks.Blocks.chained.Goals as goal
-
-pub loop-init : goal.loop-init
-loop-init c =
-    let s = c.args.self.now in
-    ap (λ (k : ℕ). chained s.size s.pool s.memory.now (is_set s.map.now s.pool) c.args.v k c.args.first) (omega arith)
 
 pub returns-then-not-is_dead : goal.returns-then-not-is_dead
 returns-then-not-is_dead c =

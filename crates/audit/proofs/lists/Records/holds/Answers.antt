@@ -1,25 +1,13 @@
 -- `audit::lists::Records::holds` walks: at each turn the answer is that of the members that are left to meet from the
 -- link l on.
-use Rattle.std.proofs.Common.{◌≡◌, sym, ap₂, ◌∙◌, true, ℕ, ◌-◌, ◌+◌, ◌≤◌, if◌then◌else◌, arith, length, eqb}
+use Rattle.std.proofs.Common.{◌≡◌, sym, ◌∙◌, true, ◌-◌, ◌+◌, ◌≤◌, if◌then◌else◌, arith, length, eqb}
 use Rattle.rules.specs.Books.{at}
 use Rattle.rules.specs.Lists.{next_at, previous_at}
-use Rattle.rules.specs.Audit.{leads, meets}
+use Rattle.rules.specs.Audit.{leads}
 use Rattle.sequences.specs.Walks.{leads_is}
 use Rattle.audit.specs.Turns.{meets_end, meets_goes, meets_fails}
 use Rattle.audit.proofs.lists.Records.holds.Goals.{Else-not-leads, then-doubly, else-doubly}
 use Rattle.audit.proofs.lists.Records.holds.Goals as goal
-
-pub loop-init : goal.loop-init
-loop-init c =
-    let s = c.args.self.now in
-    let all = s.tallied.tallied c.args.head (omega arith) in (
-      ap₂ (λ (k l : ℕ). meets (next_at s.base) (previous_at s.base) (λ y. eqb (at s.homes.now y) c.args.head) (length s.homes.now)
-          s.books.now c.args.doubly k l 0) (omega (arith, all)) (sym c.word-l.ensures.0),
-      omega (arith, c.word-l.ensures.1),
-    )
-
-pub leads-requires : goal.leads-requires
-leads-requires c = omega arith
 
 pub returns-then-not-leads : goal.returns-then-not-leads
 returns-then-not-leads c =
@@ -39,12 +27,6 @@ low c =
 
 pub overflow_sub-l : goal.overflow_sub-l
 overflow_sub-l c = omega (arith, low (goal.at.overflow_sub-l c).Else-not-leads)
-
-pub overflow_mul-l : goal.overflow_mul-l
-overflow_mul-l c = omega (arith, low (goal.at.overflow_mul-l c).Else-not-leads)
-
-pub overflow_add-self : goal.overflow_add-self
-overflow_add-self c = omega (arith, low (goal.at.overflow_add-self c).Else-not-leads)
 
 pub word-l-requires-in-loop : goal.word-l-requires-in-loop
 word-l-requires-in-loop c = omega (arith, low (goal.at.word-l-requires-in-loop c).Else-not-leads)

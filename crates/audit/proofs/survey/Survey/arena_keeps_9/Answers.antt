@@ -1,17 +1,12 @@
 -- `audit::survey::Survey::arena_keeps_9` makes the tests of `arena_keeps9`: it reads the next arena's word only where
 -- there is a next.
-use Rattle.std.proofs.Common.{leb, ℕ, ◌+◌, ◌*◌, ◌-◌, sym, ap, ap₂, ◌∙◌, arith}
+use Rattle.std.proofs.Common.{leb, ℕ, ◌+◌, ◌*◌, ◌-◌, sym, ap, ap₂, ◌∙◌}
 use Rattle.rules.specs.Books.{at}
-use Rattle.audit.specs.Keeps.{rises_away, rises_is, followed}
+use Rattle.audit.specs.Keeps.{rises_away, rises_is}
 use Rattle.audit.proofs.survey.Survey.arena_keeps_9.Goals as goal
 
 pub returns-then-not-is_followed : goal.returns-then-not-is_followed
 returns-then-not-is_followed c = rises_away _ _ (sym c.is_followed.ensures ∙ c.if-not-is_followed.true)
-
-pub overflow_sub-next : goal.overflow_sub-next
-overflow_sub-next c =
-    let b = c.args.self.now.heap.books.now in
-    omega (arith, c.arena_word-next.ensures.0, followed b c.args.a (sym c.is_followed.ensures ∙ c.if-not-is_followed.false))
 
 pub returns : goal.returns
 returns c =
