@@ -165,10 +165,7 @@ pub fn has_room(books: &[u32], map: &[u64], shape: Shape, n: usize, room: usize)
     ensures { result
         ≡ leb (length (roll_pools (alignment_of shape.edition) shape.arenas books.now map.now 0 n)) room }
 {
-    if MOST_WORDS * n <= room {
-        return true;
-    }
-    count_words(books, map, shape, n) <= room
+    MOST_WORDS * n <= room || count_words(books, map, shape, n) <= room
 }
 
 // Offset and size of each live block of a map word, whose first block is at `first`, from roll word `at` on: the place
@@ -211,13 +208,13 @@ fn roll_blocks(map: &[u64], pool: usize, size: usize, roll: &mut [u32], at: usiz
 {
     let last = 4096 * pool + (4096 - size);
     let mut place = at;
-    for i in 0..8 {
-        let word = map[8 * pool + i];
+    let words = &map[8 * pool..8 * pool + 8];
+    for (i, word) in words.iter().enumerate() {
         let first = 4096 * pool + (48 + 64 * i * size);
         if last < first {
             return place;
         }
-        place = roll_word(word, first, size, last, roll, place);
+        place = roll_word(*word, first, size, last, roll, place);
     }
     place
 }

@@ -1,8 +1,7 @@
 -- `loops::has_room` counts only where the roll could be longer than the room.
-use mathlib.Core.Path.{sym, ap}
-use Prim.Native.Nat.{ℕ, ◌*◌}
+use mathlib.Core.Path.{sym, ◌∙◌}
+use Prim.Native.Nat.{◌*◌}
 use native.Mathlib.Omega.{arith}
-use lib.Dec.{leb}
 use borrow.Author.Tests.{le-leb}
 use Rattle.rules.specs.Books.{alignment_of}
 use Rattle.books.specs.Sizes.{aligned}
@@ -14,7 +13,4 @@ returns-then-n-room c =
     let a = c.args in
     let s = a.shape in
     let most = length_roll (alignment_of s.edition) s.arenas a.books.now a.map.now (aligned s.edition).low 0 a.n in
-    sym (le-leb _ a.room (omega (arith, most)))
-
-pub returns : goal.returns
-returns c = ap (λ (k : ℕ). leb k c.args.room) c.count_words.ensures
+    le-leb _ a.room c.if-n-room.true ∙ sym (le-leb _ a.room (omega (arith, most)))

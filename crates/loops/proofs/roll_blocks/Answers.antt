@@ -1,9 +1,12 @@
 -- `loops::roll_blocks` stores the words of the live blocks: at turn i those of the map words from word i on are left.
 use mathlib.Core.Path.{◌≡◌, refl}
-use Prim.Native.Nat.{◌*◌, ◌≤◌, ◌<◌}
+use Prim.Native.Nat.{◌+◌, ◌*◌, ◌≤◌, ◌<◌}
 use native.Mathlib.Nat.{mul-le-mul}
 use native.Mathlib.Omega.{arith}
-use Rattle.rules.specs.Books.{offset_of}
+use Rattle.std.specs.Prelude.{get_or}
+use Rattle.std.specs.List.{slice_range}
+use Rattle.std.proofs.lemmas.List.Edits.{get_or-between}
+use Rattle.rules.specs.Books.{at, offset_of}
 use Rattle.rules.specs.Blocks.{start_of, last_start, capacity}
 use Rattle.books.specs.Starts.{capacity_le}
 use Rattle.loops.specs.Left.{fewer, begin, turn, finish}
@@ -54,20 +57,26 @@ ends c =
     let a = c.args in
     up_to_last a.pool a.size c.loop-i.i (omega arith) (omega arith) (some c)
 
+-- word i of the pool's eight, in the map
+word : (c : Else-last-first)
+    → let a = c.args in
+    get_or (slice_range a.map.now (8 * a.pool) (8 * a.pool + 8)) c.loop-i.i 0 ≡ at a.map.now (8 * a.pool + c.loop-i.i)
+word c = get_or-between c.args.map.now (8 * c.args.pool) (8 * c.args.pool + 8) c.loop-i.i 0 (omega arith)
+
 pub roll_word-place-requires : goal.roll_word-place-requires
 roll_word-place-requires c =
     let at-if1 = (goal.at.roll_word-place-requires c).Else-last-first in
     let a = c.args in
     let p = c.loop-i in
     let f = fewer (word_parts a.map.now a.pool a.size (capacity a.size)) p.i (omega (arith, some at-if1)) in
-    rw (ends at-if1) (c.if-last-first.false, omega arith, omega arith, omega arith, omega (arith, p.invariant.0.place, p.invariant.0.long))
+    rw (ends at-if1, word at-if1) (c.if-last-first.false, omega arith, omega arith, omega arith, omega (arith, p.invariant.0.place, p.invariant.0.long))
 
 pub loop-i-preserved : goal.loop-i-preserved
 loop-i-preserved c =
     let at-if1 = (goal.at.loop-i-preserved c).Else-last-first in
     let a = c.args in
     let p = c.loop-i in
-    let stored = rw (ends at-if1) at c.roll_word-place.ensures in (
+    let stored = rw (ends at-if1, word at-if1) at c.roll_word-place.ensures in (
       turn (word_parts a.map.now a.pool a.size (capacity a.size)) p.i (omega (arith, some at-if1)) p.invariant.0 stored,
       omega arith,
     )
