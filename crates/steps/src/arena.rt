@@ -34,7 +34,8 @@ impl<'a> Arena<'a> {
 
     // The pool of this record may leave its class list and return to the arena.
     pub fn may_empty(&self, pool: Pool) -> bool
-        ensures { result ≡ may_empty self.now.shape.arenas self.now.shape.pools self.now.number pool self.now.books.now }
+        ensures { result
+            ≡ may_empty self.now.shape.arenas self.now.shape.pools self.now.number pool self.now.books.now }
     {
         let all = self.shape.arenas * self.shape.pools;
         pool.may_leave(all)

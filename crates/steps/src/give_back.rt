@@ -1,6 +1,7 @@
 // A give-back: the record of the block's pool is loaded once, the path is decided from it and from the books before,
 // and then written: the block, then its pool's list, then its arena's. Only the arena's part of the path is a value in
-// between.
+// between. The lent buffers are three parameters wherever they are written: of a struct of `&mut`s each function would
+// promise besides that its references are still the same.
 ghost use Rattle.std.specs.Prelude.{◌≡◌, ◌*◌, ◌/◌, ◌%◌, ◌<◌, ◌≤◌, OnOk, length};
 ghost use Rattle.rules.specs.Books.{
   at,
@@ -33,7 +34,6 @@ use books::words::{
     ARENA_LINKS, CLASS_HEADS, FREE_POOLS, FREED_HEAD, NEXT, OPEN, PREVIOUS, RECORDS, Shape,
     UNUSED_HEAD, USABLE_HEAD, arena_of, index,
 };
-use loops::store;
 use rules::BackPlan;
 
 // The block at the offset goes to the front of the freed blocks of its pool, whose record is given.
@@ -99,7 +99,9 @@ fn release(books: &mut [u32], shape: Shape, a: usize)
 {
     leave(books, shape.arenas, ARENA_LINKS, USABLE_HEAD, a);
     // all eight words, from open on
-    store(books, RECORDS + 8 * a + OPEN, &[0; 8]);
+    let first = RECORDS + 8 * a + OPEN;
+    let end = first + 8;
+    books[first..end].fill(0);
     join(books, shape.arenas, ARENA_LINKS, UNUSED_HEAD, a);
 }
 

@@ -1,5 +1,6 @@
 -- `steps::resize::resize_step` meets its contract: it keeps the offset, or asks and then moves the block; the two runs
 -- of bytes never meet.
+use Rattle.std.proofs.Math.Bool.{false}
 use mathlib.Core.Path.{◌≡◌, sym, ap, ◌∙◌, subst}
 use Prim.Native.Nat.{ℕ, min}
 use native.Mathlib.Omega.{arith}
@@ -10,7 +11,7 @@ use Rattle.rules.specs.Outcome.{heap_of}
 use Rattle.rules.specs.Resize.{keeps, copy, give_old, half_done}
 use Rattle.books.specs.Sizes.{aligned}
 use Rattle.steps.specs.Moves.{Moves, moves_apart, resize_kept, resize_refused, resize_moves}
-use Rattle.steps.proofs.resize.resize_step.Goals.{After-min}
+use Rattle.steps.proofs.resize.resize_step.Goals.{After-min, Else-n-size}
 use Rattle.steps.proofs.resize.resize_step.Goals as goal
 
 pub returns-then-n-size-clause-what : goal.returns-then-n-size-clause-what
@@ -20,6 +21,12 @@ returns-then-n-size-clause-what c =
     resize_kept (alignment_of s.edition) s.arenas s.pools (heap_of a.memory.now a.books.now a.map.now) a.offset a.n
     (ap (λ (x : ℕ). keeps x a.n) (sym c.size_at-size.ensures.0) ∙ c.if-n-size.true)
 
+-- past the test the block moves
+moves : (c : Else-n-size)
+    → let a = c.args in
+    keeps (size_at (alignment_of a.shape.edition) a.shape.arenas a.books.now a.offset) a.n ≡ false
+moves c = ap (λ (x : ℕ). keeps x c.args.n) (sym c.size_at-size.ensures.0) ∙ c.if-n-size.false
+
 pub returns-in_err-to-clause-what : goal.returns-in_err-to-clause-what
 returns-in_err-to-clause-what c =
     let a = c.args in
@@ -27,7 +34,7 @@ returns-in_err-to-clause-what c =
     let p = err_from_is_err_and c.from_residual.result c.from_residual.ensures.1 in
     rw (p.1, p.2)
     (resize_refused (alignment_of s.edition) s.arenas s.pools (heap_of a.memory.now a.books.now a.map.now) a.offset a.n
-    (ap (λ (x : ℕ). keeps x a.n) (sym c.size_at-size.ensures.0) ∙ c.if-n-size.false) _ c.in_err-to.field-0.0 c.in_err-to.ensures)
+    (moves (goal.at.returns-in_err-to-clause-what c).Else-n-size) _ c.in_err-to.field-0.0 c.in_err-to.ensures)
 
 -- how many bytes are copied
 length_is : (c : After-min)
@@ -69,4 +76,4 @@ returns-clause-what c =
     ∙ ap (λ (k : ℕ). half_done (alignment_of s.edition) s.arenas s.pools to
     (give_old (alignment_of s.edition) s.arenas s.pools (copy a.offset to k left) a.offset)) (length_is (goal.at.returns-clause-what c).After-min)
     ∙ resize_moves (alignment_of s.edition) s.arenas s.pools (heap_of a.memory.now a.books.now a.map.now) a.offset a.n
-    (ap (λ (x : ℕ). keeps x a.n) (sym c.size_at-size.ensures.0) ∙ c.if-n-size.false) left to c.in_ok-to.ensures
+    (moves (goal.at.returns-clause-what c).Else-n-size) left to c.in_ok-to.ensures
