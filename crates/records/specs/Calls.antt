@@ -1,7 +1,7 @@
--- What a replay needs to know of ask, give back and resize, whatever the heap holds: the number fits a byte, and A, P
--- and the edition stay in the books; and that words at any places stay where the writes are to others.
+-- What a replay needs to know of ask, give back and resize, whatever the heap holds: A, P and the edition stay in the
+-- books; and that words at any places stay where the writes are to others.
 -- Assumes nothing.
-use Rattle.std.specs.Prelude.{◌≡◌, refl, Bool, ◌&&◌, ◌≢◌, ◌⊎◌, List, ℕ, zero, suc, ◌+◌, ◌/◌, ◌%◌, ◌≤◌, ◌<◌, min, leb, ltb, length, replicate, if◌then◌else◌}
+use Rattle.std.specs.Prelude.{◌≡◌, refl, Bool, ◌≢◌, ◌⊎◌, List, ℕ, zero, suc, ◌+◌, ◌/◌, ◌%◌, ◌≤◌, ◌<◌, min, length, replicate, if◌then◌else◌}
 use Rattle.std.proofs.Common.{◌∙◌, inl, arith, get_or-set_other}
 use Rattle.std.proofs.Math.Bool.{true, false}
 use Rattle.std.proofs.lemmas.List.Edits.{sets}
@@ -12,51 +12,18 @@ use Rattle.rules.specs.declared.AskPlan.TheVariants.{NoRoom, Damaged, Follow, Re
 use Rattle.rules.specs.declared.BackPlan.{BackPlan}
 use Rattle.rules.specs.declared.BackPlan.TheVariants.{Damaged as Broken, Joins, Stays, Empties, Moves, Returns, Releases}
 use Rattle.rules.specs.Say.{only}
-use Rattle.rules.specs.Books.{
-  Heap,
-  in_range,
-  exact,
-  at,
-  put,
-  arenas,
-  pools,
-  edition_word,
-  edition,
-  is_edition,
-  alignment,
-  usable_head,
-  free_pools,
-  arena_word,
-  arena,
-  fall,
-  none?,
-  linked,
-}
-use Rattle.rules.specs.Blocks.{largest, class_of, class_at, size_at, live, is_block, dead_number, live_number}
+use Rattle.rules.specs.Books.{Heap, at, put, arenas, pools, edition, alignment, usable_head, free_pools, arena_word, arena, fall, none?, linked}
+use Rattle.rules.specs.Blocks.{class_of, class_at, size_at, live_number}
 use Rattle.rules.specs.Lists.{next_at, previous_at, leave, join, go_in_after, arena_links, arena_leaves}
 use Rattle.rules.specs.Outcome.{Outcome, outcome, answer_of, done, refused, passing}
-use Rattle.rules.specs.Ask.{take_from, arena_of, spend, alone, after_ask, ask_answer, ask_step}
-use Rattle.rules.specs.GiveBack.{take_back, empty, release, after_back, back_answer, back_step}
+use Rattle.rules.specs.Ask.{take_from, arena_of, spend, alone, after_ask, ask_step}
+use Rattle.rules.specs.GiveBack.{take_back, empty, release, after_back, back_step}
 use Rattle.rules.specs.Resize.{keeps, copy, give_old, half_done, moved, resize_step}
-use Rattle.rules.specs.Numbers.{
-  range_number,
-  edition_number,
-  length_number,
-  reach_number,
-  shape_number,
-  size_number,
-  ◌before◌,
-  in_order,
-  offset_number,
-  ask,
-  give_back,
-  resize,
-}
+use Rattle.rules.specs.Numbers.{shape_number, size_number, in_order, offset_number, ask, give_back, resize}
 use Rattle.books.specs.Sizes.{Aligned, aligned, has_class, class_low}
 use Rattle.books.specs.Known.{size_zero, live_zero, live_is}
 use Rattle.books.specs.Passing.{order_zero}
 use Rattle.books.specs.Lists.{leave_keeps, join_keeps}
-use Rattle.books.specs.Tests.{either}
 use Rattle.loops.specs.Sets.{sets_other}
 
 -- the books b' have the words of b at the places K
@@ -188,113 +155,58 @@ module _ (al A P c p f : ℕ) (few : c ≤ 63) {b : List ℕ} where
   back_kept Returns h k = join_kept _ _ _ (λ j l. omega arith) (emptied_kept h k)
   back_kept Releases h k = release_kept (p / P) (empty al A P c p f (take_back al A P c p f h)) (emptied_kept h k)
 
--- ---- the numbers
-small : (t : Bool) (x y : ℕ) → x ≤ 10 → y ≤ 10 → (if t then x else y) ≤ 10
-small t x y u v = either (λ (n : ℕ). n ≤ 10) t x y (λ _. u) (λ _. v)
-
-before_small : (j k : ℕ) → j ≤ 10 → k ≤ 10 → (j before k) ≤ 10
-before_small zero k u v = v
-before_small (suc j) k u v = u
-
-shape_small : (h : Heap) → shape_number h ≤ 10
-unfolding shape_number range_number edition_number length_number reach_number
-shape_small h =
-    before_small (reach_number h 1) _ (small (ltb 1 (length h.books)) 0 2 (omega arith) (omega arith))
-    (before_small (range_number (arenas h) (pools h)) _ (small (in_range (arenas h) (pools h)) 0 1 (omega arith) (omega arith))
-    (before_small (reach_number h edition_word) _ (small (ltb edition_word (length h.books)) 0 2 (omega arith) (omega arith))
-    (before_small (edition_number (edition h)) _ (small (is_edition (edition h)) 0 1 (omega arith) (omega arith))
-    (small (exact (arenas h) (pools h) h) 0 2 (omega arith) (omega arith)))))
-
-size_small : (n : ℕ) → size_number n ≤ 10
-unfolding size_number
-size_small n = small (leb 1 n && leb n largest) 0 3 (omega arith) (omega arith)
-
-live_small : (al A P : ℕ) (b m : List ℕ) (o : ℕ) → live_number al A P b m o ≤ 10
-unfolding live_number
-live_small al A P b m o =
-    small (live al A P b m o) 0 (dead_number al A P b o) (omega arith) (small (is_block al A P b o) 10 5 (omega arith) (omega arith))
-
-order_small : (shape size offset room : ℕ) → shape ≤ 10 → size ≤ 10 → offset ≤ 10 → room ≤ 10
-    → in_order shape size offset room ≤ 10
-order_small shape size offset room t u v w =
-    before_small shape _ t (before_small size _ u (before_small offset room v w))
-
-ask_small : (q : AskPlan) → (ask_answer q).number ≤ 10
-unfolding ask_answer
-ask_small NoRoom = omega arith
-ask_small Damaged = omega arith
-ask_small (Follow p f l) = omega arith
-ask_small (Ready p f m) = omega arith
-ask_small (Last p f) = omega arith
-ask_small (Again a p f l) = omega arith
-ask_small (Anew s p) = omega arith
-
-back_small : (o : ℕ) (q : BackPlan) → (back_answer o q).number ≤ 10
-unfolding back_answer
-back_small o Broken = omega arith
-back_small o Joins = omega arith
-back_small o Stays = omega arith
-back_small o Empties = omega arith
-back_small o (Moves q) = omega arith
-back_small o Returns = omega arith
-back_small o Releases = omega arith
-
--- ---- the calls
--- an outcome over a heap whose books were b: its number is at most 10, and A, P and the edition are as they were
-pub record Fair (b : List ℕ) (x : Outcome) : Type 0 where
-  pub small : x.answer.number ≤ 10
-  pub kept : Kept b x.heap.books
-
+-- ---- the calls, over a heap whose books were b: what each leaves has the words of b
 -- a call that a test refuses changes nothing; the others have passed every test
-tested : {b : List ℕ} (n : ℕ) (h : Heap) (x : Outcome) → n ≤ 10 → Kept b h.books → (n ≡ 0 → Fair b x)
-    → Fair b (passing n (λ k. refused k h) x)
-tested zero h x u k t = t refl
-tested (suc n) h x u k t = record { small = u; kept = k }
+tested : {b : List ℕ} (n : ℕ) (h : Heap) (x : Outcome) → Kept b h.books → (n ≡ 0 → Kept b x.heap.books)
+    → Kept b (passing n (λ k. refused k h) x).heap.books
+tested zero h x k t = t refl
+tested (suc n) h x k t = k
 
 module _ {al : ℕ} (L : Aligned al) (A P : ℕ) {b : List ℕ} where
-  ask_step_lem : (h : Heap) (n : ℕ) → n ≤ 512 → Kept b h.books → Fair b (ask_step al A P h n)
+  ask_step_lem : (h : Heap) (n : ℕ) → n ≤ 512 → Kept b h.books → Kept b (ask_step al A P h n).heap.books
   unfolding ask_step
   ask_step_lem h n in_range_lem k =
       let few = class_low L (class_of al n) (has_class L n in_range_lem) in
-      record { small = ask_small _; kept = ask_kept al A P (class_of al n) (omega (arith, few)) _ h k }
+      ask_kept al A P (class_of al n) (omega (arith, few)) _ h k
 
   back_step_lem : (h : Heap) (o : ℕ) → live_number al A P h.books h.map o ≡ 0 → Kept b h.books
-      → Fair b (back_step al A P h o)
+      → Kept b (back_step al A P h o).heap.books
   unfolding back_step
   back_step_lem h o e k =
       let there = live_is L A P h.books h.map o (live_zero al A P h.books h.map o e) in
       let few = class_low L (class_at A h.books o) there.class in
-      record { small = back_small o _; kept = back_kept al A P (class_at A h.books o) _ _ (omega (arith, few)) _ h k }
+      back_kept al A P (class_at A h.books o) _ _ (omega (arith, few)) _ h k
 
-  give_old_lem : (h : Heap) (o : ℕ) → Kept b h.books → Fair b (give_old al A P h o)
+  give_old_lem : (h : Heap) (o : ℕ) → Kept b h.books → Kept b (give_old al A P h o).heap.books
   unfolding give_old
-  give_old_lem h o k = tested _ h _ (live_small al A P h.books h.map o) k (λ e. back_step_lem h o e k)
+  give_old_lem h o k = tested _ h _ k (λ e. back_step_lem h o e k)
 
-  half_done_lem : (new : ℕ) (r : Outcome) → Fair b r → Fair b (half_done al A P new r)
+  half_done_lem : (new : ℕ) (r : Outcome) → Kept b r.heap.books → Kept b (half_done al A P new r).heap.books
   half_done_lem new r t = go r.answer.number
     where
-      go : (n : ℕ) → Fair b (passing n (λ k. outcome (answer_of 6 new) r.heap) (done new r.heap))
-      go zero = record { small = omega arith; kept = t.kept }
-      go (suc n) = record { small = omega arith; kept = t.kept }
+      go : (n : ℕ) → Kept b (passing n (λ k. outcome (answer_of 6 new) r.heap) (done new r.heap)).heap.books
+      go zero = t
+      go (suc n) = t
 
-  move : (o k : ℕ) (r : Outcome) → Fair b r → Fair b (moved al A P o k r)
+  move : (o k : ℕ) (r : Outcome) → Kept b r.heap.books → Kept b (moved al A P o k r).heap.books
   unfolding moved
   move o k r t = go r.answer.number
     where
       back : Outcome
       back = give_old al A P (copy o r.answer.offset k r.heap) o
 
-      go : (n : ℕ) → Fair b (passing n (λ number. r) (half_done al A P r.answer.offset back))
-      go zero = half_done_lem r.answer.offset back (give_old_lem (copy o r.answer.offset k r.heap) o t.kept)
+      go : (n : ℕ) → Kept b (passing n (λ number. r) (half_done al A P r.answer.offset back)).heap.books
+      go zero = half_done_lem r.answer.offset back (give_old_lem (copy o r.answer.offset k r.heap) o t)
       go (suc n) = t
 
-  resize_step_lem : (h : Heap) (o n : ℕ) → n ≤ 512 → Kept b h.books → Fair b (resize_step al A P h o n)
+  resize_step_lem : (h : Heap) (o n : ℕ) → n ≤ 512 → Kept b h.books → Kept b (resize_step al A P h o n).heap.books
   unfolding resize_step
   resize_step_lem h o n in_range_lem k = go (keeps (size_at al A h.books o) n)
     where
       go : (t : Bool)
-          → Fair b (if t then done o h else moved al A P o (min n (size_at al A h.books o)) (ask_step al A P h n))
-      go true = record { small = omega arith; kept = k }
+          → Kept b (if t then done o h
+          else moved al A P o (min n (size_at al A h.books o)) (ask_step al A P h n)).heap.books
+      go true = k
       go false = move o _ (ask_step al A P h n) (ask_step_lem h n in_range_lem k)
 
 -- of any heap, damaged or not: none of words 0, 1 and 68 to 71 is written
@@ -302,28 +214,22 @@ module _ (h : Heap) where
   abbrev L : Aligned (alignment h)
   L = aligned (edition h)
 
-  dead_small : (o : ℕ) → offset_number h o ≤ 10
-  dead_small = live_small (alignment h) (arenas h) (pools h) h.books h.map
-
-  pub ask_fair : (n : ℕ) → Fair h.books (ask h n)
+  pub ask_keeps : (n : ℕ) → Kept h.books (ask h n).heap.books
   unfolding ask
-  ask_fair n =
-      tested (in_order (shape_number h) (size_number n) 0 0) h (ask_step (alignment h) (arenas h) (pools h) h n)
-      (order_small (shape_number h) (size_number n) 0 0 (shape_small h) (size_small n) (omega arith) (omega arith)) none_written
+  ask_keeps n =
+      tested (in_order (shape_number h) (size_number n) 0 0) h (ask_step (alignment h) (arenas h) (pools h) h n) none_written
       (λ e. ask_step_lem L (arenas h) (pools h) h n (size_zero n (order_zero (shape_number h) (size_number n) 0 0 e).1).1 none_written)
 
-  pub back_fair : (o : ℕ) → Fair h.books (give_back h o)
+  pub back_keeps : (o : ℕ) → Kept h.books (give_back h o).heap.books
   unfolding give_back
-  back_fair o =
+  back_keeps o =
       let dead = offset_number h o in
-      tested (in_order (shape_number h) 0 dead 0) h (back_step (alignment h) (arenas h) (pools h) h o)
-      (order_small (shape_number h) 0 dead 0 (shape_small h) (omega arith) (dead_small o) (omega arith)) none_written
+      tested (in_order (shape_number h) 0 dead 0) h (back_step (alignment h) (arenas h) (pools h) h o) none_written
       (λ e. back_step_lem L (arenas h) (pools h) h o (order_zero (shape_number h) 0 dead 0 e).2 none_written)
 
-  pub resize_fair : (o n : ℕ) → Fair h.books (resize h o n)
+  pub resize_keeps : (o n : ℕ) → Kept h.books (resize h o n).heap.books
   unfolding resize
-  resize_fair o n =
+  resize_keeps o n =
       let dead = offset_number h o in
-      tested (in_order (shape_number h) (size_number n) dead 0) h (resize_step (alignment h) (arenas h) (pools h) h o n)
-      (order_small (shape_number h) (size_number n) dead 0 (shape_small h) (size_small n) (dead_small o) (omega arith)) none_written
+      tested (in_order (shape_number h) (size_number n) dead 0) h (resize_step (alignment h) (arenas h) (pools h) h o n) none_written
       (λ e. resize_step_lem L (arenas h) (pools h) h o n (size_zero n (order_zero (shape_number h) (size_number n) dead 0 e).1).1 none_written)

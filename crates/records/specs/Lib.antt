@@ -1,5 +1,6 @@
 -- The laws of replay records.
 pub mod Calls
+pub mod Reads
 pub mod Replies
 pub mod Pieces
 pub mod OneMore

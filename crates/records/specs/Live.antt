@@ -48,9 +48,9 @@ use Rattle.books.specs.Known.{LiveBlock, size_zero, live_zero, live_is}
 use Rattle.books.specs.Starts.{first_block}
 use Rattle.books.specs.Tests.{both}
 use Rattle.bits.specs.Map.{zeros, each_zero}
-use Rattle.plans.specs.Class.{Range, ranged}
+use Rattle.plans.specs.Range.{Range, ranged}
 use Rattle.plans.specs.Fits.{FitsAsk, Spare, fits_ask}
-use Rattle.records.specs.Calls.{Kept, ask_fair, back_fair, resize_fair}
+use Rattle.records.specs.Calls.{Kept, ask_keeps, back_keeps, resize_keeps}
 use Rattle.records.specs.Replies.{Whole, live_in, right_shape}
 use Rattle.records.specs.OneMore.{OneMore, one_set, one_cleared, pool_longer, pool_begun, roll_longer}
 use Rattle.records.specs.Classes.{Still, NotAnew, ask_still, listed_map, anew_class, back_still}
@@ -81,8 +81,9 @@ pub record BackCounts (live : ℕ) (a : Answer) (b k : List ℕ) : Type 0 where
   pub refused : (a.number ≡ 0 → ⊥) → live ≡ live_in b k
   pub done : a.number ≡ 0 → live ≡ live_in b k + 1
 
+-- number 6 with an offset is the half-done resize
 pub record ResizeCounts (live : ℕ) (a : Answer) (b k : List ℕ) : Type 0 where
-  pub refused : (a.number ≡ 0 → ⊥) → (a.number ≡ 6 → ⊥) → live ≡ live_in b k
+  pub refused : (a.number ≡ 0 → ⊥) → (a.number ≡ 6 → a.offset ≡ 0) → live ≡ live_in b k
   pub done : a.number ≡ 0 → (a.offset % 4096 ≡ 48 → ⊥) → live ≡ live_in b k
 
 -- ---- in a pool whose first block is alone no other block is live
@@ -115,6 +116,7 @@ record Asked (al A P : ℕ) (h : Heap) (x : Outcome) : Type 0 where
   refused : (x.answer.number ≡ 0 → ⊥) → words al A P x.heap ≡ words al A P h
   done : x.answer.number ≡ 0 → Carries x.heap.map x.answer.offset
       → words al A P x.heap ≡ words al A P h + 2
+  place : x.answer.number ≡ 0 → 48 ≤ x.answer.offset
   map : length x.heap.map ≡ length h.map
 
 record Given (al A P : ℕ) (h : Heap) (x : Outcome) : Type 0 where
@@ -122,7 +124,7 @@ record Given (al A P : ℕ) (h : Heap) (x : Outcome) : Type 0 where
   done : x.answer.number ≡ 0 → words al A P h ≡ words al A P x.heap + 2
 
 record Resized (al A P : ℕ) (h : Heap) (x : Outcome) : Type 0 where
-  refused : (x.answer.number ≡ 0 → ⊥) → (x.answer.number ≡ 6 → ⊥) → words al A P x.heap ≡ words al A P h
+  refused : (x.answer.number ≡ 0 → ⊥) → (x.answer.number ≡ 6 → x.answer.offset ≡ 0) → words al A P x.heap ≡ words al A P h
   done : x.answer.number ≡ 0 → (x.answer.offset % 4096 ≡ 48 → ⊥) → words al A P x.heap ≡ words al A P h
 
 -- ---- an ask for class c
@@ -164,10 +166,11 @@ module _ {al : ℕ} (L : Aligned al) (A P c : ℕ) (h : Heap) (range : Range A P
   -- on a path that changes no pool's class, a block is handed out of a pool that is of class c
   handed : (q : AskPlan) (p f : ℕ) → FitsAsk A P (size_of al c) c h.books h.map q → ((y : ℕ) → NotAnew q y)
       → Spare A P (size_of al c) h.map p f → pool A h.books class p ≡ c
-      → (ask_answer q).number ≡ 0 → (after_ask al A P c q h).map ≡ set p f
+      → ask_answer q ≡ answer_of 0 (offset_of p f) → (after_ask al A P c q h).map ≡ set p f
       → Asked al A P h (asked al A P c h q)
   handed q p f t no_class_lem spare its answered left = record {
-    refused = λ d. absurd (d answered);
+    refused = λ d. absurd (d (ap (λ (a : Answer). a.number) answered));
+    place = λ _. omega (arith, ap (λ (a : Answer). a.offset) answered, spare.start.low);
     done = λ _ _.
         let more = one p f spare in
         let b' = (after_ask al A P c q h).books in
@@ -187,6 +190,7 @@ module _ {al : ℕ} (L : Aligned al) (A P c : ℕ) (h : Heap) (range : Range A P
   anew s p t = record {
     refused = λ d. absurd (d refl);
     done = λ _ carries. go carries;
+    place = λ _. omega arith;
     map = ap length left ∙ length_put h.map p _ 1;
   }
     where
@@ -208,8 +212,18 @@ module _ {al : ℕ} (L : Aligned al) (A P c : ℕ) (h : Heap) (range : Range A P
 
   plan_asked : (q : AskPlan) → FitsAsk A P (size_of al c) c h.books h.map q → Asked al A P h (asked al A P c h q)
   unfolding ask_answer after_ask
-  plan_asked NoRoom t = record { refused = λ _. refl; done = λ e. absurd (omega arith); map = refl }
-  plan_asked Damaged t = record { refused = λ _. refl; done = λ e. absurd (omega arith); map = refl }
+  plan_asked NoRoom t = record {
+    refused = λ _. refl;
+    done = λ e. absurd (omega arith);
+    place = λ e. absurd (omega arith);
+    map = refl;
+  }
+  plan_asked Damaged t = record {
+    refused = λ _. refl;
+    done = λ e. absurd (omega arith);
+    place = λ e. absurd (omega arith);
+    map = refl;
+  }
   plan_asked (Follow p f l) t = handed (Follow p f l) p f t (λ _. tt) t.0.spare t.0.class refl refl
   plan_asked (Ready p f m) t = handed (Ready p f m) p f t (λ _. tt) t.0.spare t.0.class refl refl
   plan_asked (Last p f) t = handed (Last p f) p f t (λ _. tt) t.0.spare t.0.class refl refl
@@ -284,10 +298,10 @@ module _ {al : ℕ} (L : Aligned al) (A P : ℕ) (range : Range A P) where
         go (suc n) e = record { refused = λ _. refl; done = λ e. absurd (omega arith) }
 
   -- ---- a resize
-  half_done_lem : (h : Heap) (new : ℕ) (g : Heap) (r : Outcome)
+  half_done_lem : (h : Heap) (new : ℕ) (g : Heap) (r : Outcome) → 48 ≤ new
       → ((new % 4096 ≡ 48 → ⊥) → words al A P g ≡ words al A P h + 2) → Given al A P g r
       → Resized al A P h (half_done al A P new r)
-  half_done_lem h new g r more t = go r.answer.number refl
+  half_done_lem h new g r place more t = go r.answer.number refl
     where
       go : (n : ℕ) → r.answer.number ≡ n
           → Resized al A P h (passing n (λ k. outcome (answer_of 6 new) r.heap) (done new r.heap))
@@ -295,7 +309,7 @@ module _ {al : ℕ} (L : Aligned al) (A P : ℕ) (range : Range A P) where
         refused = λ n. absurd (n refl);
         done = λ _ d. omega (arith, more d, t.done e);
       }
-      go (suc n) e = record { refused = λ _ n. absurd (n refl); done = λ e. absurd (omega arith) }
+      go (suc n) e = record { refused = λ _ z. absurd (omega (arith, place, z refl)); done = λ e. absurd (omega arith) }
 
   move : (h : Heap) (o k : ℕ) (r : Outcome) → length h.map ≡ map_length A P → Asked al A P h r
       → Resized al A P h (moved al A P o k r)
@@ -308,7 +322,7 @@ module _ {al : ℕ} (L : Aligned al) (A P : ℕ) (range : Range A P) where
       go : (n : ℕ) → r.answer.number ≡ n
           → Resized al A P h (passing n (λ number. r) (half_done al A P r.answer.offset (give_old al A P g o)))
       go zero e =
-          half_done_lem h r.answer.offset g (give_old al A P g o) (λ d. t.done e (inl d)) (give_old_lem g o (t.map ∙ map))
+          half_done_lem h r.answer.offset g (give_old al A P g o) (t.place e) (λ d. t.done e (inl d)) (give_old_lem g o (t.map ∙ map))
       go (suc n) e = record { refused = λ d _. t.refused d; done = λ z. absurd (omega (arith, e)) }
 
   resize_step_lem : (h : Heap) (o n : ℕ) → n ≤ 512 → length h.books ≡ books_length A P → length h.map ≡ map_length A P
@@ -349,7 +363,12 @@ module _ (h : Heap) (whole : Whole h.memory h.books h.map) where
       go : (size : ℕ) → size_number n ≡ size
           → Asked al A P h (passing (in_order 0 size 0 0) (λ k. refused k h) (ask_step al A P h n))
       go zero e = ask_step_lem L A P range h n (size_zero n e).1 whole.0.books whole.0.map
-      go (suc k) e = record { refused = λ _. refl; done = λ e. absurd (omega arith); map = refl }
+      go (suc k) e = record {
+        refused = λ _. refl;
+        done = λ e. absurd (omega arith);
+        place = λ e. absurd (omega arith);
+        map = refl;
+      }
 
   gives : (o : ℕ) → Given al A P h (give_back h o)
   unfolding give_back give_old
@@ -380,21 +399,21 @@ pub ask_counts : (h : Heap) (n : ℕ) → Whole h.memory h.books h.map
     → let x = ask h n in AskCounts (live_in h.books h.map) x.answer x.heap.books x.heap.map
 ask_counts h n whole =
     let t = asks h whole n in
-    let now = half_the_words h (ask h n).heap (ask_fair h n).kept in
+    let now = half_the_words h (ask h n).heap (ask_keeps h n) in
     record { refused = λ d. omega (arith, now, t.refused d); done = λ e d. omega (arith, now, t.done e d) }
 
 pub back_counts : (h : Heap) (o : ℕ) → Whole h.memory h.books h.map
     → let x = give_back h o in BackCounts (live_in h.books h.map) x.answer x.heap.books x.heap.map
 back_counts h o whole =
     let t = gives h whole o in
-    let now = half_the_words h (give_back h o).heap (back_fair h o).kept in
+    let now = half_the_words h (give_back h o).heap (back_keeps h o) in
     record { refused = λ d. omega (arith, now, t.refused d); done = λ e. omega (arith, now, t.done e) }
 
 pub resize_counts : (h : Heap) (o n : ℕ) → Whole h.memory h.books h.map
     → let x = resize h o n in ResizeCounts (live_in h.books h.map) x.answer x.heap.books x.heap.map
 resize_counts h o n whole =
     let t = resizes h whole o n in
-    let now = half_the_words h (resize h o n).heap (resize_fair h o n).kept in
+    let now = half_the_words h (resize h o n).heap (resize_keeps h o n) in
     record { refused = λ d s. omega (arith, now, t.refused d s); done = λ e d. omega (arith, now, t.done e d) }
 
 -- ---- in the code's words
@@ -402,15 +421,3 @@ resize_counts h o n whole =
 pub in_code : (C : ℕ → Answer → List ℕ → List ℕ → Type 0) {live n : ℕ} {x y : Outcome} → live ≡ n → x ≡ y
     → C n y.answer y.heap.books y.heap.map → C live x.answer x.heap.books x.heap.map
 in_code C e f t = rw (e, f) t
-
--- a give-back that is done finds a live block, and leaves one fewer
-module _ {live : ℕ} {b k : List ℕ} (a : Answer) (t : BackCounts live a b k) where
-  pub one_live : a.number ≡ 0 → 1 ≤ live
-  one_live e = omega (arith, t.done e)
-
-  pub one_fewer : passing a.number (λ _. live) (live - 1) ≡ live_in b k
-  one_fewer = go a.number refl
-    where
-      go : (n : ℕ) → a.number ≡ n → passing n (λ _. live) (live - 1) ≡ live_in b k
-      go zero e = omega (arith, t.done e)
-      go (suc n) e = t.refused (λ z. omega (arith, e, z))

@@ -1,16 +1,15 @@
 -- A piece of a replay: what it answers, and its replies one by one; and a replay that comes in pieces is the replay.
 -- Assumes nothing.
-use Rattle.std.specs.Prelude.{◌≡◌, refl, Bool, eqb, ltb, take, if◌then◌else◌}
+use Rattle.std.specs.Prelude.{◌≡◌, refl, Bool, eqb, ltb, take, if◌then◌else◌, Result}
 use Rattle.std.proofs.Math.Path.{sym, ap, ap₂}
-use Rattle.std.proofs.Common.{◌∙◌, length-append, length-drop, take_all, drop-drop, lt-ltb, ne_eqb}
+use Rattle.std.proofs.Common.{◌∙◌, length-append, length-drop, take_all, drop-drop, lt-ltb, ne_eqb, inl, inr}
 use mathlib.Core.List.{List, [], ◌∷◌, ◌++◌, append-nil, append_assoc}
 use Prim.Native.Nat.{ℕ, zero, suc, ◌+◌, ◌*◌, ◌-◌, ◌/◌, ◌%◌, ◌≤◌, ◌<◌, min}
-use Rattle.std.proofs.Math.Nat.{min-eq_left, min-eq_right}
-use Rattle.std.proofs.Math.Decide.{dec_le}
 use native.Mathlib.Omega.{arith}
 use Rattle.std.proofs.Math.ListN.{length, drop}
-use Rattle.std.proofs.Math.Seq.{sets, length-sets}
-use Rattle.std.proofs.lemmas.List.{take-append-le, drop-append-le}
+use Rattle.std.proofs.Math.Seq.{sets, length-sets, take-append_seam, drop-append_seam}
+use Rattle.std.proofs.lemmas.Bool.{cases_lt}
+use Rattle.std.proofs.lemmas.List.{take-append-le, drop-append-le, drop_all, nil_from_length}
 use Rattle.rules.specs.Books.{Heap}
 use Rattle.rules.specs.Outcome.{Outcome, passing}
 use Rattle.rules.specs.Numbers.{in_order, shape_number, room_number, format, ask, give_back, resize, block_size}
@@ -32,11 +31,19 @@ use Rattle.rules.specs.Replay.{
 use Rattle.books.specs.Tests.{either}
 use Rattle.loops.specs.Sets.{sets_append, sets_front}
 use Rattle.books.specs.Passing.{stopped, passed, too_little, enough}
-use Rattle.records.specs.declared.Replayed.{Replayed}
-use Rattle.records.specs.Calls.{Kept, none_written, kept_on, Fair, ask_fair, back_fair, resize_fair}
+use Rattle.books.specs.declared.refusal.Refusal.{Refusal}
+use Rattle.books.specs.Refusals.{number_in, value_in}
+use Rattle.records.specs.Calls.{Kept, none_written, kept_on, ask_keeps, back_keeps, resize_keeps}
 use Rattle.records.specs.Replies.{passed_over}
 
--- ---- what a piece answers
+-- ---- what a piece answers: a number, and how many bytes of the output it has written
+pub record Replayed : Type 0 where
+  pub number : ℕ
+  pub written : ℕ
+
+abbrev pub replayed_in : Result ℕ Refusal → Replayed
+replayed_in result = record { number = number_in result; written = value_in result }
+
 -- the heap after k whole records
 unfoldable pub heap_after : ℕ → Heap → List ℕ → Heap
 heap_after zero h bytes = h
@@ -75,13 +82,13 @@ module _ {b : List ℕ} where
   sent : (t : Bool) (x y : Replied) → Sent b x → Sent b y → Sent b (if t then x else y)
   sent t x y u v = either (Sent b) t x y (λ _. u) (λ _. v)
 
-  call_sent : (r : List ℕ) (x : Outcome) (size : ℕ) → Fair b x → Sent b (called r x size)
+  call_sent : (r : List ℕ) (x : Outcome) (size : ℕ) → Kept b x.heap.books → Sent b (called r x size)
   call_sent r x size f = go x.answer.number
     where
       go : (k : ℕ) → Sent b (passing k (λ j. refused_record r j x.heap)
           (replied (op_of r) 0 x.answer.offset size x.heap))
-      go zero = record { long = refl; kept = f.kept }
-      go (suc k) = record { long = refl; kept = f.kept }
+      go zero = record { long = refl; kept = f }
+      go (suc k) = record { long = refl; kept = f }
 
 pub record_sent : (h : Heap) (r : List ℕ) → Sent h.books (replay_record h r)
 unfolding replay_record replay_call
@@ -90,10 +97,10 @@ record_sent h r =
     (record { long = refl; kept = none_written })
     (sent (well_made r) (replay_call h r) (refused_record r 9 h)
     (sent (eqb (op_of r) 1) asked (if eqb (op_of r) 2 then given else resized)
-    (call_sent r (ask h (size_in r)) _ (ask_fair h (size_in r)))
+    (call_sent r (ask h (size_in r)) _ (ask_keeps h (size_in r)))
     (sent (eqb (op_of r) 2) given resized
-    (call_sent r (give_back h (offset_in r)) _ (back_fair h (offset_in r)))
-    (call_sent r (resize h (offset_in r) (size_in r)) _ (resize_fair h (offset_in r) (size_in r)))))
+    (call_sent r (give_back h (offset_in r)) _ (back_keeps h (offset_in r)))
+    (call_sent r (resize h (offset_in r) (size_in r)) _ (resize_keeps h (offset_in r) (size_in r)))))
     (record { long = refl; kept = none_written }))
   where
     asked : Replied
@@ -279,16 +286,21 @@ module _ (h : Heap) (input output : List ℕ) where
           ∙ ap (λ (n : ℕ). piece_of 0 n (replies ++ drop (length replies) output) (heap_after (length input / 16) h input)) (sym replies_long)
           ∙ sym piece_done
 
--- the part of the bytes l where record i stands
-pub part_is : (l : List ℕ) (i to : ℕ) → to ≡ 16 * i + min 16 (length l - 16 * i)
-    → take (to - 16 * i) (drop (16 * i) l) ≡ record_at i l
-part_is l i to e =
-    let n : to - 16 * i ≡ min 16 (length (drop (16 * i) l)) = omega (arith, ap (min 16) (length-drop (16 * i) l)) in
-    ap (λ (k : ℕ). take k (drop (16 * i) l)) n ∙ up_to 16 (drop (16 * i) l) (dec_le (length (drop (16 * i) l)) 16)
-  where
-    up_to : (n : ℕ) (xs : List ℕ) → Dec (length xs ≤ n) → take (min n (length xs)) xs ≡ take n xs
-    up_to n xs (yes q) = ap (λ (k : ℕ). take k xs) (min-eq_right q) ∙ take_all (length xs) xs (omega arith) ∙ sym (take_all n xs q)
-    up_to n xs (no q) = let r : n ≤ length xs = omega arith in ap (λ (k : ℕ). take k xs) (min-eq_left r)
+-- ---- the input is cut into records: of up to 16 bytes x comes off the front of l, and l' is left
+pub cut : (l x l' : List ℕ) → l ≡ x ++ l' → length x ≡ min 16 (length l) → (x ≡ take 16 l) × (l' ≡ drop 16 l)
+cut l x l' e size =
+    let all = ap length e ∙ length-append x l' in
+    elim (cases_lt (length l) 16) [
+      | inl short ↦
+          let none : l' ≡ [] = nil_from_length l' (omega arith) in
+          let same : l ≡ x = e ∙ ap (λ (r : List ℕ). x ++ r) none ∙ append-nil x in
+          (sym same ∙ sym (take_all 16 l (omega arith)), none ∙ sym (drop_all 16 l (omega arith)))
+      | inr long ↦
+          let sixteen : length x ≡ 16 = omega arith in (
+            sym (take-append_seam x l') ∙ ap₂ take sixteen (sym e),
+            sym (drop-append_seam x l') ∙ ap₂ drop sixteen (sym e),
+          )
+    ]
 
 -- ---- a piece of one record, whole or short, gets that record's reply
 pub one_record : (h : Heap) (r : List ℕ) → 0 < length r → length r ≤ 16

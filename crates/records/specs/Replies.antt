@@ -1,35 +1,35 @@
 -- A reply as a struct, what it is made of, and its bytes.
 -- Assumes nothing.
-use Rattle.std.specs.Prelude.{◌≡◌, refl, Bool, true, false, List, [], ◌∷◌, ◌++◌, ℕ, zero, suc, ◌+◌, ◌*◌, ◌/◌, ◌%◌, ◌≤◌, eqb, length, if◌then◌else◌}
-use Rattle.std.proofs.Common.{sym, ap, ap₂, ◌∙◌, arith, lt-ltb, le-leb, eq-eqb}
+use Rattle.std.specs.Prelude.{◌≡◌, Bool, true, false, List, [], ◌∷◌, ◌++◌, ℕ, suc, ◌+◌, ◌*◌, ◌/◌, ◌%◌, ◌≤◌, eqb, length, if◌then◌else◌}
+use Rattle.std.proofs.Common.{sym, ap, ap₂, subst, ◌∙◌, arith, lt-ltb, le-leb, eq-eqb}
 use Rattle.std.proofs.lemmas.List.Edits.{sets}
 use Rattle.rules.specs.declared.Answer.{Answer}
 use Rattle.rules.specs.Books.{Heap, in_range, exact, at, put, alignment_of, memory_length, books_length, map_length}
 use Rattle.rules.specs.Blocks.{put_link}
 use Rattle.rules.specs.View.{roll}
-use Rattle.rules.specs.Outcome.{Outcome, heap_of, outcome, passing}
-use Rattle.rules.specs.Numbers.{range_number, edition_number, length_number, reach_number, shape_number}
-use Rattle.rules.specs.Replay.{op_of, offset_in, four_bytes, reply_bytes, Replied, replied, refused_record, called}
+use Rattle.rules.specs.Outcome.{Outcome, heap_of, outcome, answer_of}
+use Rattle.rules.specs.Numbers.{block_size, range_number, edition_number, length_number, reach_number, shape_number}
+use Rattle.rules.specs.Replay.{op_of, offset_in, four_bytes, reply_bytes, Replied, called}
 use Rattle.books.specs.Sizes.{aligned}
+use Rattle.books.specs.Known.{Shaped, ReadShape}
 use Rattle.books.specs.declared.words.Shape.{Shape}
-use Rattle.books.specs.Known.{Shaped, shape_of}
-use Rattle.loops.specs.Roll.{length_roll}
+use Rattle.books.specs.declared.refusal.Refusal.{Refusal}
+use Rattle.books.specs.Passing.{stopped}
+use Rattle.books.specs.Refusals.{number_of, number_low}
+use Rattle.loops.specs.Roll.{Pools, length_roll}
 use Rattle.records.specs.declared.Reply.{Reply}
-use Rattle.records.specs.Calls.{Fixed, Kept, Fair}
+use Rattle.records.specs.declared.Call.{Call}
+use Rattle.records.specs.Calls.{Fixed, Kept}
+use Rattle.records.specs.Reads.{byte_of, Says}
 
 -- ---- the heap
 -- memory, books and map have the shape that words 0 and 1 of the books say, and word 68 says an edition
 abbrev pub Whole : List ℕ → List ℕ → List ℕ → Type 0
 Whole m b k = Shaped (at b 0) (at b 1) (length m) (length b) (length k) × (at b 68 ≤ 1)
 
--- what of that the count of live blocks needs, of the shape s; and of the one that the books say
-pub record Countable (b k : List ℕ) (s : Shape) : Type 0 where
-  pub all : s.arenas * s.pools ≤ 1024
-  pub books : length b ≡ books_length s.arenas s.pools
-  pub map : length k ≡ map_length s.arenas s.pools
-
+-- what of that the count of live blocks needs
 abbrev pub Counted : List ℕ → List ℕ → Type 0
-Counted b k = Countable b k (shape_of b)
+Counted b k = Pools (at b 0) (at b 0 * at b 1) b k
 
 abbrev pub live_in : List ℕ → List ℕ → ℕ
 live_in b k = length (roll (alignment_of (at b 68)) (at b 0) (at b 1) b k) / 2
@@ -42,15 +42,12 @@ abbrev pub bytes_of : Reply → List ℕ
 bytes_of r = reply_bytes r.op r.number r.offset r.size r.live
 
 -- "A refusal repeats the record's offset (0 for ask)"
-abbrev pub repeated : List ℕ → ℕ
-repeated r = if eqb (op_of r) 1 then 0 else offset_in r
+abbrev pub refusal_of : ℕ → ℕ → ℕ → ℕ → Reply
+refusal_of op offset k live = reply_of op k (if eqb op 1 then 0 else offset) 0 live
 
-abbrev pub refusal_of : List ℕ → ℕ → ℕ → Reply
-refusal_of r k live = reply_of (op_of r) k (repeated r) 0 live
-
--- the reply to a record whose call answered a
-abbrev pub reply_to : List ℕ → Answer → ℕ → ℕ → Reply
-reply_to r a size live = passing a.number (λ k. refusal_of r k live) (reply_of (op_of r) 0 a.offset size live)
+-- the size of the block that a call answered
+abbrev pub answered_size : Outcome → ℕ
+answered_size x = block_size x.heap x.answer.offset
 
 -- a reply, and the heap after it
 abbrev pub replied_with : Reply → List ℕ → List ℕ → List ℕ → Replied
@@ -61,12 +58,17 @@ abbrev pub Replies : Reply → List ℕ → List ℕ → List ℕ → Replied �
 Replies r m b k x = (replied_with r m b k ≡ x) × (r.live ≡ live_in b k)
 
 -- ---- the heap before and after a call
+-- a heap whose shape is tested is whole
+pub tested_whole : (m b k : List ℕ) {s : Shape} → ReadShape (heap_of m b k) s → Whole m b k
+tested_whole m b k t =
+    subst (λ (s : Shape). Shaped s.arenas s.pools (length m) (length b) (length k) × (s.edition ≤ 1)) t.read (t.shaped, t.edition)
+
 pub counted : (m b k : List ℕ) → Whole m b k → Counted b k
-counted m b k (w, e) = record { all = w.all; books = w.books; map = w.map }
+counted m b k (w, e) = record { few = w.all; books = w.books; map = w.map }
 
 -- a count of live blocks fits 32 bits
 pub few_live : (b k : List ℕ) → Counted b k → live_in b k ≤ 518144
-few_live b k w = omega (arith, w.all, length_roll (alignment_of (at b 68)) (at b 0) b k (aligned (at b 68)).low 0 (at b 0 * at b 1))
+few_live b k w = omega (arith, w.few, length_roll (alignment_of (at b 68)) (at b 0) b k (aligned (at b 68)).low 0 (at b 0 * at b 1))
 
 -- neither 1 nor 2
 pub right_shape : (m b k : List ℕ) → Whole m b k → shape_number (heap_of m b k) ≡ 0
@@ -85,16 +87,19 @@ right_shape m b k (w, e) =
       eq-eqb (length k) (map_length (at b 0) (at b 1)) w.map,
     )
 
--- a call that is fair answered a
-pub small_number : {b : List ℕ} {x : Outcome} → Fair b x → (a : Answer) (g : Heap) → outcome a g ≡ x → a.number ≤ 10
-small_number t a g e = rw (ap (λ (y : Outcome). y.answer.number) e) t.small
-
 -- m', b' and k' are the heap g, whose A, P and edition are those of b, and are as long as m, b and k
 pub still_whole : (m b k m' b' k' : List ℕ) (g : Heap) → Whole m b k → Kept b g.books → heap_of m' b' k' ≡ g
     → length m' ≡ length m → length b' ≡ length b → length k' ≡ length k → Whole m' b' k'
 still_whole m b k m' b' k' g w t e f h l =
     let s : (j : ℕ) → Fixed j → at b' j ≡ at b j = λ j u. ap (λ (y : Heap). at y.books j) e ∙ t.word j u in
     rw (s 0 (omega arith), s 1 (omega arith), s 68 (omega arith), f, h, l) w
+
+-- so where a call on them left x, of the answer a, the live blocks can be counted
+pub counted_after : (m b k m' b' k' : List ℕ) {a : Answer} {x : Outcome} → Whole m b k → Kept b x.heap.books
+    → outcome a (heap_of m' b' k') ≡ x → length m' ≡ length m → length b' ≡ length b → length k' ≡ length k
+    → Counted b' k'
+counted_after m b k m' b' k' {x = x} w t e f h l =
+    counted m' b' k' (still_whole m b k m' b' k' x.heap w t (ap (λ (y : Outcome). y.heap) e) f h l)
 
 -- ---- a reply holds the low four bytes of its size
 low_byte : (x t : ℕ) → (x + 256 * t) % 256 ≡ x % 256
@@ -113,39 +118,41 @@ low_four v =
     let d : v / 16777216 % 256 ≡ w / 16777216 % 256 = ap (λ (x : ℕ). x % 256) g ∙ low_byte (w / 16777216) q in
     sym (ap₂ (λ (x y : ℕ). x ∷ y ∷ (v / 65536 % 256) ∷ (v / 16777216 % 256) ∷ []) a b ∙ ap₂ (λ (x y : ℕ). (w % 256) ∷ (w / 256 % 256) ∷ x ∷ y ∷ []) c d)
 
--- the reply to a call, and the heap after it, are what the rules say
-called_is : (r : List ℕ) (x : Outcome) (size s live : ℕ) → s ≡ size % 4294967296
-    → live ≡ live_in x.heap.books x.heap.map
-    → ◌≡◌ {A = Replied} (record { reply = bytes_of (reply_to r x.answer s live); heap = x.heap }) (called r x size)
-called_is r x size s live e f = rw (e, f) (go x.answer.number)
-  where
-    n : ℕ
-    n = live_in x.heap.books x.heap.map
+pub not_zero : (refusal : Refusal) → number_of refusal ≡ 0 → ⊥
+not_zero refusal e = omega (arith, number_low refusal)
 
-    go : (k : ℕ)
-        → ◌≡◌ {A = Replied}
-        (record {
-          reply = bytes_of (passing k (λ j. refusal_of r j n)
-              (reply_of (op_of r) 0 x.answer.offset (size % 4294967296) n));
-          heap = x.heap;
-        })
-        (passing k (λ j. refused_record r j x.heap) (replied (op_of r) 0 x.answer.offset size x.heap))
-    go zero =
-        ap (λ (l : List ℕ). record { reply = op_of r ∷ 0 ∷ 0 ∷ 0 ∷ (four_bytes x.answer.offset ++ (l ++ four_bytes n)); heap = x.heap }) (low_four size)
-    go (suc k) = refl
+-- where the call that the bytes r say left x, the reply to it and the heap are what the rules say
+module _ {r : List ℕ} {c : Call} (says : Says r c) {m b k : List ℕ} {live : ℕ} (counts : live ≡ live_in b k)
+    {reply : Reply} {x : Outcome} (sized : Outcome → ℕ) where
+  -- done at the offset o
+  pub answered_done : (o s : ℕ) → outcome (answer_of 0 o) (heap_of m b k) ≡ x
+      → s ≡ sized (outcome (answer_of 0 o) (heap_of m b k)) % 4294967296
+      → reply ≡ reply_of (byte_of c.op) 0 o s live → Replies reply m b k (called r x (sized x))
+  answered_done o s e f t =
+      let n = sized (outcome (answer_of 0 o) (heap_of m b k)) in (
+        ap (λ (y : Reply). replied_with y m b k) (t ∙ said n f)
+            ∙ ap (λ (l : List ℕ). record { reply = op_of r ∷ 0 ∷ 0 ∷ 0 ∷ (four_bytes o ++ (l ++ four_bytes (live_in b k))); heap = heap_of m b k }) (low_four n)
+            ∙ ap (λ (y : Outcome). called r y (sized y)) e,
+        ap (λ (y : Reply). y.live) t ∙ counts,
+      )
+    where
+      said : (n : ℕ) → s ≡ n % 4294967296
+          → reply_of (byte_of c.op) 0 o s live ≡ reply_of (op_of r) 0 o (n % 4294967296) (live_in b k)
+      said n f = rw (f, ← says.op, counts)
 
--- so they are where the code has that reply
-pub answered : (r : List ℕ) (x : Outcome) (size s live : ℕ) (reply : Reply) → reply ≡ reply_to r x.answer s live
-    → s ≡ size % 4294967296 → live ≡ live_in x.heap.books x.heap.map
-    → Replies reply x.heap.memory x.heap.books x.heap.map (called r x size)
-answered r x size s live reply e f g = (
-  ap (λ (y : Reply). record { reply = bytes_of y; heap = x.heap }) e ∙ called_is r x size s live f g,
-  ap (λ (y : Reply). y.live) e ∙ go x.answer.number ∙ g,
-)
-  where
-    go : (k : ℕ) → (passing k (λ j. refusal_of r j live) (reply_of (op_of r) 0 x.answer.offset s live)).live ≡ live
-    go zero = refl
-    go (suc k) = refl
+  -- refused, with an offset beside the number where it is half done
+  pub answered_refused : (refusal : Refusal) (o : ℕ) → outcome (answer_of (number_of refusal) o) (heap_of m b k) ≡ x
+      → reply ≡ refusal_of (byte_of c.op) c.offset (number_of refusal) live → Replies reply m b k (called r x (sized x))
+  answered_refused refusal o e t = (
+    ap (λ (y : Reply). replied_with y m b k) (t ∙ said)
+        ∙ sym (stopped _ _ (number_of refusal) (not_zero refusal))
+        ∙ ap (λ (y : Outcome). called r y (sized y)) e,
+    ap (λ (y : Reply). y.live) t ∙ counts,
+  )
+    where
+      said : refusal_of (byte_of c.op) c.offset (number_of refusal) live
+          ≡ refusal_of (op_of r) (offset_in r) (number_of refusal) (live_in b k)
+      said = rw (← says.op, ← says.offset, counts)
 
 -- ---- by a test, the rules choose the one or the other
 module _ {X : Type 0} (t : Bool) (x y : X) where

@@ -2,32 +2,115 @@
 // records in and replies out.
 #![tactic(auto)]
 
-ghost use Rattle.std.specs.Prelude.{◌≡◌, true, ◌+◌, ◌*◌, ◌-◌, ◌%◌, ◌<◌, ◌≤◌, min, length};
+ghost use Rattle.std.specs.Prelude.{◌≡◌, true, ◌+◌, ◌*◌, ◌-◌, ◌%◌, ◌<◌, ◌≤◌, List, ℕ, eqb, length};
+ghost use Rattle.std.specs.List.{list_all};
 ghost use Rattle.std.proofs.lemmas.List.Edits.{sets};
 ghost use Rattle.rules.specs.Books.{at, alignment_of};
 ghost use Rattle.rules.specs.Blocks.{size_at};
-ghost use Rattle.rules.specs.Outcome.{heap_of, passing};
+ghost use Rattle.rules.specs.Outcome.{heap_of};
 ghost use Rattle.rules.specs.Numbers.{ask, give_back, resize, block_size};
-ghost use Rattle.rules.specs.Replay.{well_made, size_in, offset_in, called, called_for, replay_call, replay_record};
-ghost use Rattle.records.specs.Replies.{
-  Counted,
-  Whole,
-  live_in,
-  repeated,
-  bytes_of,
-  refusal_of,
-  reply_to,
-  Replies,
-};
-ghost use Rattle.records.specs.Live.{alone_in, Carries, AskCounts, ResizeCounts};
-ghost use Rattle.records.specs.Pieces.{record_at, replay_piece};
+ghost use Rattle.rules.specs.Replay.{size_in, offset_in, called, called_for, replay_call, replay_record};
+ghost use Rattle.books.specs.Refusals.{number_of};
+ghost use Rattle.records.specs.Reads.{byte_of, OpOf, Says, ReadFrom};
+ghost use Rattle.records.specs.Replies.{Counted, Whole, live_in, reply_of, refusal_of, bytes_of, Replies};
+ghost use Rattle.records.specs.Live.{alone_in, Carries};
+ghost use Rattle.records.specs.Pieces.{replayed_in, replay_piece};
 
 use books::blocks::size_of;
 use books::links::{link_at, put_link};
-use books::numbers::shape_number;
+use books::numbers::test_shape;
 use books::words::{CLASS, EDITION, RECORDS, index, shape_of, word_or_none};
+use heap::{Refusal, ResizeRefusal};
 use loops::count_words;
-use rules::Answer;
+
+// ---- a record
+
+// What a record asks for, by the byte that says it.
+#[derive(Clone, Copy, Debug, PartialEq, Eq)]
+enum Op {
+    Ask = 1,
+    GiveBack = 2,
+    Resize = 3,
+}
+
+// Why bytes are no record, by its number: they are too few; or the op is unknown, or a spare byte is not 0.
+#[derive(Clone, Copy, Debug, PartialEq, Eq)]
+enum Malformed {
+    Short = 8,
+    Unknown = 9,
+}
+
+impl TryFrom<u8> for Op {
+    type Error = Malformed;
+
+    ghost try_from_gives = { OpOf };
+
+    fn try_from(byte: u8) -> Result<Op, Malformed> {
+        match byte {
+            1 => Ok(Op::Ask),
+            2 => Ok(Op::GiveBack),
+            3 => Ok(Op::Resize),
+            _ => Err(Malformed::Unknown),
+        }
+    }
+}
+
+// The call that a record says.
+#[derive(Clone, Copy)]
+struct Call {
+    op: Op,
+    size: u32,
+    offset: u32,
+}
+
+impl Call {
+    // The call that the bytes say, where the op is known and the spare bytes are 0.
+    fn read(bytes: &[u8]) -> Result<Call, Malformed>
+        ensures { ReadFrom bytes.now result }
+    {
+        if bytes.len() < 16 {
+            return Err(Malformed::Short);
+        }
+        let op = Op::try_from(bytes[0])?;
+        if !(all_zero(&bytes[1..4]) & all_zero(&bytes[12..16])) {
+            return Err(Malformed::Unknown);
+        }
+        Ok(Call {
+            op,
+            size: link_at(bytes, 4),
+            offset: link_at(bytes, 8),
+        })
+    }
+
+    // The reply to the call where it is refused.
+    fn refused(self, refusal: Refusal, live: u32) -> Reply
+        ensures { result ≡ refusal_of (byte_of self.op) self.offset (number_of refusal) live }
+    {
+        Reply::refused(self.op as u8, self.offset, refusal as u8, live)
+    }
+
+    // The reply to the call where it is done.
+    fn done(self, offset: u32, size: u32, live: u32) -> Reply
+        ensures { result ≡ reply_of (byte_of self.op) 0 offset size live }
+    {
+        Reply {
+            op: self.op as u8,
+            number: 0,
+            offset,
+            size,
+            live,
+        }
+    }
+}
+
+// Every byte is 0.
+fn all_zero(bytes: &[u8]) -> bool
+    ensures { result ≡ list_all (λ b. eqb b 0) bytes.now }
+{
+    bytes.iter().all(|b| *b == 0)
+}
+
+// ---- a reply
 
 // A reply, before its bytes are written.
 #[derive(Clone, Copy)]
@@ -39,43 +122,37 @@ struct Reply {
     live: u32,
 }
 
-// What a piece of a replay answers: 1 or 2 for a heap of another shape, 7 for an output that is too small, 0 when done;
-// and how many bytes of the output it has written.
-#[derive(Clone, Copy)]
-pub struct Replayed {
-    pub number: u32,
-    pub written: usize,
-}
-
-// ---- what a reply is made of
-
-// The op is known and the spare bytes are 0.
-fn well_made(bytes: &[u8]) -> bool
-    requires { 16 ≤ length bytes.now }
-    ensures { result ≡ well_made bytes.now }
-{
-    (1 <= bytes[0])
-        & (bytes[0] <= 3)
-        & (bytes[1] == 0)
-        & (bytes[2] == 0)
-        & (bytes[3] == 0)
-        & (bytes[12] == 0)
-        & (bytes[13] == 0)
-        & (bytes[14] == 0)
-        & (bytes[15] == 0)
-}
-
-// The offset that a refusal repeats: the record's, and 0 for an ask.
-fn repeated(bytes: &[u8]) -> u32
-    requires { 16 ≤ length bytes.now }
-    ensures { result ≡ repeated bytes.now }
-{
-    let op = bytes[0];
-    if op == 1 {
-        return 0;
+impl Reply {
+    // A refusal with the number: it repeats the record's op and offset, but 0 for an ask's.
+    fn refused(op: u8, offset: u32, number: u8, live: u32) -> Reply
+        ensures { result ≡ refusal_of op offset number live }
+    {
+        let offset = if op == Op::Ask as u8 { 0 } else { offset };
+        Reply {
+            op,
+            number,
+            offset,
+            size: 0,
+            live,
+        }
     }
-    link_at(bytes, 8)
+
+    // The reply's bytes are stored in the output from byte `at` on.
+    fn put(self, output: &mut [u8], at: usize)
+        requires { at + 16 ≤ length output.old }
+        ensures { output.new ≡ sets output.old at (bytes_of self) }
+    {
+        output[at] = self.op;
+        output[at + 1] = self.number;
+        output[at + 2] = 0;
+        output[at + 3] = 0;
+        put_link(output, at + 4, self.offset);
+        put_link(output, at + 8, self.size);
+        put_link(output, at + 12, self.live);
+    }
 }
+
+// ---- the live blocks, from one call to the next
 
 // How many blocks are live.
 fn live_blocks(books: &[u32], map: &[u64]) -> u32
@@ -84,24 +161,8 @@ fn live_blocks(books: &[u32], map: &[u64]) -> u32
 {
     let shape = shape_of(books);
     let all = shape.arenas * shape.pools;
-    (count_words(books, map, shape.arenas, shape.edition, all) / 2) as u32
+    (count_words(books, map, shape, all) / 2) as u32
 }
-
-// The size of the block at an offset, as far as the four bytes of a reply hold it. Nothing is asked of the books or of
-// the offset: a record may hold any.
-fn size_at(books: &[u32], offset: u32) -> u32
-    ensures { result
-        ≡ size_at (alignment_of (at books.now 68)) (at books.now 0) books.now offset
-        % 4294967296 }
-{
-    let arenas = word_or_none(books, 0);
-    let pool = index(offset) / 4096;
-    let class = word_or_none(books, RECORDS + 8 * arenas + 8 * pool + CLASS);
-    let edition = word_or_none(books, EDITION);
-    (size_of(edition, class) % 4294967296) as u32
-}
-
-// ---- the live blocks, from one call to the next
 
 // Of the pool's bits the first is set, and no other, at a block or at none: so no block but its first is live, whatever
 // its class.
@@ -136,40 +197,25 @@ fn carries(map: &[u64], offset: u32) -> bool
     first_alone(map, pool)
 }
 
-// How many blocks are live after an ask that answered so, where `live` were before it: one more. They are counted where
-// its pool may have been set to another class.
-fn live_after_ask(books: &[u32], map: &[u64], answer: Answer, live: u32) -> u32
-    requires { Counted books.now map.now × AskCounts live answer books.now map.now }
+// How many blocks are live after an ask that handed out the block at the offset, where `live` were before it: one more.
+// They are counted where its pool may have been set to another class.
+fn live_after_ask(books: &[u32], map: &[u64], offset: u32, live: u32) -> u32
+    requires { Counted books.now map.now × (Carries map.now offset → live + 1 ≡ live_in books.now map.now) }
     ensures { result ≡ live_in books.now map.now }
 {
-    if answer.number != 0 {
-        return live;
-    }
-    if !carries(map, answer.offset) {
+    if !carries(map, offset) {
         return live_blocks(books, map);
     }
     live + 1
 }
 
-// How many blocks are live after a give-back that answered so, where `live` were before it: one fewer.
-fn live_after_back(answer: Answer, live: u32) -> u32
-    requires { answer.number ≡ 0 → 1 ≤ live }
-    ensures { result ≡ passing answer.number (λ _. live) (live - 1) }
-{
-    if answer.number == 0 {
-        return live - 1;
-    }
-    live
-}
-
-// How many blocks are live after a resize that answered so, where `live` were before it: as many. They are counted
-// after 6, since it may be half done, and where the text is now in a pool's first block, as after an ask.
-fn live_after_resize(books: &[u32], map: &[u64], answer: Answer, live: u32) -> u32
-    requires { Counted books.now map.now × ResizeCounts live answer books.now map.now }
+// How many blocks are live after a resize whose text is now at the offset, where `live` were before it: as many. They
+// are counted where it is in a pool's first block, as after an ask.
+fn live_after_resize(books: &[u32], map: &[u64], offset: u32, live: u32) -> u32
+    requires { Counted books.now map.now × ((offset % 4096 ≡ 48 → ⊥) → live ≡ live_in books.now map.now) }
     ensures { result ≡ live_in books.now map.now }
 {
-    let number = answer.number;
-    if (number == 6) | (number == 0) & (answer.offset % 4096 == 48) {
+    if offset % 4096 == 48 {
         return live_blocks(books, map);
     }
     live
@@ -177,57 +223,33 @@ fn live_after_resize(books: &[u32], map: &[u64], answer: Answer, live: u32) -> u
 
 // ---- the reply to one record
 
-// A refusal with the number.
-fn refusal(bytes: &[u8], number: u8, live: u32) -> Reply
-    requires { 16 ≤ length bytes.now }
-    ensures { result ≡ refusal_of bytes.now number live }
+// The size of the block at an offset, as far as the four bytes of a reply hold it. Nothing is asked of the books or of
+// the offset: a record may hold any.
+fn size_at(books: &[u32], offset: u32) -> u32
+    ensures { result
+        ≡ size_at (alignment_of (at books.now 68)) (at books.now 0) books.now offset
+        % 4294967296 }
 {
-    Reply {
-        op: bytes[0],
-        number,
-        offset: repeated(bytes),
-        size: 0,
-        live,
-    }
-}
-
-// The reply to a call that answered so.
-fn reply_to(bytes: &[u8], answer: Answer, size: u32, live: u32) -> Reply
-    requires { (16 ≤ length bytes.now) × (answer.number ≤ 10) }
-    ensures { result ≡ reply_to bytes.now answer size live }
-{
-    let number = answer.number;
-    if number != 0 {
-        return refusal(bytes, number as u8, live);
-    }
-    Reply {
-        op: bytes[0],
-        number: 0,
-        offset: answer.offset,
-        size,
-        live,
-    }
+    let arenas = word_or_none(books, 0);
+    let pool = index(offset) / 4096;
+    let class = word_or_none(books, RECORDS + 8 * arenas + 8 * pool + CLASS);
+    let edition = word_or_none(books, EDITION);
+    (size_of(edition, class) % 4294967296) as u32
 }
 
 // The reply to an ask: its size is that of the block that is handed out.
-fn answer_ask(
-    memory: &mut [u8],
-    books: &mut [u32],
-    map: &mut [u64],
-    bytes: &[u8],
-    live: u32,
-) -> Reply
-    requires { Whole memory.old books.old map.old × (16 ≤ length bytes.now)
-        × (live ≡ live_in books.old map.old) }
-    ensures { Replies result memory.new books.new map.new
-        (called_for bytes.now
-        (ask (heap_of memory.old books.old map.old)
-        (size_in bytes.now))) }
+fn answer_ask(memory: &mut [u8], books: &mut [u32], map: &mut [u64], call: Call, live: u32) -> Reply
+    requires { Whole memory.old books.old map.old × (live ≡ live_in books.old map.old) }
+    ensures { (r : List ℕ) → Says r call → Replies result memory.new books.new map.new
+        (called_for r (ask (heap_of memory.old books.old map.old) (size_in r))) }
 {
-    let answer = heap::ask(memory, books, map, index(link_at(bytes, 4)));
-    let size = size_at(books, answer.offset);
-    let live = live_after_ask(books, map, answer, live);
-    reply_to(bytes, answer, size, live)
+    match heap::ask(memory, books, map, index(call.size)) {
+        Ok(offset) => {
+            let size = size_at(books, offset);
+            call.done(offset, size, live_after_ask(books, map, offset, live))
+        }
+        Err(refusal) => call.refused(refusal, live),
+    }
 }
 
 // The reply to a give-back: its size is that of the block that is given back, so it is read before.
@@ -235,46 +257,42 @@ fn answer_give_back(
     memory: &mut [u8],
     books: &mut [u32],
     map: &mut [u64],
-    bytes: &[u8],
+    call: Call,
     live: u32,
 ) -> Reply
-    requires { Whole memory.old books.old map.old × (16 ≤ length bytes.now)
-        × (live ≡ live_in books.old map.old) }
-    ensures { Replies result memory.new books.new map.new
-        (called bytes.now
-        (give_back (heap_of memory.old books.old map.old)
-        (offset_in bytes.now))
-        (block_size (heap_of memory.old books.old map.old)
-        (offset_in bytes.now))) }
+    requires { Whole memory.old books.old map.old × (live ≡ live_in books.old map.old) }
+    ensures { (r : List ℕ) → Says r call → Replies result memory.new books.new map.new
+        (called r (give_back (heap_of memory.old books.old map.old) (offset_in r))
+        (block_size (heap_of memory.old books.old map.old) (offset_in r))) }
 {
-    let offset = link_at(bytes, 8);
-    let size = size_at(books, offset);
-    let answer = heap::give_back(memory, books, map, index(offset));
-    let live = live_after_back(answer, live);
-    reply_to(bytes, answer, size, live)
+    let size = size_at(books, call.offset);
+    match heap::give_back(memory, books, map, index(call.offset)) {
+        Ok(offset) => call.done(offset, size, live - 1),
+        Err(refusal) => call.refused(refusal, live),
+    }
 }
 
-// The reply to a resize: its size is that of the block that the text is now in.
+// The reply to a resize: its size is that of the block that the text is now in. The live blocks are counted where it is
+// half done.
 fn answer_resize(
     memory: &mut [u8],
     books: &mut [u32],
     map: &mut [u64],
-    bytes: &[u8],
+    call: Call,
     live: u32,
 ) -> Reply
-    requires { Whole memory.old books.old map.old × (16 ≤ length bytes.now)
-        × (live ≡ live_in books.old map.old) }
-    ensures { Replies result memory.new books.new map.new
-        (called_for bytes.now
-        (resize (heap_of memory.old books.old map.old)
-        (offset_in bytes.now) (size_in bytes.now))) }
+    requires { Whole memory.old books.old map.old × (live ≡ live_in books.old map.old) }
+    ensures { (r : List ℕ) → Says r call → Replies result memory.new books.new map.new
+        (called_for r (resize (heap_of memory.old books.old map.old) (offset_in r) (size_in r))) }
 {
-    let offset = link_at(bytes, 8);
-    let wanted = link_at(bytes, 4);
-    let answer = heap::resize(memory, books, map, index(offset), index(wanted));
-    let size = size_at(books, answer.offset);
-    let live = live_after_resize(books, map, answer, live);
-    reply_to(bytes, answer, size, live)
+    match heap::resize(memory, books, map, index(call.offset), index(call.size)) {
+        Ok(offset) => {
+            let size = size_at(books, offset);
+            call.done(offset, size, live_after_resize(books, map, offset, live))
+        }
+        Err(ResizeRefusal::Refused(refusal)) => call.refused(refusal, live),
+        Err(ResizeRefusal::HalfDone(_)) => call.refused(Refusal::Damaged, live_blocks(books, map)),
+    }
 }
 
 // The reply to a record that is whole and well made: its call is made.
@@ -282,132 +300,65 @@ fn answer_call(
     memory: &mut [u8],
     books: &mut [u32],
     map: &mut [u64],
-    bytes: &[u8],
+    call: Call,
     live: u32,
 ) -> Reply
-    requires { Whole memory.old books.old map.old × (16 ≤ length bytes.now)
-        × (live ≡ live_in books.old map.old) }
-    ensures { Replies result memory.new books.new map.new
-        (replay_call (heap_of memory.old books.old map.old) bytes.now) }
+    requires { Whole memory.old books.old map.old × (live ≡ live_in books.old map.old) }
+    ensures { (r : List ℕ) → Says r call → Replies result memory.new books.new map.new
+        (replay_call (heap_of memory.old books.old map.old) r) }
 {
-    if bytes[0] == 1 {
-        return answer_ask(memory, books, map, bytes, live);
+    match call.op {
+        Op::Ask => answer_ask(memory, books, map, call, live),
+        Op::GiveBack => answer_give_back(memory, books, map, call, live),
+        Op::Resize => answer_resize(memory, books, map, call, live),
     }
-    if bytes[0] == 2 {
-        return answer_give_back(memory, books, map, bytes, live);
-    }
-    answer_resize(memory, books, map, bytes, live)
 }
 
-// The reply to any record, where `live` blocks are live before it.
+// The reply to any record, where `live` blocks are live before it. A refusal repeats what an unknown one says.
 fn answer(memory: &mut [u8], books: &mut [u32], map: &mut [u64], bytes: &[u8], live: u32) -> Reply
     requires { Whole memory.old books.old map.old × (live ≡ live_in books.old map.old) }
     ensures { Replies result memory.new books.new map.new
         (replay_record (heap_of memory.old books.old map.old) bytes.now) }
 {
-    if bytes.len() < 16 {
-        return Reply {
-            op: 0,
-            number: 8,
-            offset: 0,
-            size: 0,
-            live,
-        };
+    match Call::read(bytes) {
+        Ok(call) => answer_call(memory, books, map, call, live),
+        Err(Malformed::Short) => Reply::refused(0, 0, Malformed::Short as u8, live),
+        Err(Malformed::Unknown) => {
+            Reply::refused(bytes[0], link_at(bytes, 8), Malformed::Unknown as u8, live)
+        }
     }
-    if !well_made(bytes) {
-        return refusal(bytes, 9, live);
-    }
-    answer_call(memory, books, map, bytes, live)
-}
-
-// The reply's bytes are stored in the output from byte `at` on.
-fn put_reply(output: &mut [u8], at: usize, reply: Reply)
-    requires { at + 16 ≤ length output.old }
-    ensures { output.new ≡ sets output.old at (bytes_of reply) }
-{
-    output[at] = reply.op;
-    output[at + 1] = reply.number;
-    output[at + 2] = 0;
-    output[at + 3] = 0;
-    put_link(output, at + 4, reply.offset);
-    put_link(output, at + 8, reply.size);
-    put_link(output, at + 12, reply.live);
 }
 
 // ---- a piece of a replay
 
-// Where the record that starts at `from` ends: sixteen bytes on, or where all the input ends.
-fn end_of(from: usize, all: usize) -> usize
-    requires { from ≤ all }
-    ensures { result ≡ from + min 16 (all - from) }
-{
-    if all - from < 16 {
-        return all;
-    }
-    from + 16
-}
-
-// Record i of the input is answered, and its reply is stored at its place in the output: how many blocks are live then.
-fn replay_record(
-    memory: &mut [u8],
-    books: &mut [u32],
-    map: &mut [u64],
-    input: &[u8],
-    output: &mut [u8],
-    i: usize,
-    live: u32,
-) -> u32
-    requires { Whole memory.old books.old map.old × (16 * i ≤ length input.now)
-        × (16 * i + 16 ≤ length output.old) × (live ≡ live_in books.old map.old) }
-    ensures { (output.new ≡ sets output.old (16 * i)
-        (replay_record (heap_of memory.old books.old map.old)
-        (record_at i input.now)).reply)
-        × (heap_of memory.new books.new map.new
-        ≡ (replay_record (heap_of memory.old books.old map.old)
-        (record_at i input.now)).heap)
-        × (result ≡ live_in books.new map.new) }
-{
-    let from = 16 * i;
-    let to = end_of(from, input.len());
-    let reply = answer(memory, books, map, &input[from..to], live);
-    put_reply(output, from, reply);
-    reply.live
-}
-
 // Every record of the input is answered in order, a short one at the end too; the replies stand at the front of the
-// output. Nothing is done on a heap of another shape, or where the output is too small.
+// output, and the answer is how many bytes they are. Nothing is done on a heap of another shape, or where the output is
+// too small.
 pub fn replay_records(
     memory: &mut [u8],
     books: &mut [u32],
     map: &mut [u64],
     input: &[u8],
     output: &mut [u8],
-) -> Replayed
+) -> Result<usize, Refusal>
     ensures { record {
-      answer = result;
+      answer = replayed_in result;
       output = output.new;
       heap = heap_of memory.new books.new map.new;
     }
         ≡ replay_piece (heap_of memory.old books.old map.old) input.now
         output.old }
 {
-    let number = shape_number(memory, books, map);
-    if number != 0 {
-        return Replayed { number, written: 0 };
-    }
-    let records = (input.len() + 15) / 16;
+    test_shape(memory, books, map)?;
+    let records = input.len().div_ceil(16);
     if output.len() < 16 * records {
-        return Replayed {
-            number: 7,
-            written: 0,
-        };
+        return Err(Refusal::DoesNotFit);
     }
     let mut live = live_blocks(books, map);
-    for i in 0..records {
-        live = replay_record(memory, books, map, input, output, i, live);
+    for (i, bytes) in input.chunks(16).enumerate() {
+        let reply = answer(memory, books, map, bytes, live);
+        reply.put(output, 16 * i);
+        live = reply.live;
     }
-    Replayed {
-        number: 0,
-        written: 16 * records,
-    }
+    Ok(16 * records)
 }

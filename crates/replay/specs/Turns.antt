@@ -1,23 +1,21 @@
 -- What a turn of the program does: the replies that it has ready to write, and what it keeps for the next turn.
 -- Assumes nothing.
-use Rattle.std.specs.Prelude.{◌≡◌, refl, List, ◌++◌, ℕ, ◌*◌, ◌/◌, ◌≤◌, ◌<◌, length, take, drop}
+use Rattle.std.specs.Prelude.{◌≡◌, refl, List, ◌++◌, ℕ, ◌*◌, ◌/◌, ◌≤◌, ◌<◌, length, take, drop, Option, IfSome, Result, Ok, Err, IsOk, ⊤}
 use Rattle.std.proofs.Common.{sym, ◌∙◌, length-append, length-take}
 use Rattle.std.proofs.Math.Path.{ap}
 use Rattle.std.proofs.Math.Nat.{min-le_left}
 use native.Mathlib.Omega.{arith}
 use Rattle.std.proofs.Math.ListN.{replicate}
-use Rattle.rules.specs.declared.Answer.{Answer}
 use Rattle.rules.specs.Books.{Heap, in_range, exact, memory_length, books_length, map_length}
-use Rattle.rules.specs.Outcome.{Outcome, heap_of, outcome, refused}
+use Rattle.rules.specs.Outcome.{Outcome, heap_of, outcome, done, refused}
 use Rattle.rules.specs.Format.{fresh_books}
 use Rattle.rules.specs.Numbers.{range_number, edition_number, length_number, fit_number, format}
 use Rattle.rules.specs.Replay.{replay_records}
+use Rattle.books.specs.declared.refusal.Refusal.{Refusal}
 use Rattle.books.specs.Passing.{passed}
-use Rattle.records.specs.declared.Replayed.{Replayed}
+use Rattle.books.specs.Refusals.{number_in, number_low, value_in, done_in}
 use Rattle.records.specs.Replies.{Whole, right_shape}
-use Rattle.records.specs.Pieces.{heap_after, Piece, replay_piece, records_in, piece_done}
-use Rattle.replay.specs.declared.Next.{Next}
-use Rattle.replay.specs.declared.Next.TheVariants.{Read, Stop}
+use Rattle.records.specs.Pieces.{heap_after, replayed_in, Piece, piece_of, replay_piece, records_in, piece_done}
 
 -- the first n bytes of the output are the replies to every record of the input, from the heap h on, and the heap is g
 pub record Answered (h : Heap) (input output : List ℕ) (g : Heap) (output' : List ℕ) (n : ℕ) : Type 0 where
@@ -32,24 +30,38 @@ pub record Lent (m b k input output : List ℕ) : Type 0 where
   pub out_long : length output ≡ 65536
 
 -- what is kept is no whole record
-abbrev pub NextKept : Next → Type 0
-NextKept (Read n) = n < 16
-NextKept Stop = Unit
+abbrev pub NextKept : Option ℕ → Type 0
+NextKept next = IfSome next (λ n. n < 16)
+
+-- a result of number 0 is done
+is_done : {A : Type 0} (r : Result A Refusal) → number_in r ≡ 0 → IsOk r
+is_done (Ok v) e = refl
+is_done (Err refusal) e = absurd (omega (arith, number_low refusal))
 
 -- a piece is never refused: the shape is right and there is room
-pub answered : (m b k input output : List ℕ) (r : Replayed) (output' : List ℕ) (g : Heap)
-    → Whole m b k → 16 * records_in (length input) ≤ length output
-    → ◌≡◌ {A = Piece} (record { answer = r; output = output'; heap = g }) (replay_piece (heap_of m b k) input output)
-    → Answered (heap_of m b k) input output g output' r.written
-answered m b k input output r output' g w l e =
-    let h = heap_of m b k in
-    let f = e ∙ piece_done h input output (right_shape m b k w) l in
-    let n = ap (λ (x : Piece). x.answer.written) f in
-    record {
-      count = n;
-      stands = ap (λ (x : Piece). x.output) f ∙ ap (λ (j : ℕ). replay_records (length input / 16) h input ++ drop j output) (sym n);
-      heap = ap (λ (x : Piece). x.heap) f;
-    }
+module _ (m b k input output : List ℕ) (r : Result ℕ Refusal) (output' : List ℕ) (g : Heap)
+    (w : Whole m b k) (room : 16 * records_in (length input) ≤ length output)
+    (e : ◌≡◌ {A = Piece} (record { answer = replayed_in r; output = output'; heap = g }) (replay_piece (heap_of m b k) input output)) where
+  all_done : ◌≡◌ {A = Piece} (record { answer = replayed_in r; output = output'; heap = g })
+      (piece_of 0 (length (replay_records (length input / 16) (heap_of m b k) input))
+      (replay_records (length input / 16) (heap_of m b k) input
+      ++ drop (length (replay_records (length input / 16) (heap_of m b k) input)) output)
+      (heap_after (length input / 16) (heap_of m b k) input))
+  all_done = e ∙ piece_done (heap_of m b k) input output (right_shape m b k w) room
+
+  pub never_refused : IsOk r
+  never_refused = is_done r (ap (λ (x : Piece). x.answer.number) all_done)
+
+  pub answered : (n : ℕ) → r ≡ Ok n → Answered (heap_of m b k) input output g output' n
+  answered n d =
+      let count = sym (ap value_in d) ∙ ap (λ (x : Piece). x.answer.written) all_done in
+      record {
+        count = count;
+        stands =
+            ap (λ (x : Piece). x.output) all_done
+            ∙ ap (λ (j : ℕ). replay_records (length input / 16) (heap_of m b k) input ++ drop j output) (sym count);
+        heap = ap (λ (x : Piece). x.heap) all_done;
+      }
 
 -- the replies lie in the output
 pub inside : {h : Heap} {input output : List ℕ} {g : Heap} {output' : List ℕ} {n : ℕ}
@@ -69,23 +81,29 @@ module _ (m b k : List ℕ) (e : length m ≡ memory_length 1 16)
   unfolding fit_number range_number edition_number length_number in_range exact
   fits = rw (e, f, g)
 
-  pub formatted : (a : Answer) (b' k' : List ℕ) → outcome a (heap_of m b' k') ≡ format (heap_of m b k) 1 16 0
-      → Whole m b' k'
-  unfolding format fresh_books
-  formatted a b' k' t =
-      let done = t ∙ passed (λ n. refused n (heap_of m b k)) _ (fit_number (heap_of m b k) 1 16 0) fits in
-      let books : b' ≡ fresh_books 1 16 0 = ap (λ (x : Outcome). x.heap.books) done in
-      let map : k' ≡ replicate 128 0 = ap (λ (x : Outcome). x.heap.map) done in
-      rw (books, map) (
-        record {
-          arenas_low = omega arith;
-          arenas_high = omega arith;
-          pools_low = omega arith;
-          pools_high = omega arith;
-          all = omega arith;
-          memory = e;
-          books = refl;
-          map = refl;
-        },
-        omega arith,
-      )
+  module _ (r : Result ⊤ Refusal) (b' k' : List ℕ) (t : outcome (done_in r) (heap_of m b' k') ≡ format (heap_of m b k) 1 16 0) where
+    left : outcome (done_in r) (heap_of m b' k') ≡ done 0 (heap_of m (fresh_books 1 16 0) (replicate 128 0))
+    unfolding format
+    left = t ∙ passed (λ n. refused n (heap_of m b k)) _ (fit_number (heap_of m b k) 1 16 0) fits
+
+    pub format_done : IsOk r
+    format_done = is_done r (ap (λ (x : Outcome). x.answer.number) left)
+
+    pub formatted : Whole m b' k'
+    unfolding fresh_books
+    formatted =
+        let books : b' ≡ fresh_books 1 16 0 = ap (λ (x : Outcome). x.heap.books) left in
+        let map : k' ≡ replicate 128 0 = ap (λ (x : Outcome). x.heap.map) left in
+        rw (books, map) (
+          record {
+            arenas_low = omega arith;
+            arenas_high = omega arith;
+            pools_low = omega arith;
+            pools_high = omega arith;
+            all = omega arith;
+            memory = e;
+            books = refl;
+            map = refl;
+          },
+          omega arith,
+        )

@@ -1,44 +1,33 @@
 -- `records::answer_ask` asks, and replies with what the ask answered and the heap that it left.
-use mathlib.Core.Path.{ap, ◌∙◌}
-use Prim.Native.Nat.{ℕ}
-use Rattle.rules.specs.Outcome.{Outcome, heap_of, outcome}
-use Rattle.rules.specs.Numbers.{ask, block_size}
-use Rattle.rules.specs.Replay.{called_for}
-use Rattle.records.specs.Calls.{ask_fair}
-use Rattle.records.specs.Replies.{counted, small_number, still_whole, answered}
+use mathlib.Core.Path.{refl, ap, sym, ◌∙◌}
+use Rattle.rules.specs.Outcome.{heap_of}
+use Rattle.rules.specs.Numbers.{ask}
+use Rattle.records.specs.Calls.{ask_keeps}
+use Rattle.records.specs.Replies.{answered_size, counted_after, not_zero, answered_done, answered_refused}
 use Rattle.records.specs.Live.{AskCounts, ask_counts, in_code}
 use Rattle.records.proofs.answer_ask.Goals as goal
 
-pub live_after_ask-live-requires : goal.live_after_ask-live-requires
-live_after_ask-live-requires c =
+pub live_after_ask-requires : goal.live_after_ask-requires
+live_after_ask-requires c =
     let a = c.args in
-    let x = c.ask-answer in
+    let x = c.ask in
+    let h = heap_of a.memory.now a.books.now a.map.now in (
+      counted_after a.memory.now a.books.now a.map.now x.new.memory x.new.books x.new.map c.requires.0
+          (ask_keeps h c.index.result) c.in-Ok.ensures x.auto.memory x.auto.books x.auto.map,
+      (in_code AskCounts c.requires.1 c.in-Ok.ensures (ask_counts h c.index.result c.requires.0)).done refl,
+    )
+
+pub returns-in-Ok : goal.returns-in-Ok
+returns-in-Ok c = λ r says.
+    let a = c.args in
+    answered_done says c.live_after_ask.ensures answered_size c.in-Ok.offset c.size_at-size.result
+    (c.in-Ok.ensures ∙ ap (ask (heap_of a.memory.now a.books.now a.map.now)) (c.index.ensures.0 ∙ sym says.size))
+    c.size_at-size.ensures c.done.ensures
+
+pub returns-in-Err : goal.returns-in-Err
+returns-in-Err c = λ r says.
+    let a = c.args in
     let h = heap_of a.memory.now a.books.now a.map.now in
-    let fair = ask_fair h c.index.result in (
-      counted x.new.memory x.new.books x.new.map
-          (still_whole a.memory.now a.books.now a.map.now x.new.memory x.new.books x.new.map _
-          c.requires.0 fair.kept (ap (λ (y : Outcome). y.heap) x.ensures) x.auto.memory x.auto.books x.auto.map),
-      in_code AskCounts c.requires.2 x.ensures (ask_counts h c.index.result c.requires.0),
-    )
-
-pub reply_to-requires : goal.reply_to-requires
-reply_to-requires c =
-    let a = c.args in
-    let x = c.ask-answer in
-    let fair = ask_fair (heap_of a.memory.now a.books.now a.map.now) c.index.result in
-    (c.requires.1, small_number fair x.result (heap_of x.new.memory x.new.books x.new.map) x.ensures)
-
-pub returns : goal.returns
-returns c =
-    let a = c.args in
-    let x = c.ask-answer in
-    let h = heap_of x.new.memory x.new.books x.new.map in
-    let t = answered a.bytes.now (outcome x.result h) (block_size h x.result.offset) c.size_at-size.result
-    c.live_after_ask-live.result c.reply_to.result c.reply_to.ensures c.size_at-size.ensures
-    c.live_after_ask-live.ensures in (
-      t.0
-          ∙ ap (called_for a.bytes.now) x.ensures
-          ∙ ap (λ (n : ℕ). called_for a.bytes.now (ask (heap_of a.memory.now a.books.now a.map.now) n))
-          (c.index.ensures.0 ∙ c.link_at.ensures),
-      t.1,
-    )
+    let counts = in_code AskCounts c.requires.1 c.in-Err.ensures (ask_counts h c.index.result c.requires.0) in
+    answered_refused says (counts.refused (not_zero c.in-Err.refusal)) answered_size c.in-Err.refusal 0
+    (c.in-Err.ensures ∙ ap (ask h) (c.index.ensures.0 ∙ sym says.size)) c.refused.ensures

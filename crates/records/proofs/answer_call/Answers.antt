@@ -1,24 +1,24 @@
--- `records::answer_call` goes by the op: 1 asks, 2 gives back, and any other resizes, as in the rules.
-use mathlib.Core.Path.{◌∙◌}
-use borrow.Author.Tests.{eq-eqb, ne_eqb}
-use Rattle.rules.specs.Replay.{replay_call}
-use Rattle.records.specs.Replies.{chosen, passed_over}
+-- `records::answer_call` goes by the op: 1 asks, 2 gives back, and 3 resizes, as in the rules.
+use mathlib.Core.Path.{ap, sym, ◌∙◌}
+use Rattle.rules.specs.Outcome.{heap_of}
+use Rattle.records.specs.declared.Op.TheVariants.{Ask, GiveBack, Resize}
+use Rattle.records.specs.Reads.{byte_of, by_op}
 use Rattle.records.proofs.answer_call.Goals as goal
 
-pub returns-then-bytes-eq1 : goal.returns-then-bytes-eq1
-unfolding replay_call
-returns-then-bytes-eq1 c =
-    let x = c.answer_ask in
-    (x.ensures.0 ∙ chosen _ _ _ (eq-eqb _ _ c.if-bytes-eq1.true), x.ensures.1)
+pub returns-in-Ask : goal.returns-in-Ask
+returns-in-Ask c = λ r says.
+    let a = c.args in
+    let t = c.answer_ask.ensures r says in
+    (t.0 ∙ sym (by_op (heap_of a.memory.now a.books.now a.map.now) r Ask (says.op ∙ ap byte_of c.in-Ask.is)), t.1)
 
-pub returns-then-bytes-eq2 : goal.returns-then-bytes-eq2
-unfolding replay_call
-returns-then-bytes-eq2 c =
-    let x = c.answer_give_back in
-    (x.ensures.0 ∙ chosen _ _ _ (eq-eqb _ _ c.if-bytes-eq2.true) ∙ passed_over _ _ _ (ne_eqb _ _ c.if-bytes-eq1.false), x.ensures.1)
+pub returns-in-GiveBack : goal.returns-in-GiveBack
+returns-in-GiveBack c = λ r says.
+    let a = c.args in
+    let t = c.answer_give_back.ensures r says in
+    (t.0 ∙ sym (by_op (heap_of a.memory.now a.books.now a.map.now) r GiveBack (says.op ∙ ap byte_of c.in-GiveBack.is)), t.1)
 
-pub returns : goal.returns
-unfolding replay_call
-returns c =
-    let x = c.answer_resize in
-    (x.ensures.0 ∙ passed_over _ _ _ (ne_eqb _ _ c.if-bytes-eq2.false) ∙ passed_over _ _ _ (ne_eqb _ _ c.if-bytes-eq1.false), x.ensures.1)
+pub returns-in-Resize : goal.returns-in-Resize
+returns-in-Resize c = λ r says.
+    let a = c.args in
+    let t = c.answer_resize.ensures r says in
+    (t.0 ∙ sym (by_op (heap_of a.memory.now a.books.now a.map.now) r Resize (says.op ∙ ap byte_of c.in-Resize.is)), t.1)

@@ -1,47 +1,40 @@
 -- `records::answer_give_back` reads the block's size, gives the block back,
 -- and replies with what that answered and the heap that it left.
-use mathlib.Core.Path.{ap, ◌∙◌}
-use Prim.Native.Nat.{ℕ}
-use Rattle.rules.specs.Outcome.{Outcome, heap_of, outcome}
+use mathlib.Core.Path.{refl, ap, sym, ◌≡◌, ◌∙◌}
+use Prim.Native.Nat.{ℕ, ◌+◌, ◌-◌, ◌%◌}
+use native.Mathlib.Omega.{arith}
+use Rattle.rules.specs.Outcome.{heap_of}
 use Rattle.rules.specs.Numbers.{give_back, block_size}
-use Rattle.rules.specs.Replay.{called}
-use Rattle.records.specs.Calls.{back_fair}
-use Rattle.records.specs.Replies.{small_number, answered}
-use Rattle.records.specs.Live.{BackCounts, back_counts, in_code, one_live, one_fewer}
-use Rattle.records.proofs.answer_give_back.Goals.{After-slice_known-6-1}
+use Rattle.rules.specs.Replay.{offset_in}
+use Rattle.records.specs.Replies.{live_in, not_zero, answered_done, answered_refused}
+use Rattle.records.specs.Live.{BackCounts, back_counts, in_code}
+use Rattle.records.proofs.answer_give_back.Goals.{In-Ok}
 use Rattle.records.proofs.answer_give_back.Goals as goal
 
--- what the give-back makes of the count, where its buffers are home
-counts : (c : After-slice_known-6-1)
-    → let x = c.give_back-answer in
-    BackCounts c.args.live x.result x.new.books x.new.map
-counts c =
+-- one block fewer is live where it is done
+one_fewer : (c : In-Ok) → c.args.live ≡ live_in c.give_back.new.books c.give_back.new.map + 1
+one_fewer c =
     let a = c.args in
     let h = heap_of a.memory.now a.books.now a.map.now in
-    in_code BackCounts c.requires.2 c.give_back-answer.ensures (back_counts h c.index.result c.requires.0)
+    (in_code BackCounts c.requires.1 c.in-Ok.ensures (back_counts h c.index.result c.requires.0)).done refl
 
-pub live_after_back-live-requires : goal.live_after_back-live-requires
-live_after_back-live-requires c = one_live c.give_back-answer.result (counts c)
+pub overflow_sub-live : goal.overflow_sub-live
+overflow_sub-live c = omega (arith, one_fewer (goal.at.overflow_sub-live c).In-Ok)
 
-pub reply_to-requires : goal.reply_to-requires
-reply_to-requires c =
+pub returns-in-Ok : goal.returns-in-Ok
+returns-in-Ok c = λ r says.
     let a = c.args in
-    let x = c.give_back-answer in
-    let fair = back_fair (heap_of a.memory.now a.books.now a.map.now) c.index.result in
-    (c.requires.1, small_number fair x.result (heap_of x.new.memory x.new.books x.new.map) x.ensures)
+    let h = heap_of a.memory.now a.books.now a.map.now in
+    let x = c.give_back in
+    let fewer : a.live - 1 ≡ live_in x.new.books x.new.map = omega (arith, one_fewer (goal.at.returns-in-Ok c).In-Ok) in
+    answered_done says fewer (λ _. block_size h (offset_in r)) c.in-Ok.offset c.size_at-size.result
+    (c.in-Ok.ensures ∙ ap (give_back h) (c.index.ensures.0 ∙ sym says.offset))
+    (c.size_at-size.ensures ∙ ap (λ (o : ℕ). block_size h o % 4294967296) (sym says.offset)) c.done.ensures
 
-pub returns : goal.returns
-returns c =
+pub returns-in-Err : goal.returns-in-Err
+returns-in-Err c = λ r says.
     let a = c.args in
-    let x = c.give_back-answer in
-    let g = heap_of a.memory.now a.books.now a.map.now in
-    let h = heap_of x.new.memory x.new.books x.new.map in
-    let t = answered a.bytes.now (outcome x.result h) (block_size g c.link_at-offset.result) c.size_at-size.result
-    c.live_after_back-live.result c.reply_to.result c.reply_to.ensures c.size_at-size.ensures
-    (c.live_after_back-live.ensures ∙ one_fewer x.result (counts (goal.at.returns c).After-slice_known-6-1)) in (
-      t.0
-          ∙ ap (λ (y : Outcome). called a.bytes.now y (block_size g c.link_at-offset.result))
-          (x.ensures ∙ ap (give_back g) c.index.ensures.0)
-          ∙ ap (λ (o : ℕ). called a.bytes.now (give_back g o) (block_size g o)) c.link_at-offset.ensures,
-      t.1,
-    )
+    let h = heap_of a.memory.now a.books.now a.map.now in
+    let counts = in_code BackCounts c.requires.1 c.in-Err.ensures (back_counts h c.index.result c.requires.0) in
+    answered_refused says (counts.refused (not_zero c.in-Err.refusal)) (λ _. block_size h (offset_in r)) c.in-Err.refusal 0
+    (c.in-Err.ensures ∙ ap (give_back h) (c.index.ensures.0 ∙ sym says.offset)) c.refused.ensures

@@ -1,45 +1,70 @@
 -- `records::answer_resize` resizes, and replies with what the resize answered and the heap that it left.
-use mathlib.Core.Path.{ap, ap₂, ◌∙◌}
+use mathlib.Core.Path.{refl, ap₂, sym, ◌≡◌, ◌∙◌}
+use mathlib.Core.List.{List}
 use Prim.Native.Nat.{ℕ}
-use Rattle.rules.specs.Outcome.{Outcome, heap_of, outcome}
-use Rattle.rules.specs.Numbers.{resize, block_size}
-use Rattle.rules.specs.Replay.{called_for}
-use Rattle.records.specs.Calls.{resize_fair}
-use Rattle.records.specs.Replies.{counted, small_number, still_whole, answered}
+use Rattle.rules.specs.Outcome.{heap_of, outcome}
+use Rattle.rules.specs.Numbers.{resize}
+use Rattle.rules.specs.Replay.{offset_in, size_in}
+use Rattle.books.specs.declared.refusal.Refusal.TheVariants.{Damaged}
+use Rattle.steps.specs.Moved.{moved_in}
+use Rattle.records.specs.Calls.{resize_keeps}
+use Rattle.records.specs.Reads.{Says}
+use Rattle.records.specs.Replies.{Counted, answered_size, counted_after, not_zero, answered_done, answered_refused}
 use Rattle.records.specs.Live.{ResizeCounts, resize_counts, in_code}
+use Rattle.records.proofs.answer_resize.Goals.{After-resize}
 use Rattle.records.proofs.answer_resize.Goals as goal
 
-pub live_after_resize-live-requires : goal.live_after_resize-live-requires
-live_after_resize-live-requires c =
+-- the live blocks can be counted after it
+countable : (c : After-resize) → Counted c.resize.new.books c.resize.new.map
+countable c =
     let a = c.args in
-    let x = c.resize-answer in
-    let h = heap_of a.memory.now a.books.now a.map.now in
-    let fair = resize_fair h c.index.result c.index-2.result in (
-      counted x.new.memory x.new.books x.new.map
-          (still_whole a.memory.now a.books.now a.map.now x.new.memory x.new.books x.new.map _
-          c.requires.0 fair.kept (ap (λ (y : Outcome). y.heap) x.ensures) x.auto.memory x.auto.books x.auto.map),
-      in_code ResizeCounts c.requires.2 x.ensures
-          (resize_counts h c.index.result c.index-2.result c.requires.0),
-    )
+    let x = c.resize in
+    counted_after a.memory.now a.books.now a.map.now x.new.memory x.new.books x.new.map c.requires.0
+    (resize_keeps (heap_of a.memory.now a.books.now a.map.now) c.index.result c.index-2.result) x.ensures.what
+    x.auto.memory x.auto.books x.auto.map
 
-pub reply_to-requires : goal.reply_to-requires
-reply_to-requires c =
+-- what it makes of the count
+counts : (c : After-resize) → ResizeCounts c.args.live (moved_in c.resize.result) c.resize.new.books c.resize.new.map
+counts c =
     let a = c.args in
-    let x = c.resize-answer in
-    let fair = resize_fair (heap_of a.memory.now a.books.now a.map.now) c.index.result c.index-2.result in
-    (c.requires.1, small_number fair x.result (heap_of x.new.memory x.new.books x.new.map) x.ensures)
+    in_code ResizeCounts c.requires.1 c.resize.ensures.what
+    (resize_counts (heap_of a.memory.now a.books.now a.map.now) c.index.result c.index-2.result c.requires.0)
 
-pub returns : goal.returns
-returns c =
+-- it is the resize that the bytes say
+said : (c : After-resize) {r : List ℕ} → Says r c.args.call
+    → let x = c.resize in
+    outcome (moved_in x.result) (heap_of x.new.memory x.new.books x.new.map)
+    ≡ resize (heap_of c.args.memory.now c.args.books.now c.args.map.now) (offset_in r) (size_in r)
+said c says =
     let a = c.args in
-    let x = c.resize-answer in
-    let h = heap_of x.new.memory x.new.books x.new.map in
-    let t = answered a.bytes.now (outcome x.result h) (block_size h x.result.offset) c.size_at-size.result
-    c.live_after_resize-live.result c.reply_to.result c.reply_to.ensures c.size_at-size.ensures
-    c.live_after_resize-live.ensures in (
-      t.0
-          ∙ ap (called_for a.bytes.now) x.ensures
-          ∙ ap₂ (λ (o n : ℕ). called_for a.bytes.now (resize (heap_of a.memory.now a.books.now a.map.now) o n))
-          (c.index.ensures.0 ∙ c.link_at-offset.ensures) (c.index-2.ensures.0 ∙ c.link_at-wanted.ensures),
-      t.1,
-    )
+    c.resize.ensures.what
+    ∙ ap₂ (resize (heap_of a.memory.now a.books.now a.map.now)) (c.index.ensures.0 ∙ sym says.offset)
+    (c.index-2.ensures.0 ∙ sym says.size)
+
+pub live_after_resize-requires : goal.live_after_resize-requires
+live_after_resize-requires c =
+    let p = (goal.at.live_after_resize-requires c).After-resize in
+    (countable p, (rw c.in-Ok.is at (counts p)).done refl)
+
+pub returns-in-Ok : goal.returns-in-Ok
+returns-in-Ok c = λ r says.
+    let p = (goal.at.returns-in-Ok c).After-resize in
+    answered_done says c.live_after_resize.ensures answered_size c.in-Ok.offset c.size_at-size.result
+    (rw c.in-Ok.is at (said p says)) c.size_at-size.ensures c.done.ensures
+
+pub returns-in-Err-Refused : goal.returns-in-Err-Refused
+returns-in-Err-Refused c = λ r says.
+    let p = (goal.at.returns-in-Err-Refused c).After-resize in
+    let refusal = c.in-Err-Refused.refusal in
+    let same = (rw (c.in-Err-Refused.is, c.in-Err-Refused.field-0-is) at (counts p)).refused (not_zero refusal) (λ _. refl) in
+    answered_refused says same answered_size refusal 0
+    (rw (c.in-Err-Refused.is, c.in-Err-Refused.field-0-is) at (said p says)) c.refused.ensures
+
+pub live_blocks-requires : goal.live_blocks-requires
+live_blocks-requires c = countable (goal.at.live_blocks-requires c).After-resize
+
+pub returns-in-Err-HalfDone : goal.returns-in-Err-HalfDone
+returns-in-Err-HalfDone c = λ r says.
+    let p = (goal.at.returns-in-Err-HalfDone c).After-resize in
+    answered_refused says c.live_blocks.ensures answered_size Damaged c.in-Err-HalfDone.field-0-0
+    (rw (c.in-Err-HalfDone.is, c.in-Err-HalfDone.field-0-is) at (said p says)) c.refused-in-Err-HalfDone.ensures
