@@ -34,6 +34,7 @@ impl From<Result<u32, ResizeRefusal>> for Answered {
         Answered(match answer {
             Ok(offset) => Ok(offset),
             Err(ResizeRefusal::Refused(refusal)) => Err(refusal),
+            // The old block can't be given back where the books are damaged.
             Err(ResizeRefusal::HalfDone(_)) => Err(Refusal::Damaged),
         })
     }
