@@ -16,8 +16,8 @@ pub fn is_set(map: &[u64], pool: usize, k: usize) -> bool
     (map[word] >> (k % 64)) & 1 == 1
 }
 
-// Block k of the pool becomes live. This and `clear_bit` are two functions, since a `bool` for which it is would say less
-// in a call than the names do, and would choose between the operators here.
+// Block k of the pool becomes live. This and `clear_bit` are two functions, since a `bool` for which it is would say
+// less in a call than the names do, and would choose between the operators here.
 pub fn set_bit(map: &mut [u64], pool: usize, k: usize)
     requires { (k < 512) × (8 * pool + 8 ≤ length map.old) }
     ensures { map.new ≡ put_map_bit pool k 1 map.old }
@@ -35,8 +35,8 @@ pub fn clear_bit(map: &mut [u64], pool: usize, k: usize)
     map[word] &= !(1 << (k % 64));
 }
 
-// No bit of the pool is set, at a block or at none: so it has no live block, whatever its class. The words are or'ed and
-// not asked one by one, by `all`: that makes eight tests and branches where the machine has one vector test for this.
+// No bit of the pool is set, at a block or at none: so it has no live block, whatever its class. The words are or'ed
+// and not asked one by one, by `all`: that makes eight branches, where the machine has one vector test for this.
 pub fn none_set(map: &[u64], pool: usize) -> bool
     requires { 8 * pool + 8 ≤ length map.now }
     ensures { result ≡ none_set map.now pool }

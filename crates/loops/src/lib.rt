@@ -17,8 +17,8 @@ ghost use Rattle.loops.specs.Copy.{Apart};
 use books::blocks::{LARGEST, size_at};
 use books::words::{EDITION, NO_CLASS, RECORDS, Shape, UNUSED_HEAD};
 
-// The elements of the one list are stored in the other, from place `at` on: words in the books, a text in memory. It is a
-// loop, because `copy_from_slice` calls `memmove`, and of the C library the archive needs `memset` alone.
+// The elements of the one list are stored in the other, from place `at` on: words in the books, a text in memory. It is
+// a loop, because `copy_from_slice` calls `memmove`, and of the C library the archive needs `memset` alone.
 pub fn store<T: Copy>(to: &mut [T], at: usize, from: &[T])
     requires { at + length from.now ≤ length to.old }
     ensures { to.new ≡ sets to.old at from.now }
@@ -28,8 +28,8 @@ pub fn store<T: Copy>(to: &mut [T], at: usize, from: &[T])
     }
 }
 
-// The n bytes from `from` on are stored from `to` on; the two runs do not meet. It is a loop, because `copy_within` of the
-// library asks which run comes first: some 8 instructions more of a resize, which is not to take longer than C's.
+// The n bytes from `from` on are stored from `to` on; the two runs do not meet. It is a loop, because the library's
+// `copy_within` asks how they might, and has a loop for either way: twice the code, and some 8 instructions more.
 pub fn copy_within(memory: &mut [u8], from: usize, to: usize, n: usize)
     requires { (from + n ≤ length memory.old) × (to + n ≤ length memory.old) × Apart from to n }
     ensures { memory.new ≡ sets memory.old to (take n (drop from memory.old)) }
@@ -41,7 +41,7 @@ pub fn copy_within(memory: &mut [u8], from: usize, to: usize, n: usize)
 
 // ---- format
 
-// The link from arena i to the next, where k arenas come after it.
+// The link from arena i to the next, where k arenas come after it: the word of the books, 0 for none.
 fn next_of(i: usize, k: usize) -> u32
     requires { i < 16 }
     ensures { result ≡ next_of i k }
@@ -143,10 +143,10 @@ pub fn count_pool(books: &[u32], map: &[u64], shape: Shape, pool: usize) -> usiz
     ensures { result
         ≡ length (roll_pool (alignment_of shape.edition) shape.arenas books.now map.now pool) }
 {
-    let Some(size) = pool_size(books, map, shape, pool) else {
-        return 0;
-    };
-    count_blocks(map, pool, size)
+    match pool_size(books, map, shape, pool) {
+        Some(size) => count_blocks(map, pool, size),
+        None => 0,
+    }
 }
 
 // How many roll words the live blocks of the n pools take.
@@ -235,10 +235,10 @@ fn roll_pool(
         (roll_pool (alignment_of shape.edition) shape.arenas books.now map.now pool)
         roll.new result }
 {
-    let Some(size) = pool_size(books, map, shape, pool) else {
-        return at;
-    };
-    roll_blocks(map, pool, size, roll, at)
+    match pool_size(books, map, shape, pool) {
+        Some(size) => roll_blocks(map, pool, size, roll, at),
+        None => at,
+    }
 }
 
 // Offset and size of each live block of the n pools, at the front of the roll: how many words they take.

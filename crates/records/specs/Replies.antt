@@ -34,6 +34,10 @@ Counted b k = Pools (at b 0) (at b 0 * at b 1) b k
 abbrev pub live_in : List ℕ → List ℕ → ℕ
 live_in b k = length (roll (alignment_of (at b 68)) (at b 0) (at b 1) b k) / 2
 
+-- and `live` blocks are live in it
+abbrev pub WholeWith : ℕ → List ℕ → List ℕ → List ℕ → Type 0
+WholeWith live m b k = Whole m b k × (live ≡ live_in b k)
+
 -- ---- replies
 abbrev pub reply_of : ℕ → ℕ → ℕ → ℕ → ℕ → Reply
 reply_of op number offset size live = record { op = op; number = number; offset = offset; size = size; live = live }
@@ -131,7 +135,8 @@ module _ {r : List ℕ} {c : Call} (says : Says r c) {m b k : List ℕ} {live : 
   answered_done o s e f t =
       let n = sized (outcome (answer_of 0 o) (heap_of m b k)) in (
         ap (λ (y : Reply). replied_with y m b k) (t ∙ said n f)
-            ∙ ap (λ (l : List ℕ). record { reply = op_of r ∷ 0 ∷ 0 ∷ 0 ∷ (four_bytes o ++ (l ++ four_bytes (live_in b k))); heap = heap_of m b k }) (low_four n)
+            ∙ ap (λ (l : List ℕ). record { reply = op_of r ∷ 0 ∷ 0 ∷ 0 ∷ (four_bytes o ++ (l ++ four_bytes (live_in b k))); heap = heap_of m b k })
+            (low_four n)
             ∙ ap (λ (y : Outcome). called r y (sized y)) e,
         ap (λ (y : Reply). y.live) t ∙ counts,
       )

@@ -12,8 +12,8 @@ ghost use Rattle.rules.specs.Numbers.{ask, give_back, resize, block_size};
 ghost use Rattle.rules.specs.Replay.{size_in, offset_in, called, called_for, replay_call, replay_record};
 ghost use Rattle.books.specs.Refusals.{number_of};
 ghost use Rattle.records.specs.Reads.{byte_of, OpOf, Says, ReadFrom};
-ghost use Rattle.records.specs.Replies.{Counted, Whole, live_in, reply_of, refusal_of, bytes_of, Replies};
-ghost use Rattle.records.specs.Live.{alone_in, Carries};
+ghost use Rattle.records.specs.Replies.{Counted, WholeWith, live_in, reply_of, refusal_of, bytes_of, Replies};
+ghost use Rattle.records.specs.Live.{Carries};
 ghost use Rattle.records.specs.Pieces.{replayed_in, replay_piece};
 
 use books::blocks::size_of;
@@ -164,37 +164,18 @@ fn live_blocks(books: &[u32], map: &[u64]) -> u32
     (count_words(books, map, shape, all) / 2) as u32
 }
 
-// Of the pool's bits the first is set, and no other, at a block or at none: so no block but its first is live, whatever
-// its class.
-fn first_alone(map: &[u64], pool: usize) -> bool
-    requires { 8 * pool + 8 ≤ length map.now }
-    ensures { result ≡ alone_in map.now pool }
-{
-    let word = 8 * pool;
-    (map[word + 1] == 0)
-        & (map[word + 2] == 0)
-        & (map[word + 3] == 0)
-        & (map[word + 4] == 0)
-        & (map[word + 5] == 0)
-        & (map[word + 6] == 0)
-        & (map[word + 7] == 0)
-        & (map[word] == 1)
-}
-
-// The block at the offset, which an ask has handed out, is not the first of its pool, or is alone there. An ask that
-// sets its pool to another class hands out the first block; on damaged books bits may stand in that pool, and they may
-// begin or cease to count. Nothing is asked of the offset.
+// The block at the offset, which an ask has handed out, is not the first of its pool, or is alone there: of the pool's
+// bits the first is set, and no other, at a block or at none. An ask that sets its pool to another class hands out the
+// first block; on damaged books bits may stand in that pool, and they may begin or cease to count. Nothing is asked of
+// the offset.
 fn carries(map: &[u64], offset: u32) -> bool
     ensures { result ≡ true → Carries map.now offset }
 {
     if offset % 4096 != 48 {
         return true;
     }
-    let pool = index(offset) / 4096;
-    if map.len() < 8 * pool + 8 {
-        return false;
-    }
-    first_alone(map, pool)
+    let word = 8 * (index(offset) / 4096);
+    matches!(map.get(word..word + 8), Some([1, 0, 0, 0, 0, 0, 0, 0]))
 }
 
 // How many blocks are live after an ask that handed out the block at the offset, where `live` were before it: one more.
@@ -221,7 +202,8 @@ fn live_after_resize(books: &[u32], map: &[u64], offset: u32, live: u32) -> u32
     live
 }
 
-// ---- the reply to one record
+// ---- the reply to one record. The three buffers of the heap go one by one: of a struct of `&mut`s each function would
+// have to promise besides that it holds the same three.
 
 // The size of the block at an offset, as far as the four bytes of a reply hold it. Nothing is asked of the books or of
 // the offset: a record may hold any.
@@ -239,7 +221,7 @@ fn size_at(books: &[u32], offset: u32) -> u32
 
 // The reply to an ask: its size is that of the block that is handed out.
 fn answer_ask(memory: &mut [u8], books: &mut [u32], map: &mut [u64], call: Call, live: u32) -> Reply
-    requires { Whole memory.old books.old map.old × (live ≡ live_in books.old map.old) }
+    requires { WholeWith live memory.old books.old map.old }
     ensures { (r : List ℕ) → Says r call → Replies result memory.new books.new map.new
         (called_for r (ask (heap_of memory.old books.old map.old) (size_in r))) }
 {
@@ -260,7 +242,7 @@ fn answer_give_back(
     call: Call,
     live: u32,
 ) -> Reply
-    requires { Whole memory.old books.old map.old × (live ≡ live_in books.old map.old) }
+    requires { WholeWith live memory.old books.old map.old }
     ensures { (r : List ℕ) → Says r call → Replies result memory.new books.new map.new
         (called r (give_back (heap_of memory.old books.old map.old) (offset_in r))
         (block_size (heap_of memory.old books.old map.old) (offset_in r))) }
@@ -281,7 +263,7 @@ fn answer_resize(
     call: Call,
     live: u32,
 ) -> Reply
-    requires { Whole memory.old books.old map.old × (live ≡ live_in books.old map.old) }
+    requires { WholeWith live memory.old books.old map.old }
     ensures { (r : List ℕ) → Says r call → Replies result memory.new books.new map.new
         (called_for r (resize (heap_of memory.old books.old map.old) (offset_in r) (size_in r))) }
 {
@@ -303,7 +285,7 @@ fn answer_call(
     call: Call,
     live: u32,
 ) -> Reply
-    requires { Whole memory.old books.old map.old × (live ≡ live_in books.old map.old) }
+    requires { WholeWith live memory.old books.old map.old }
     ensures { (r : List ℕ) → Says r call → Replies result memory.new books.new map.new
         (replay_call (heap_of memory.old books.old map.old) r) }
 {
@@ -314,9 +296,9 @@ fn answer_call(
     }
 }
 
-// The reply to any record, where `live` blocks are live before it. A refusal repeats what an unknown one says.
+// The reply to any record, where `live` blocks are live before it. That to an unknown one repeats its op and offset.
 fn answer(memory: &mut [u8], books: &mut [u32], map: &mut [u64], bytes: &[u8], live: u32) -> Reply
-    requires { Whole memory.old books.old map.old × (live ≡ live_in books.old map.old) }
+    requires { WholeWith live memory.old books.old map.old }
     ensures { Replies result memory.new books.new map.new
         (replay_record (heap_of memory.old books.old map.old) bytes.now) }
 {
@@ -355,6 +337,7 @@ pub fn replay_records(
         return Err(Refusal::DoesNotFit);
     }
     let mut live = live_blocks(books, map);
+    // the replies are stored by index, since a proof knows nothing of the bytes that `chunks_mut` has lent
     for (i, bytes) in input.chunks(16).enumerate() {
         let reply = answer(memory, books, map, bytes, live);
         reply.put(output, 16 * i);

@@ -41,26 +41,25 @@ is_done (Err refusal) e = absurd (omega (arith, number_low refusal))
 -- a piece is never refused: the shape is right and there is room
 module _ (m b k input output : List ℕ) (r : Result ℕ Refusal) (output' : List ℕ) (g : Heap)
     (w : Whole m b k) (room : 16 * records_in (length input) ≤ length output)
-    (e : ◌≡◌ {A = Piece} (record { answer = replayed_in r; output = output'; heap = g }) (replay_piece (heap_of m b k) input output)) where
-  all_done : ◌≡◌ {A = Piece} (record { answer = replayed_in r; output = output'; heap = g })
-      (piece_of 0 (length (replay_records (length input / 16) (heap_of m b k) input))
-      (replay_records (length input / 16) (heap_of m b k) input
-      ++ drop (length (replay_records (length input / 16) (heap_of m b k) input)) output)
-      (heap_after (length input / 16) (heap_of m b k) input))
-  all_done = e ∙ piece_done (heap_of m b k) input output (right_shape m b k w) room
+    (e : ◌≡◌ {A = Piece} (record { answer = replayed_in r; output = output'; heap = g })
+    (replay_piece (heap_of m b k) input output)) where
+  abbrev sent : List ℕ
+  sent = replay_records (length input / 16) (heap_of m b k) input
+
+  done_piece : ◌≡◌ {A = Piece} (record { answer = replayed_in r; output = output'; heap = g })
+      (piece_of 0 (length sent) (sent ++ drop (length sent) output) (heap_after (length input / 16) (heap_of m b k) input))
+  done_piece = e ∙ piece_done (heap_of m b k) input output (right_shape m b k w) room
 
   pub never_refused : IsOk r
-  never_refused = is_done r (ap (λ (x : Piece). x.answer.number) all_done)
+  never_refused = is_done r (ap (λ (x : Piece). x.answer.number) done_piece)
 
   pub answered : (n : ℕ) → r ≡ Ok n → Answered (heap_of m b k) input output g output' n
   answered n d =
-      let count = sym (ap value_in d) ∙ ap (λ (x : Piece). x.answer.written) all_done in
+      let count = sym (ap value_in d) ∙ ap (λ (x : Piece). x.answer.written) done_piece in
       record {
         count = count;
-        stands =
-            ap (λ (x : Piece). x.output) all_done
-            ∙ ap (λ (j : ℕ). replay_records (length input / 16) (heap_of m b k) input ++ drop j output) (sym count);
-        heap = ap (λ (x : Piece). x.heap) all_done;
+        stands = ap (λ (x : Piece). x.output) done_piece ∙ ap (λ (j : ℕ). sent ++ drop j output) (sym count);
+        heap = ap (λ (x : Piece). x.heap) done_piece;
       }
 
 -- the replies lie in the output
@@ -81,7 +80,8 @@ module _ (m b k : List ℕ) (e : length m ≡ memory_length 1 16)
   unfolding fit_number range_number edition_number length_number in_range exact
   fits = rw (e, f, g)
 
-  module _ (r : Result ⊤ Refusal) (b' k' : List ℕ) (t : outcome (done_in r) (heap_of m b' k') ≡ format (heap_of m b k) 1 16 0) where
+  module _ (r : Result ⊤ Refusal) (b' k' : List ℕ)
+      (t : outcome (done_in r) (heap_of m b' k') ≡ format (heap_of m b k) 1 16 0) where
     left : outcome (done_in r) (heap_of m b' k') ≡ done 0 (heap_of m (fresh_books 1 16 0) (replicate 128 0))
     unfolding format
     left = t ∙ passed (λ n. refused n (heap_of m b k)) _ (fit_number (heap_of m b k) 1 16 0) fits

@@ -45,7 +45,8 @@ impl fmt::Display for Failure {
 }
 
 // Every record of the input is answered, and its replies stand at the front of the output: how many bytes they are. The
-// heap is whole and there is room, so nothing is refused.
+// heap is whole and there is room, so nothing is refused. (The five buffers go one by one here: of a struct of `&mut`s
+// each function would have to promise besides that it holds the same five.)
 fn answer(
     memory: &mut [u8],
     books: &mut [u32],

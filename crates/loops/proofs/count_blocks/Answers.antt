@@ -20,9 +20,11 @@ pub sum-live-requires-clause-fits : goal.sum-live-requires-clause-fits
 sum-live-requires-clause-fits c =
     let a = c.args in
     let n = c.div_ceil.result in
-    let l = capacity_le a.size (omega arith) in
-    fits_from_length _ _ 8 _ (at_most_from_yields_List (YieldsList-from_range 0 n n c.map.ensures.source (omega arith)) (omega (arith, length-range_with_len 0 n, l)))
-    c.map.ensures.closure (omega arith) (λ x r q k. let f = few_ones (in_word (capacity a.size) x) (at a.map.now (8 * a.pool + x)) in search (rules, tests))
+    let most = capacity_le a.size (omega arith) in
+    let words = YieldsList-from_range 0 n n c.map.ensures.source (omega arith) in
+    fits_from_length _ _ 8 _ (at_most_from_yields_List words (omega (arith, length-range_with_len 0 n, most)))
+    c.map.ensures.closure (omega arith)
+    (λ i r q k. let few = few_ones (in_word (capacity a.size) i) (at a.map.now (8 * a.pool + i)) in search (rules, tests))
 
 -- the words are two for each live block
 counted : (c : After-sum-live)
@@ -32,11 +34,12 @@ counted c =
     let a = c.args in
     let n = c.div_ceil.result in
     let live = λ (i : ℕ). ones_in (in_word (capacity a.size) i) (at a.map.now (8 * a.pool + i)) in
-    let e : n ≡ (capacity a.size + 63) / 64 = omega arith in
+    let words = YieldsList-from_range 0 n n c.map.ensures.source (omega arith) in
+    let rounded : n ≡ (capacity a.size + 63) / 64 = omega arith in
     ap (λ (x : ℕ). 2 * x)
-    (total_from_yields_List (λ a x. a + x) 0 c.sum-live.result c.sum-live.ensures.ran
-    (YieldsList-from_map _ live (YieldsList-from_range 0 n n c.map.ensures.source (omega arith)) c.map.ensures.closure (λ x r q k. search rules)))
-    ∙ rw e (together (word_parts a.map.now a.pool a.size (capacity a.size)) 2 live
+    (total_from_yields_List (λ x y. x + y) 0 c.sum-live.result c.sum-live.ensures.ran
+    (YieldsList-from_map _ live words c.map.ensures.closure (λ i r q k. search rules)))
+    ∙ rw rounded (together (word_parts a.map.now a.pool a.size (capacity a.size)) 2 live
     (λ i l. length_word (at a.map.now (8 * a.pool + i)) (offset_of a.pool (start_of a.size (64 * i))) a.size (in_word (capacity a.size) i)))
 
 pub overflow_mul-result : goal.overflow_mul-result

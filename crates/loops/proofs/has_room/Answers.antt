@@ -1,6 +1,5 @@
 -- `loops::has_room` counts only where the roll could be longer than the room.
 use mathlib.Core.Path.{sym, ◌∙◌}
-use Prim.Native.Nat.{◌*◌}
 use native.Mathlib.Omega.{arith}
 use borrow.Author.Tests.{le-leb}
 use Rattle.rules.specs.Books.{alignment_of}

@@ -1,6 +1,5 @@
 -- `loops::put_roll` stores the roll: at each turn that of the pools from this one on is left.
 use mathlib.Core.Path.{refl}
-use Prim.Native.Nat.{◌*◌}
 use native.Mathlib.Omega.{arith}
 use Rattle.rules.specs.Books.{alignment_of}
 use Rattle.loops.specs.Left.{fewer, begin, turn, done}

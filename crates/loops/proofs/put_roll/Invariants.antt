@@ -1,5 +1,5 @@
 -- `loops::put_roll` stores the roll: at each turn that of the pools from this one on is left.
-use Prim.Native.Nat.{◌*◌, ◌-◌, ◌≤◌}
+use Prim.Native.Nat.{◌-◌, ◌≤◌}
 use Rattle.rules.specs.View.{roll_pools}
 use Rattle.rules.specs.Books.{alignment_of}
 use Rattle.loops.specs.Left.{Left}

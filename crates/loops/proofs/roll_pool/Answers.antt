@@ -10,10 +10,10 @@ use Rattle.loops.specs.Roll.{no_size, by_size}
 use Rattle.loops.proofs.roll_pool.Goals.{In-Some}
 use Rattle.loops.proofs.roll_pool.Goals as goal
 
-pub returns-in_default : goal.returns-in_default
-returns-in_default c =
+pub returns-in-None : goal.returns-in-None
+returns-in-None c =
     let a = c.args in
-    let none = c.in_default.ensures.value in
+    let none = c.in-None.ensures.value in
     rw (no_size (aligned a.shape.edition) a.shape.arenas a.books.now a.map.now a.pool (sym none))
     (record { same = refl; place = omega arith })
 
@@ -33,5 +33,5 @@ roll_blocks-requires c =
     let size = c.in-Some.ensures in
     omega (arith, size.range, ap length (rolled (goal.at.roll_blocks-requires c).In-Some))
 
-pub returns : goal.returns
-returns c = rw (rolled (goal.at.returns c).In-Some) c.roll_blocks.ensures
+pub returns-in-Some : goal.returns-in-Some
+returns-in-Some c = rw (rolled (goal.at.returns-in-Some c).In-Some) c.roll_blocks.ensures
