@@ -1,5 +1,5 @@
 -- What chains over a range of numbers answer, in the words of the rules.
-use Rattle.std.proofs.Common.{◌≡◌, refl, Bool, true, false, List, [], ◌∷◌, ◌++◌, ℕ, zero, suc, ◌+◌, ◌*◌, ◌-◌, if◌then◌else◌, length}
+use Rattle.std.proofs.Common.{◌≡◌, refl, Bool, true, false, List, [], ◌∷◌, ◌++◌, ℕ, zero, suc, ◌+◌, ◌-◌, if◌then◌else◌, length}
 use Rattle.std.proofs.Common.{sym, ap, ◌∙◌, add-one, arith, MatchOption, Option, filter, count_by}
 use Rattle.std.proofs.Math.Bool.{and_comm, and-true}
 use Rattle.std.proofs.lemmas.List.{map-id}
@@ -9,16 +9,13 @@ use Rattle.std.proofs.lemmas.List.Sums.{sum_by_push, length-filter}
 use Rattle.std.proofs.lemmas.Iterator.{YieldsList-from_range}
 use Rattle.std.proofs.lemmas.Iterator.Search.{all_from_yields_List}
 use Rattle.std.proofs.iter.Yields.{nat_range_steps}
-use Rattle.std.specs.List.{list_all, range_with_len, sum_by, FoldsTo}
-use Rattle.std.specs.Int.Count.{ones_in}
+use Rattle.std.specs.List.{list_all, range_with_len, FoldsTo}
 use Rattle.std.specs.Fn.{Called}
 use Rattle.std.specs.Iterator.{YieldsThen}
 use Rattle.std.specs.declared.ops.Range.{Range}
 use denote.Param.Members.{Mut}
 use Rattle.rules.specs.Say.{all_below, how_many}
-use Rattle.rules.specs.Books.{at, is_set}
 use Rattle.audit.specs.Turns.{all_same}
-use Rattle.audit.specs.Bits.{word_bits}
 
 -- the numbers of a range, by the last of them
 range-more : (a n : ℕ) → range_with_len a (suc n) ≡ range_with_len a n ++ (a + n) ∷ []
@@ -35,28 +32,29 @@ all_numbers test a (suc n) =
     ap (list_all test) (range-more a n) ∙ list_all-append test (range_with_len a n) ((a + n) ∷ [])
     ∙ rw (all_numbers test a n, and-true (test (a + n))) (and_comm (all_below (λ i. test (a + i)) n) (test (a + n)))
 
--- what `(a..z).all(f)` answers, where each call of f answers the test
-pub all_from : {F : Type 0} {g : Mut F (ℕ × Unit {0}) Bool} {s u : Range ℕ} {f : F} {r : Bool} (test : ℕ → Bool) (a z : ℕ)
-    → s ≡ record { start = a; end = z }
-    → (xs : List ℕ) × (o : Option ℕ) × (j : F) × YieldsThen nat_range_steps s xs o u
+-- what `(a..z).all(f)` answers, where each call of f answers the test; y, where it begins, being a
+pub all_from : {F : Type 0} {g : Mut F (ℕ × Unit {0}) Bool} {u : Range ℕ} {f : F} {r : Bool} {y z : ℕ} (test : ℕ → Bool) (a : ℕ)
+    → y ≡ a
+    → (xs : List ℕ) × (o : Option ℕ) × (j : F) × YieldsThen nat_range_steps (record { start = y; end = z }) xs o u
     × FoldsTo (λ p x q. Called g p (x, tt) true q) f xs j
     × MatchOption o (r ≡ true) (λ x. (r ≡ false) × ((h : F) × Called g j (x, tt) false h))
     → ((x : ℕ) (b : Bool) (q : F) → Called g f (x, tt) b q → (q ≡ f) × (b ≡ test x))
     → r ≡ all_below (λ i. test (a + i)) (z - a)
-all_from test a z e ran each =
-    all_from_yields_List test _ _ _ ran (YieldsList-from_range a z (z - a) e refl) each ∙ all_numbers test a (z - a)
+all_from {y = y} {z = z} test a e ran each =
+    all_from_yields_List test _ _ _ ran (YieldsList-from_range y z (z - y) refl refl) each
+    ∙ rw e (all_numbers test a (z - a))
 
--- and what `(0..n).all(f)` does
-pub all_is : {F : Type 0} {g : Mut F (ℕ × Unit {0}) Bool} {s u : Range ℕ} {f : F} {r : Bool} (test : ℕ → Bool) (n : ℕ)
-    → s ≡ record { start = 0; end = n }
-    → (xs : List ℕ) × (o : Option ℕ) × (j : F) × YieldsThen nat_range_steps s xs o u
+-- and what `(0..z).all(f)` does, z being n
+pub all_is : {F : Type 0} {g : Mut F (ℕ × Unit {0}) Bool} {u : Range ℕ} {f : F} {r : Bool} {z : ℕ} (test : ℕ → Bool) (n : ℕ)
+    → z ≡ n
+    → (xs : List ℕ) × (o : Option ℕ) × (j : F) × YieldsThen nat_range_steps (record { start = 0; end = z }) xs o u
     × FoldsTo (λ p x q. Called g p (x, tt) true q) f xs j
     × MatchOption o (r ≡ true) (λ x. (r ≡ false) × ((h : F) × Called g j (x, tt) false h))
     → ((x : ℕ) (b : Bool) (q : F) → Called g f (x, tt) b q → (q ≡ f) × (b ≡ test x))
     → r ≡ all_below test n
-all_is test n e ran each =
-    let z : n - 0 ≡ n = omega arith in
-    rw z at (all_from test 0 n e ran each) ∙ all_same test (λ i. test (0 + i)) n (λ k l. ap test (omega arith))
+all_is {z = z} test n e ran each =
+    let all : z - 0 ≡ n = omega (arith, e) in
+    rw all at (all_from test 0 refl ran each) ∙ all_same test (λ i. test (0 + i)) n (λ k l. ap test (omega arith))
 
 -- how many of the numbers below n pass
 pub many_numbers : (test : ℕ → Bool) (n : ℕ) → length (filter test (range_with_len 0 n)) ≡ how_many test n
@@ -69,16 +67,3 @@ many_numbers test n = length-filter test (range_with_len 0 n) ∙ go n
         let z : 0 + n ≡ n = omega arith in
         ap (count_by test) (range-more 0 n) ∙ sum_by_push (λ k. if test k then 1 else 0) (range_with_len 0 n) (0 + n)
         ∙ rw z (omega (arith, go n))
-
--- how many bits of a pool's first k words are set, word by word
-pub bits_numbers : (m : List ℕ) (n k : ℕ)
-    → sum_by (λ i. ones_in 64 (at m (8 * n + i))) (range_with_len 0 k) ≡ how_many (is_set m n) (64 * k)
-unfolding how_many
-bits_numbers m n zero = refl
-bits_numbers m n (suc k) =
-    let w : ℕ → ℕ = λ i. ones_in 64 (at m (8 * n + i)) in
-    let z : 0 + k ≡ k = omega arith in
-    let e : 64 * k + 64 ≡ 64 * suc k = omega arith in
-    ap (sum_by w) (range-more 0 k) ∙ sum_by_push w (range_with_len 0 k) (0 + k)
-    ∙ rw z (omega (arith, bits_numbers m n k, word_bits m n k 64 (omega arith)))
-    ∙ ap (how_many (is_set m n)) e

@@ -1,10 +1,13 @@
 -- A pool's set bits, word by word: how many there are, and that none is at or past a block.
 -- Assumes nothing.
 use Rattle.std.specs.Prelude.{◌≡◌, ◌≢◌, Bool, true, ◌&&◌, List, ℕ, zero, suc, ◌+◌, ◌*◌, ◌-◌, ◌/◌, ◌%◌, ◌^◌, ◌≤◌, ◌<◌, eqb, if◌then◌else◌}
-use Rattle.std.proofs.Common.{sym, ap, ◌∙◌, add-suc, add-zero, add-one, arith, shr-shr, shr_lt, eq-eqb, ne_eqb, eqb-true}
+use Rattle.std.proofs.Common.{length, take, drop, length-drop, get_or-drop}
+use Rattle.std.proofs.Common.{refl, sym, ap, ◌∙◌, add-suc, add-zero, add-one, arith, shr-shr, shr_lt, eq-eqb, ne_eqb, eqb-true}
 use Rattle.std.proofs.lemmas.Bool.Decides.{same_from_decides}
 use Rattle.std.proofs.Math.Nat.{zero-div}
 use Rattle.std.proofs.Math.Decide.{ℕ_discrete, dec_lt}
+use Rattle.std.proofs.lemmas.List.Sums.{sum_by_more}
+use Rattle.std.specs.List.{sum_by}
 use Rattle.std.specs.Int.Count.{ones_in}
 use Rattle.rules.specs.Say.{all_below, how_many}
 use Rattle.rules.specs.Books.{at, bit, is_set}
@@ -33,7 +36,7 @@ one_is x l = go (ℕ_discrete x 1)
     go (yes q) = rw q
     go (no q) = rw (ne_eqb x 1 q) (omega arith)
 
-pub word_bits : (m : List ℕ) (n i j : ℕ) → j ≤ 64
+word_bits : (m : List ℕ) (n i j : ℕ) → j ≤ 64
     → how_many (is_set m n) (64 * i + j) ≡ how_many (is_set m n) (64 * i) + ones_in j (at m (8 * n + i))
 unfolding how_many ones_in
 word_bits m n i zero l = rw (add-zero (64 * i)) (omega arith)
@@ -42,6 +45,18 @@ word_bits m n i (suc j) l =
     let word : (64 * i + j) / 64 ≡ i = omega arith in
     let place : (64 * i + j) % 64 ≡ j = omega arith in
     rw (add-suc (64 * i) j, word, place) (omega (arith, one_is (bit w j) (bit_low w j), word_bits m n i j (omega arith), ones_top j w))
+
+-- and so of the first k words of pool n, added up
+pub words_bits : (m : List ℕ) (n k : ℕ) → 8 * n + k ≤ length m
+    → sum_by (ones_in 64) (take k (drop (8 * n) m)) ≡ how_many (is_set m n) (64 * k)
+unfolding how_many
+words_bits m n zero l = refl
+words_bits m n (suc k) l =
+    let in_map : k < length (drop (8 * n) m) = omega (arith, length-drop (8 * n) m) in
+    let e : 64 * k + 64 ≡ 64 * suc k = omega arith in
+    ap (λ (i : ℕ). sum_by (ones_in 64) (take i (drop (8 * n) m))) (sym (add-one k))
+    ∙ sum_by_more (ones_in 64) (drop (8 * n) m) k 0 in_map
+    ∙ rw (get_or-drop (8 * n) m k 0, words_bits m n k (omega arith)) (sym (word_bits m n k 64 (omega arith))) ∙ ap (how_many (is_set m n)) e
 
 -- ---- none at or past a block
 -- a word that a shift by j makes 0 has no set bit from j on

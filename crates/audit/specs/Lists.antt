@@ -17,7 +17,6 @@ use Rattle.audit.specs.Survey.{Filled, Surveyed, arena_home_of, home_is, arena_h
 pub record Tallied (base : ℕ) (b homes tallies : List ℕ) : Type 0 where
   pub few : length homes ≤ 1024
   pub books : base + 8 * length homes ≤ length b + 6
-  pub tallies_long : 256 ≤ length tallies
   pub tallied : Filled (λ h. how_many (λ y. eqb (at homes y) h) (length homes)) 256 tallies
 
 -- the list with this head holds the records whose head it is

@@ -32,15 +32,6 @@ use Rattle.audit.specs.Turns.{counts, passes}
 abbrev pub Filled : (ℕ → ℕ) → ℕ → List ℕ → Type 0
 Filled f n xs = (i : ℕ) → i < n → at xs i ≡ f i
 
--- one more is kept
-pub filled_more : (f : ℕ → ℕ) (n x : ℕ) (xs : List ℕ) → n < length xs → x ≡ f n → Filled f n xs
-    → Filled f (n + 1) (set xs n x)
-filled_more f n x xs l e F i u = go (ℕ_discrete i n)
-  where
-    go : Dec (i ≡ n) → at (set xs n x) i ≡ f i
-    go (yes q) = rw q (get_or-set_same xs n x 0 l ∙ e)
-    go (no q) = get_or-set_other xs n i x 0 q ∙ F i (omega arith)
-
 -- how many of the first n are of each head, where one more is of the head h
 pub tallied : (homes : List ℕ) (n h : ℕ) (xs : List ℕ) → h < length xs → h ≡ at homes n
     → Filled (λ k. how_many (λ y. eqb (at homes y) k) n) 256 xs

@@ -1,5 +1,5 @@
-// The survey: how many bits of each pool are set, and the list that each pool and each arena is to be on, by the word of
-// its head.
+// The survey: how many bits of each pool are set, and the list that each pool and each arena is to be on, by the word
+// of its head.
 ghost use Rattle.std.specs.Prelude.{◌≡◌, ◌*◌, ◌+◌, ◌^◌, ◌<◌, ◌≤◌, eqb, length};
 ghost use Rattle.rules.specs.Say.{how_many};
 ghost use Rattle.rules.specs.Books.{at, alignment_of};
@@ -32,7 +32,8 @@ fn set_bits(map: &[u64], n: usize) -> usize
     if bits::none_set(map, n) {
         return 0;
     }
-    (0..8).map(|i| bits::count_live(map[8 * n + i], 64)).sum()
+    let words = &map[8 * n..8 * n + 8];
+    words.iter().map(|word| bits::count_live(*word, 64)).sum()
 }
 
 // The set bits of each of the pools.
@@ -118,8 +119,8 @@ pub fn find_arena_homes(heap: &Reader, homes: &mut [u8])
 }
 
 // How many of the records are to be on the list of each head.
-pub fn tally(homes: &[u8], tallies: &mut [u16])
-    requires { (length homes.now ≤ 1024) × (256 ≤ length tallies.old) × Filled (λ h. 0) 256 tallies.old }
+pub fn tally(homes: &[u8], tallies: &mut [u16; HEADS])
+    requires { (length homes.now ≤ 1024) × Filled (λ h. 0) 256 tallies.old }
     ensures { Filled (λ h. how_many (λ y. eqb (at homes.now y) h) (length homes.now)) 256 tallies.new }
 {
     for home in homes {

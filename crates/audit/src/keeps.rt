@@ -212,9 +212,9 @@ impl Survey<'_> {
     }
 }
 
-// That each arena and each pool keeps the rule, and what it asks besides.
+// The rules: each asks every arena or every pool, and some ask more.
 impl Survey<'_> {
-    // Besides, the spare words of the books are 0.
+    // Each arena is open or closed, and the spare words of its record, of each pool's and of the books are 0.
     pub fn rule_2(&self) -> bool
         ensures { result ≡ rule2 self.now.heap.shape.arenas self.now.heap.shape.pools self.now.heap.books.now }
     {
@@ -227,12 +227,14 @@ impl Survey<'_> {
             & (0..s.arenas * s.pools).all(|n| pool_word(books, s.arenas, SPARE, n) == 0)
     }
 
+    // A closed arena's record is 0 but for its links.
     pub fn rule_3(&self) -> bool
         ensures { result ≡ rule3 self.now.heap.shape.arenas self.now.heap.books.now }
     {
         (0..self.heap.shape.arenas).all(|a| self.arena_keeps_3(a))
     }
 
+    // An open arena's carve mark is a number of pools, and its free pools are those not in use.
     pub fn rule_4(&self) -> bool
         ensures { result ≡ rule4 self.now.heap.shape.arenas self.now.heap.shape.pools self.now.heap.books.now
             self.now.heap.map.now }
@@ -240,6 +242,7 @@ impl Survey<'_> {
         (0..self.heap.shape.arenas).all(|a| self.arena_keeps_4(a))
     }
 
+    // No bit is set in a pool that is not carved, or where the pool's class has no block.
     pub fn rule_5(&self) -> bool
         ensures { result ≡ rule5 (alignment_in self.now.heap) self.now.heap.shape.arenas self.now.heap.shape.pools
             self.now.heap.books.now self.now.heap.map.now }
@@ -268,7 +271,7 @@ impl Survey<'_> {
         arenas.holds(USABLE_HEAD, true) & arenas.holds(UNUSED_HEAD, true)
     }
 
-    // Besides, each list holds just its members, once.
+    // Each list holds just its members, once, and what is on none has no links.
     pub fn rule_6(&self) -> bool
         ensures { result ≡ rule6 (alignment_in self.now.heap) self.now.heap.shape.arenas self.now.heap.shape.pools
             self.now.heap.books.now self.now.heap.map.now }
@@ -289,6 +292,7 @@ impl Survey<'_> {
             & (0..arenas).all(|a| self.arena_keeps_6(a))
     }
 
+    // A pool's count is that of its set bits.
     pub fn rule_7(&self) -> bool
         ensures { result ≡ rule7 self.now.heap.shape.arenas self.now.heap.shape.pools self.now.heap.books.now
             self.now.heap.map.now }
@@ -296,6 +300,7 @@ impl Survey<'_> {
         (0..self.counts.len()).all(|n| self.pool_keeps_7(n))
     }
 
+    // Each block of a carved pool is live, on the pool's chain or virgin.
     pub fn rule_8(&self) -> bool
         ensures { result ≡ rule8 (alignment_in self.now.heap) self.now.heap.shape.arenas self.now.heap.shape.pools
             self.now.heap.memory.now self.now.heap.books.now self.now.heap.map.now }
@@ -303,6 +308,7 @@ impl Survey<'_> {
         (0..self.counts.len()).all(|n| self.pool_keeps_8(n))
     }
 
+    // Usable arenas stand by rising free pools.
     pub fn rule_9(&self) -> bool
         ensures { result ≡ rule9 self.now.heap.shape.arenas self.now.heap.books.now }
     {

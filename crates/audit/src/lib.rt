@@ -84,7 +84,7 @@ pub fn audit(memory: &[u8], books: &[u32], map: &[u64]) -> Verdict
     })
 }
 
-// The number of a verdict: 0 for yes, and that of the broken rule. It is no `From`, since neither type is of this crate.
+// The number of a verdict: 0 for yes, and that of the broken rule. It is no `From`, for neither type is of this crate.
 pub fn number_of(verdict: Verdict) -> u32
     ensures { result ≡ number_of verdict }
 {

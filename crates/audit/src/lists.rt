@@ -5,17 +5,18 @@ ghost use Rattle.rules.specs.Lists.{previous_at};
 ghost use Rattle.rules.specs.Audit.{leads};
 ghost use Rattle.audit.specs.Lists.{Tallied, list_holds};
 
+use crate::homes::HEADS;
 use books::words::word;
 
-// The records of the pools, or of the arenas, with the list that each is to be on, by the word of its head, and how many
-// are to be on the list of each head. Record 0's next word is `base`, a record's previous word comes after its next, and
-// a link to record n is n + 1.
+// The records of the pools, or of the arenas, with the list that each is to be on, by the word of its head, and how
+// many are to be on the list of each head. Record 0's next word is `base`, a record's previous word comes after its
+// next, and a link to record n is n + 1.
 #[derive(Clone, Copy)]
 pub struct Records<'a> {
     pub books: &'a [u32],
     pub base: usize,
     pub homes: &'a [u8],
-    pub tallies: &'a [u16],
+    pub tallies: &'a [u16; HEADS],
     ghost tallied: { Tallied base books.now homes.now tallies.now },
 }
 
@@ -36,7 +37,8 @@ impl Records<'_> {
         (usize::from(self.homes[y]) == head) & (word(self.books, self.base + 8 * y + 1) == p)
     }
 
-    // The list with this head holds just the records whose home it is, once.
+    // The list with this head holds just the records whose home it is, once. In one that is not doubly linked each
+    // previous word is 0.
     pub fn holds(&self, head: usize, doubly: bool) -> bool
         requires { (head < 256) × (head < length self.now.books.now) }
         ensures { result ≡ list_holds self.now.base self.now.books.now self.now.homes.now doubly head }

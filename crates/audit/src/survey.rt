@@ -1,5 +1,5 @@
-// What the audit finds out first of a heap, and keeps: how many bits of each pool are set, and the list that each pool is
-// to be on, by the word of its head.
+// What the audit finds out first of a heap, and keeps for each pool: how many of its bits are set, and the list that it
+// is to be on, by the word of its head.
 ghost use Rattle.audit.specs.Survey.{Surveyed};
 
 use books::reader::Reader;

@@ -3,7 +3,7 @@
 use Rattle.std.specs.Prelude.{◌≡◌, Bool, ◌&&◌, List, [], ◌++◌, eqb, nat_eq, Option, Some, None, is_some, unwrap_or}
 use Rattle.std.specs.Option.{option_eq}
 use Rattle.std.proofs.Math.Path.{refl}
-use Rattle.std.proofs.Common.{ap, ◌∙◌, le-div_iff_mul-le, shr-shr, eq-eqb, ne_eqb}
+use Rattle.std.proofs.Common.{sym, ap, ◌∙◌, le-div_iff_mul-le, shr-shr, eq-eqb, ne_eqb}
 use Rattle.std.proofs.Math.Bool.{true, false, true≢false}
 use Prim.Native.Nat.{ℕ, suc, ◌+◌, ◌*◌, ◌-◌, ◌/◌, ◌%◌, ◌^◌, ◌≤◌, ◌<◌, min}
 use Rattle.std.proofs.Math.Nat.{suc-mul, mul-le-mul_right, div-eq_of_lt}
@@ -157,6 +157,18 @@ module _ (s : ℕ) (map : List ℕ) (p x k r : ℕ) (low : 8 ≤ s)
           let t = start s y low e in
           rw e at (none_till y a (omega (arith, t.ends)))
 
+-- what is next from x on is next from a later place on too, unless it is passed
+pub later : (s : ℕ) (map : List ℕ) (p x y : ℕ) (o : Option ℕ) → x ≤ y → y ≤ unwrap_or o 4096 → NextLive s map p x o
+    → NextLive s map p y o
+later s map p x y None u v N = λ z a b. N z (omega arith) b
+later s map p x y (Some r) u v N = (omega arith, N.1, λ z a b. N.2 z (omega arith) b, N.3)
+
+pub later_by : (s : ℕ) (map : List ℕ) (p x : ℕ) (o : Option ℕ) → x < 4096 → option_eq nat_eq o (Some x) ≡ false
+    → NextLive s map p x o → NextLive s map p (x + 1) o
+later_by s map p x None u d N = later s map p x (x + 1) None (omega arith) (omega arith) N
+later_by s map p x (Some r) u d N =
+    later s map p x (x + 1) (Some r) (omega arith) (omega (arith, N.0, λ (e : r ≡ x). true≢false (sym (eq-eqb r x e) ∙ d))) N
+
 -- ---- the lesser of two places, of those that there are
 abbrev pub earlier : Option ℕ → Option ℕ → Option ℕ
 earlier (Some o) (Some o') = Some (min o o')
@@ -229,6 +241,14 @@ module _ (s s' : ℕ) (map map' : List ℕ) (p x : ℕ) where
   earlier_is (Some r) (Some r') n N N' e =
       let q : n ≡ min r r' = ap (λ (k : Option ℕ). unwrap_or k 0) e in
       record { after = omega (arith, N.0, N'.0); inside = omega (arith, N.1); first = omega arith; second = omega arith }
+
+  -- it is not before x
+  pub not_before : (o o' : Option ℕ) → x ≤ 4096 → NextLive s map p x o → NextLive s' map' p x o'
+      → x ≤ unwrap_or (earlier o o') 4096
+  not_before None None u N N' = u
+  not_before (Some r) None u N N' = N.0
+  not_before None (Some r) u N N' = N'.0
+  not_before (Some r) (Some r') u N N' = omega (arith, N.0, N'.0)
 
   pub next_after : (o o' : Option ℕ) (n : ℕ) → NextLive s map p x o → NextLive s' map' p x o' → Earlier o o' n
       → listing kind (4096 * p + x) (4096 - x)

@@ -27,21 +27,29 @@ fn next_set(map: &[u64], pool: usize, k: usize) -> Option<usize>
 
 // The number of the first block of the size that starts at o in its pool or after it.
 fn block_from(size: usize, o: usize) -> usize
-    requires { (8 ≤ size) × (size ≤ 512) × (o < 4096) }
+    requires { (8 ≤ size) × (size ≤ 512) × (o ≤ 4096) }
     ensures { (result ≤ 506) × (o ≤ 48 + result * size) × ((k : ℕ) → k < result → 48 + k * size < o) }
 {
-    if o <= 48 {
-        return 0;
-    }
-    (((o - 49) as u32) / size as u32) as usize + 1
+    (o.saturating_sub(48) as u32).div_ceil(size as u32) as usize
 }
 
 // Where the first live block of the pool starts, of those that start at x in the pool or after it, its blocks being of
 // the size.
 pub fn next_live(map: &[u64], pool: usize, size: usize, x: usize) -> Option<usize>
-    requires { (8 ≤ size) × (size ≤ 512) × (x < 4096) × (8 * pool + 8 ≤ length map.now) }
+    requires { (8 ≤ size) × (size ≤ 512) × (x ≤ 4096) × (8 * pool + 8 ≤ length map.now) }
     ensures { NextLive size map.now pool x result }
 {
     let start = 48 + next_set(map, pool, block_from(size, x))? * size;
     (start + size <= 4096).then_some(start)
+}
+
+// The same from the place after x on, where it is o from x on.
+pub fn next_past(map: &[u64], pool: usize, size: usize, x: usize, o: Option<usize>) -> Option<usize>
+    requires { (8 ≤ size) × (size ≤ 512) × (x < 4096) × (8 * pool + 8 ≤ length map.now) }
+    ensures { NextLive size map.now pool x o → NextLive size map.now pool (x + 1) result }
+{
+    if o == Some(x) {
+        return next_live(map, pool, size, x + 1);
+    }
+    o
 }

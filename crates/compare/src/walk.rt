@@ -12,7 +12,7 @@ ghost use Rattle.compare.specs.Words.{said_of};
 ghost use Rattle.compare.specs.Pools.{pools_in, kind_in};
 
 use crate::blocks::{has_bit, kind_apart, kind_together, note};
-use crate::next::{earlier, next_live};
+use crate::next::{earlier, next_live, next_past};
 use crate::pair::Pair;
 use loops::pool_size;
 
@@ -37,6 +37,7 @@ fn walk_word(
         (said_of heaps.now.first.memory.now heaps.now.second.memory.now word word2 start size)
         (bit_or word word2) 0 (up_to start size last)) list.new result }
 {
+    let Pair { first, second } = *heaps;
     let mut left = word | word2;
     let mut place = at;
     while left != 0 {
@@ -46,8 +47,8 @@ fn walk_word(
             return place;
         }
         let kind = kind_together(
-            heaps.first.memory,
-            heaps.second.memory,
+            first.memory,
+            second.memory,
             has_bit(word, j),
             has_bit(word2, j),
             offset,
@@ -117,17 +118,15 @@ fn walk_apart(
         (listing (apart_at heaps.now.first.map.now heaps.now.second.map.now size size2 pool) (4096 * pool) 4096)
         list.new result }
 {
+    let Pair { first, second } = *heaps;
     let mut place = at;
-    let mut x: usize = 0;
-    while x < 4096 {
-        let o = next_live(heaps.first.map, pool, size, x);
-        let o2 = next_live(heaps.second.map, pool, size2, x);
-        let Some(next) = earlier(o, o2) else {
-            return place;
-        };
+    let mut o = next_live(first.map, pool, size, 0);
+    let mut o2 = next_live(second.map, pool, size2, 0);
+    while let Some(next) = earlier(o, o2) {
         let kind = kind_apart(o == Some(next), o2 == Some(next));
         place = note(list, place, 4096 * pool + next, kind);
-        x = next + 1;
+        o = next_past(first.map, pool, size, next, o);
+        o2 = next_past(second.map, pool, size2, next, o2);
     }
     place
 }

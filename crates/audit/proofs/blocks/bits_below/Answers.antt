@@ -10,6 +10,6 @@ pub returns : goal.returns
 returns c =
     let a = c.args in
     let m = a.map.now in
-    let later = all_from (λ i. eqb (at m (8 * a.n + i)) 0) (a.v / 64 + 1) 8 (search rules) c.all.ensures.ran
+    let later = all_from (λ i. eqb (at m (8 * a.n + i)) 0) (a.v / 64 + 1) (omega arith) c.all.ensures.ran
     (λ x b q k. search (rules, tests)) in
     ap (λ (t : Bool). eqb (at m (8 * a.n + a.v / 64) / 2 ^ (a.v % 64)) 0 && t) later ∙ ends_is m a.n a.v c.requires.1 (λ i. omega (arith, c.type_inv.map i))

@@ -1,6 +1,6 @@
 -- `audit::homes::home_of` makes the tests of `home_by` in turn.
-use Rattle.std.proofs.Common.{◌≡◌, ◌<◌, sym, ap, ◌∙◌, arith, eq-eqb, ne_eqb, lt-ltb, le-ltb}
-use Rattle.rules.specs.Books.{class_head, arena_word, freed_head, class, pool}
+use Rattle.std.proofs.Common.{◌≡◌, ap, ◌∙◌, arith}
+use Rattle.rules.specs.Books.{class, pool}
 use Rattle.rules.specs.Audit.{blocks_of}
 use Rattle.books.specs.Sizes.{aligned}
 use Rattle.books.specs.Readers.{alignment_in}
@@ -10,15 +10,11 @@ use Rattle.audit.proofs.homes.home_of.Goals as goal
 
 pub returns-then-not-is_carved : goal.returns-then-not-is_carved
 unfolding home_by
-returns-then-not-is_carved c = (rw (sym c.is_carved.ensures ∙ c.if-not-is_carved.true), omega arith)
+returns-then-not-is_carved c = (grind arith, omega arith)
 
 pub returns-then-live-eq0 : goal.returns-then-live-eq0
 unfolding home_by
-returns-then-live-eq0 c = (
-  rw (sym c.is_carved.ensures ∙ c.if-not-is_carved.false, eq-eqb c.args.live 0 c.if-live-eq0.true)
-      (ap (arena_word freed_head) c.arena_of.ensures.0),
-  omega (arith, c.arena_of.ensures.1),
-)
+returns-then-live-eq0 c = (grind arith, omega (arith, c.arena_of.ensures.1))
 
 -- how many blocks a pool of its class has
 blocks : (c : After-blocks_of)
@@ -31,26 +27,10 @@ unfolding home_by
 returns-then-live-blocks_of c =
     let h = c.args.heap.now in
     let k = pool h.shape.arenas h.books.now class c.args.n in
-    let is = c.pool_word-class.ensures.0 in
-    let few : c.args.live < blocks_of (alignment_in h) k = omega (arith, c.if-live-blocks_of.true, blocks (goal.at.returns-then-live-blocks_of c).After-blocks_of) in (
-      rw (
-        sym c.is_carved.ensures ∙ c.if-not-is_carved.false,
-        ne_eqb c.args.live 0 c.if-live-eq0.false,
-        lt-ltb c.args.live (blocks_of (alignment_in h) k) few,
-      ) (ap class_head is),
-      omega (arith, is, has_blocks (aligned h.shape.edition) k c.args.live few),
-    )
+    let all = blocks (goal.at.returns-then-live-blocks_of c).After-blocks_of in
+    let low = has_blocks (aligned h.shape.edition) k c.args.live (omega (arith, c.if-live-blocks_of.true, all)) in
+    (grind (arith, all), omega (arith, c.pool_word-class.ensures.0, low))
 
 pub returns : goal.returns
 unfolding home_by
-returns c =
-    let h = c.args.heap.now in
-    let k = pool h.shape.arenas h.books.now class c.args.n in (
-      rw (
-        sym c.is_carved.ensures ∙ c.if-not-is_carved.false,
-        ne_eqb c.args.live 0 c.if-live-eq0.false,
-        le-ltb c.args.live (blocks_of (alignment_in h) k)
-            (omega (arith, c.if-live-blocks_of.false, blocks (goal.at.returns c).After-blocks_of)),
-      ),
-      omega arith,
-    )
+returns c = (grind (arith, blocks (goal.at.returns c).After-blocks_of), omega arith)

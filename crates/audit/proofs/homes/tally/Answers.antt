@@ -8,7 +8,7 @@ use Rattle.audit.specs.Survey.{tallied}
 use Rattle.audit.proofs.homes.tally.Goals as goal
 
 pub loop-home-init : goal.loop-home-init
-loop-home-init c = λ h l. c.requires.2 h l ∙ sym (none_counted _)
+loop-home-init c = λ h l. c.requires.1 h l ∙ sym (none_counted _)
 
 pub overflow_add-tallies : goal.overflow_add-tallies
 overflow_add-tallies c =

@@ -1,16 +1,13 @@
 -- `audit::survey::Survey::arena_keeps_9` makes the tests of `arena_keeps9`: it reads the next arena's word only where
 -- there is a next.
-use Rattle.std.proofs.Common.{leb, ℕ, ◌+◌, ◌*◌, ◌-◌, sym, ap, ap₂, ◌∙◌}
-use Rattle.rules.specs.Books.{at}
-use Rattle.audit.specs.Keeps.{rises_away, rises_is}
+use Rattle.std.proofs.Common.{arith}
+use Rattle.rules.specs.Audit.{arena_keeps9}
 use Rattle.audit.proofs.survey.Survey.arena_keeps_9.Goals as goal
 
 pub returns-then-not-is_followed : goal.returns-then-not-is_followed
-returns-then-not-is_followed c = rises_away _ _ (sym c.is_followed.ensures ∙ c.if-not-is_followed.true)
+unfolding arena_keeps9
+returns-then-not-is_followed c = grind arith
 
 pub returns : goal.returns
-returns c =
-    let b = c.args.self.now.heap.books.now in
-    ap₂ leb c.arena_word.ensures.0
-    (c.word_or_none.ensures.0 ∙ ap (λ (l : ℕ). at b (72 + 8 * (l - 1) + 2)) c.arena_word-next.ensures.0)
-    ∙ sym (rises_is b c.args.a (sym c.is_followed.ensures ∙ c.if-not-is_followed.false))
+unfolding arena_keeps9
+returns c = grind arith

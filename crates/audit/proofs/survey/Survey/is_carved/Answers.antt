@@ -1,5 +1,5 @@
 -- `audit::survey::Survey::is_carved` goes by the pool's head: only a pool not carved is away.
-use Rattle.std.proofs.Common.{not, eqb, ℕ, sym, ap, ◌∙◌}
+use Rattle.std.proofs.Common.{arith}
 use Rattle.books.specs.Sizes.{aligned}
 use Rattle.audit.specs.Survey.{home_is}
 use Rattle.audit.proofs.survey.Survey.is_carved.Goals as goal
@@ -8,5 +8,8 @@ pub returns : goal.returns
 returns c =
     let v = c.args.self.now in
     let s = v.heap.shape in
-    ap (λ (h : ℕ). not (eqb h 1)) (c.from.ensures ∙ v.surveyed.homed c.args.n c.requires)
-    ∙ sym (home_is (aligned s.edition) s.arenas s.pools v.heap.books.now v.heap.map.now c.args.n).is_carved
+    grind (
+      arith,
+      v.surveyed.homed c.args.n c.requires,
+      (home_is (aligned s.edition) s.arenas s.pools v.heap.books.now v.heap.map.now c.args.n).is_carved,
+    )

@@ -1,5 +1,5 @@
 -- `audit::survey::Survey::rule_2` looks at the spare words, and asks each arena and each pool in turn.
-use Rattle.std.proofs.Common.{◌*◌, rules, tests}
+use Rattle.std.proofs.Common.{◌*◌, refl, rules, tests}
 use Rattle.rules.specs.Audit.{arena_keeps2, pool_keeps2, rule2}
 use Rattle.audit.proofs.Ranges.{all_is}
 use Rattle.audit.proofs.survey.Survey.rule_2.Goals as goal
@@ -12,6 +12,6 @@ returns c =
       c.word.ensures.0,
       c.word-2.ensures.0,
       c.word-3.ensures.0,
-      all_is (arena_keeps2 h.books.now) h.shape.arenas (search rules) c.all.ensures.ran (λ x b q k. search (rules, tests)),
-      all_is (pool_keeps2 h.shape.arenas h.books.now) (h.shape.arenas * h.shape.pools) (search rules) c.all-2.ensures.ran (λ x b q k. search (rules, tests)),
+      all_is (arena_keeps2 h.books.now) h.shape.arenas refl c.all.ensures.ran (λ x b q k. search (rules, tests)),
+      all_is (pool_keeps2 h.shape.arenas h.books.now) (h.shape.arenas * h.shape.pools) refl c.all-2.ensures.ran (λ x b q k. search (rules, tests)),
     )

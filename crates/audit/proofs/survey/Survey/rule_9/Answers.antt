@@ -1,10 +1,7 @@
 -- `audit::survey::Survey::rule_9` asks each arena in turn.
-use Rattle.std.proofs.Common.{rules, tests}
-use Rattle.rules.specs.Audit.{arena_keeps9}
+use Rattle.std.proofs.Common.{refl, rules, tests}
 use Rattle.audit.proofs.Ranges.{all_is}
 use Rattle.audit.proofs.survey.Survey.rule_9.Goals as goal
 
 pub returns : goal.returns
-returns c =
-    let h = c.args.self.now.heap in
-    all_is (arena_keeps9 h.books.now) _ (search rules) c.all.ensures.ran (λ x b q k. search (rules, tests))
+returns c = all_is _ _ refl c.all.ensures.ran (λ x b q k. search (rules, tests))
