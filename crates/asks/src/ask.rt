@@ -1,5 +1,6 @@
 // An ask: from its class list, or from a new pool. Here are the writes of a new pool, in the order of the rules: a
-// function for each part of a path.
+// function for each part of a path. What an ask goes through is inlined, here and in crate plans, since a result that
+// comes back from a call goes through memory.
 ghost use Rattle.std.specs.Prelude.{◌≡◌, ℕ, ◌+◌, ◌*◌, ◌<◌, ◌≤◌, length};
 ghost use Rattle.rules.specs.Say.{◌▷◌};
 ghost use Rattle.rules.specs.Books.{at, alignment_of, put, on_books, put_word, usable_head, carve_mark, freed_head};
@@ -146,6 +147,7 @@ fn list_anew(books: &mut [u32], arenas: usize, class: Class, p: usize)
 }
 
 // The writes of a planned path that takes a new pool, the class list being empty; and the answer.
+#[inline(always)]
 fn write_new(
     memory: &mut [u8],
     books: &mut [u32],
@@ -182,6 +184,7 @@ fn write_new(
 }
 
 // An ask for n bytes.
+#[inline(always)]
 pub fn ask_step(
     memory: &mut [u8],
     books: &mut [u32],

@@ -32,6 +32,7 @@ pub fn hand_out(map: &mut [u64], class: Class, p: usize, f: usize) -> u32
 
 // The freeblock of the front pool p, whose record is given, has no link: the block at nextoffset follows it, or the
 // pool is full and leaves its list.
+#[inline(always)]
 fn ask_unlinked(
     memory: &mut [u8],
     books: &mut [u32],
@@ -76,6 +77,7 @@ fn ask_unlinked(
 }
 
 // The front pool p of the class list.
+#[inline(always)]
 pub fn ask_listed(
     memory: &mut [u8],
     books: &mut [u32],

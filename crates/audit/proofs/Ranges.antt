@@ -33,7 +33,8 @@ all_numbers test a (suc n) =
     ∙ rw (all_numbers test a n, and-true (test (a + n))) (and_comm (all_below (λ i. test (a + i)) n) (test (a + n)))
 
 -- what `(a..z).all(f)` answers, where each call of f answers the test; y, where it begins, being a
-pub all_from : {F : Type 0} {g : Mut F (ℕ × Unit {0}) Bool} {u : Range ℕ} {f : F} {r : Bool} {y z : ℕ} (test : ℕ → Bool) (a : ℕ)
+pub all_from : {F : Type 0} {g : Mut F (ℕ × Unit {0}) Bool} {u : Range ℕ} {f : F} {r : Bool} {y z : ℕ}
+    (test : ℕ → Bool) (a : ℕ)
     → y ≡ a
     → (xs : List ℕ) × (o : Option ℕ) × (j : F) × YieldsThen nat_range_steps (record { start = y; end = z }) xs o u
     × FoldsTo (λ p x q. Called g p (x, tt) true q) f xs j
@@ -45,7 +46,8 @@ all_from {y = y} {z = z} test a e ran each =
     ∙ rw e (all_numbers test a (z - a))
 
 -- and what `(0..z).all(f)` does, z being n
-pub all_is : {F : Type 0} {g : Mut F (ℕ × Unit {0}) Bool} {u : Range ℕ} {f : F} {r : Bool} {z : ℕ} (test : ℕ → Bool) (n : ℕ)
+pub all_is : {F : Type 0} {g : Mut F (ℕ × Unit {0}) Bool} {u : Range ℕ} {f : F} {r : Bool} {z : ℕ}
+    (test : ℕ → Bool) (n : ℕ)
     → z ≡ n
     → (xs : List ℕ) × (o : Option ℕ) × (j : F) × YieldsThen nat_range_steps (record { start = 0; end = z }) xs o u
     × FoldsTo (λ p x q. Called g p (x, tt) true q) f xs j

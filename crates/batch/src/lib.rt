@@ -124,6 +124,7 @@ pub fn ask_all(
         requests.old requests.new (done_in result) }
 {
     test_batch(memory, books, map, requests.len())?;
+    // by the place, which the must-fail edit `every_second_struct` goes by
     for i in 0..requests.len() {
         requests[i] = serve(memory, books, map, requests[i]);
     }

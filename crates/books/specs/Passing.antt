@@ -64,7 +64,8 @@ module _ (r : Refusal) (shape size offset room : ℕ) where
   pub offset_refuses : 0 ≡ shape → 0 ≡ size → number_of r ≡ offset → number_of r ≡ in_order shape size offset room
   offset_refuses a b e = rw (← a, ← b) (refuses (λ n. n) room r offset e)
 
-  pub room_refuses : 0 ≡ shape → 0 ≡ size → 0 ≡ offset → number_of r ≡ room → number_of r ≡ in_order shape size offset room
+  pub room_refuses : 0 ≡ shape → 0 ≡ size → 0 ≡ offset → number_of r ≡ room
+      → number_of r ≡ in_order shape size offset room
   room_refuses a b d e = rw (← a, ← b, ← d) e
 
 pub all_pass : {shape size offset room : ℕ} → 0 ≡ shape → 0 ≡ size → 0 ≡ offset → 0 ≡ room

@@ -264,7 +264,8 @@ module _ (h : Pair) where
       other : last_class (alignment_in h.second) ≡ last_class (alignment_in h.first)
       other = ap (λ (t : Shape). last_class (alignment_of t.edition)) h.one_shape
 
-      from : (c k : ℕ) → c + k ≤ last_class (alignment_in h.first) + 1 → changes_of xs ys c k ≡ changes_from (first h) (second h) c k
+      from : (c k : ℕ) → c + k ≤ last_class (alignment_in h.first) + 1
+          → changes_of xs ys c k ≡ changes_from (first h) (second h) c k
       from c zero l = refl
       from c (suc k) l =
           rw (

@@ -56,7 +56,8 @@ module _ (one two : Heap) (list : List ℕ) (lent : List ℤ) where
   pair_stops r e = stops r (refuses (λ n. n) rooms r (pair_number one two) e)
 
   module _ (p : 0 ≡ pair_number one two) where
-    room_stops : (r : Refusal) → number_of r ≡ rooms → compare_outcome (number_of r) 0 list lent ≡ compare one two list lent
+    room_stops : (r : Refusal) → number_of r ≡ rooms
+        → compare_outcome (number_of r) 0 list lent ≡ compare one two list lent
     room_stops r e = stops r (e ∙ sym (passed (λ n. n) rooms (pair_number one two) (sym p)))
 
     pub list_stops : (r : Refusal) → number_of r ≡ 7 → length list < length (differences one two)

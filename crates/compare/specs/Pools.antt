@@ -1,6 +1,7 @@
 -- A pool in both heaps: the size of its blocks in each, and so the kind of each of its offsets.
 -- Assumes nothing.
-use Rattle.std.specs.Prelude.{ℤ, Option, Some, unwrap_or, IfSome, ◌≡◌, Bool, ◌&&◌, List, ◌++◌, ◌⊎◌, ℕ, ◌+◌, ◌*◌, ◌-◌, ◌/◌, ◌%◌, ◌≤◌, ◌<◌, leb, length, if◌then◌else◌}
+use Rattle.std.specs.Prelude.{ℤ, Option, Some, unwrap_or, IfSome, ◌≡◌, Bool, ◌&&◌, List, ◌++◌, ◌⊎◌}
+use Rattle.std.specs.Prelude.{ℕ, ◌+◌, ◌*◌, ◌-◌, ◌/◌, ◌%◌, ◌≤◌, ◌<◌, leb, length, if◌then◌else◌}
 use Rattle.std.proofs.Math.Path.{refl}
 use Rattle.std.proofs.Common.{sym, ap, ◌∙◌, subst, inl, inr}
 use Rattle.std.proofs.Math.Bool.{true, false}
@@ -187,7 +188,8 @@ module _ (h : Pair) (p : ℕ) (l : p < pools_in h) where
       unfolding together live_in
       in_first x off u = one_kind x u ∙ rw off (go there there')
         where
-          go : (t t' : Bool) → together (first h).memory (second h).memory (t && false) (t' && false) (4096 * p + x) n ≡ 0
+          go : (t t' : Bool)
+              → together (first h).memory (second h).memory (t && false) (t' && false) (4096 * p + x) n ≡ 0
           go true true = refl
           go true false = refl
           go false true = refl

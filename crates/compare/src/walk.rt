@@ -60,7 +60,9 @@ fn walk_word(
     place
 }
 
-// A pool whose blocks have the size in each heap that has blocks there.
+// A pool whose blocks have the size in each heap that has blocks there. Not inlined, so that its loop has the registers
+// to itself.
+#[inline(never)]
 fn walk_blocks(
     heaps: &Pair,
     in_first: bool,
@@ -159,9 +161,10 @@ pub fn walk_pools(heaps: &Pair, list: &mut [u32]) -> usize
         (kind_in heaps.now)
         0 (pools_in heaps.now * 4096)) list.new result }
 {
+    let heaps = *heaps;
     let mut place: usize = 0;
     for pool in 0..heaps.pools() {
-        place = walk_pool(heaps, pool, list, place);
+        place = walk_pool(&heaps, pool, list, place);
     }
     place
 }

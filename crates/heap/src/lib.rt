@@ -52,7 +52,8 @@ pub fn format(
 }
 
 // The block that is live at the offset, in a heap whose shape is tested first: or the first of 1, 2, 5 and 10 that
-// refuses.
+// refuses. Inlined, as an ask is.
+#[inline(always)]
 fn tested_block(memory: &[u8], books: &[u32], map: &[u64], offset: usize) -> Result<Block, Refusal>
     ensures number { number_in result ≡ offset_tests (heap_of memory.now books.now map.now) offset }
     ensures block { IfOk result (Tested memory.now books.now map.now offset) }

@@ -34,6 +34,7 @@ use books::words::{
 use rules::{AskPlan, Source};
 
 // f is a block start of pool p, and the block is not live.
+#[inline(always)]
 pub fn spare(map: &[u64], p: usize, size: usize, f: usize) -> bool
     requires { (8 ≤ size) × (size ≤ 512) × (8 * p + 8 ≤ length map.now) }
     ensures { result ≡ (is_start size f && not (is_set map.now p (block_no size f))) }
@@ -189,6 +190,7 @@ fn plan_unused(heap: &Reader, class: Class) -> AskPlan
 }
 
 // The class list is empty: a new pool is taken.
+#[inline(always)]
 pub fn plan_new(heap: &Reader, class: Class) -> AskPlan
     ensures { result ≡ plan_new (alignment_of class.edition) heap.now.shape.arenas heap.now.shape.pools
         (heap_in heap.now) class.number }

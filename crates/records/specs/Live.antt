@@ -124,7 +124,8 @@ record Given (al A P : ℕ) (h : Heap) (x : Outcome) : Type 0 where
   done : x.answer.number ≡ 0 → words al A P h ≡ words al A P x.heap + 2
 
 record Resized (al A P : ℕ) (h : Heap) (x : Outcome) : Type 0 where
-  refused : (x.answer.number ≡ 0 → ⊥) → (x.answer.number ≡ 6 → x.answer.offset ≡ 0) → words al A P x.heap ≡ words al A P h
+  refused : (x.answer.number ≡ 0 → ⊥) → (x.answer.number ≡ 6 → x.answer.offset ≡ 0)
+      → words al A P x.heap ≡ words al A P h
   done : x.answer.number ≡ 0 → (x.answer.offset % 4096 ≡ 48 → ⊥) → words al A P x.heap ≡ words al A P h
 
 -- ---- an ask for class c

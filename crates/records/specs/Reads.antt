@@ -56,7 +56,8 @@ module _ (r : List ℕ) (whole : 16 ≤ length r) where
   first : (i n : ℕ) → i < length r → zero_in i (suc n) r ≡ (eqb (at r i) 0 && zero_in (suc i) n r)
   first i n l = ap (λ (xs : List ℕ). list_all (λ b. eqb b 0) (take (suc n) xs)) (drop-cons r i 0 l)
 
-  three : (i : ℕ) → i < 14 → zero_in i 3 r ≡ (eqb (at r i) 0 && (eqb (at r (suc i)) 0 && (eqb (at r (suc (suc i))) 0 && true)))
+  three : (i : ℕ) → i < 14
+      → zero_in i 3 r ≡ (eqb (at r i) 0 && (eqb (at r (suc i)) 0 && (eqb (at r (suc (suc i))) 0 && true)))
   three i l =
       first i 2 (omega arith) ∙ ap (λ b. eqb (at r i) 0 && b) (first (suc i) 1 (omega arith)
       ∙ ap (λ b. eqb (at r (suc i)) 0 && b) (first (suc (suc i)) 0 (omega arith)))

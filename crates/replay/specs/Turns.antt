@@ -47,7 +47,8 @@ module _ (m b k input output : List ℕ) (r : Result ℕ Refusal) (output' : Lis
   sent = replay_records (length input / 16) (heap_of m b k) input
 
   done_piece : ◌≡◌ {A = Piece} (record { answer = replayed_in r; output = output'; heap = g })
-      (piece_of 0 (length sent) (sent ++ drop (length sent) output) (heap_after (length input / 16) (heap_of m b k) input))
+      (piece_of 0 (length sent) (sent ++ drop (length sent) output)
+      (heap_after (length input / 16) (heap_of m b k) input))
   done_piece = e ∙ piece_done (heap_of m b k) input output (right_shape m b k w) room
 
   pub never_refused : IsOk r

@@ -1,7 +1,8 @@
 // A give-back: the record of the block's pool is loaded once, the path is decided from it and from the books before,
 // and then written: the block, then its pool's list, then its arena's. Only the arena's part of the path is a value in
 // between. The lent buffers are three parameters wherever they are written: of a struct of `&mut`s each function would
-// promise besides that its references are still the same.
+// promise besides that its references are still the same. What a give-back goes through is inlined, since a result that
+// comes back from a call goes through memory.
 ghost use Rattle.std.specs.Prelude.{◌≡◌, ◌*◌, ◌/◌, ◌%◌, ◌<◌, ◌≤◌, OnOk, length};
 ghost use Rattle.rules.specs.Books.{
   at,
@@ -128,6 +129,7 @@ fn settle(books: &mut [u32], shape: Shape, a: usize, plan: BackPlan)
 }
 
 // A give-back with which the pool, whose record is given, falls to count 0.
+#[inline(always)]
 fn back_last(
     memory: &mut [u8],
     books: &mut [u32],
@@ -166,6 +168,7 @@ fn back_last(
 }
 
 // A give-back of the block that is live at the offset.
+#[inline(always)]
 fn back_step(
     memory: &mut [u8],
     books: &mut [u32],
@@ -206,6 +209,7 @@ fn back_step(
 }
 
 // A give-back of any offset, by what the books and the map show.
+#[inline(always)]
 pub fn give_old(
     memory: &mut [u8],
     books: &mut [u32],

@@ -1,4 +1,5 @@
--- `batch::ask_rows` has come as far as its turn: the requests before it are served, and the words past the last one stay.
+-- `batch::ask_rows` has come as far as its turn: the requests before it are served, and the words past the last one
+-- stay.
 use Rattle.rules.specs.Outcome.{heap_of}
 use Rattle.batch.specs.Words.{Rows}
 use Rattle.batch.proofs.ask_rows.Given as goal

@@ -1,5 +1,5 @@
--- `batch::ask_tested` meets its contract: the shape being tested, the ask is the size's test and the step; and it leaves
--- the shape as it was.
+-- `batch::ask_tested` meets its contract: the shape being tested, the ask is the size's test and the step; and it
+-- leaves the shape as it was.
 use Rattle.std.proofs.Common.{◌≡◌, sym, ap, ◌∙◌, subst}
 use Rattle.std.proofs.lemmas.Result.{err_from_is_err_and}
 use Rattle.rules.specs.Books.{alignment_of}

@@ -82,7 +82,8 @@ pub put_roll-words-requires : goal.put_roll-words-requires
 put_roll-words-requires c =
     let at-shape = (goal.at.put_roll-words-requires c).In_ok-shape in
     let s = c.in_ok-shape.ensures.shape.shaped in
-    (record { few = s.all; books = s.books; map = s.map }, omega (arith, fits (goal.at.put_roll-words-requires c).Else-not-has_room, ap length (the_roll at-shape)))
+    let enough-room = fits (goal.at.put_roll-words-requires c).Else-not-has_room in
+    (record { few = s.all; books = s.books; map = s.map }, omega (arith, enough-room, ap length (the_roll at-shape)))
 
 pub overflow_cast-result : goal.overflow_cast-result
 overflow_cast-result c =

@@ -1,5 +1,5 @@
--- `audit::homes::tally` counts: at each turn the records before it. A turn adds one to the head of its record, and leaves
--- the others.
+-- `audit::homes::tally` counts: at each turn the records before it. A turn adds one to the head of its record, and
+-- leaves the others.
 use Rattle.std.proofs.Common.{◌<◌, sym, ◌∙◌, eqb, arith}
 use Rattle.rules.specs.Books.{at}
 use Rattle.sequences.specs.Counting.{many_le}

@@ -1,5 +1,5 @@
--- `audit::homes::tally` counts: at each turn the records before it. A turn adds one to the head of its record, and leaves
--- the others.
+-- `audit::homes::tally` counts: at each turn the records before it. A turn adds one to the head of its record, and
+-- leaves the others.
 use Rattle.std.proofs.Common.{eqb}
 use Rattle.rules.specs.Say.{how_many}
 use Rattle.rules.specs.Books.{at}

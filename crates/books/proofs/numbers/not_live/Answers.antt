@@ -1,5 +1,5 @@
--- `books::numbers::not_live` makes the two tests that are left of a block's where one would start: below nextoffset, and
--- in a carved pool.
+-- `books::numbers::not_live` makes the two tests that are left of a block's where one would start: below nextoffset,
+-- and in a carved pool.
 use Rattle.std.specs.Prelude.{if◌then◌else◌}
 use Rattle.std.proofs.Common.{Bool, ℕ, ◌/◌, ◌*◌, ◌<◌, sym, ap, arith}
 use Rattle.rules.specs.Blocks.{is_block}

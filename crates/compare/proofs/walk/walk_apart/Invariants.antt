@@ -1,5 +1,5 @@
--- `compare::walk::walk_apart` notes the next live block of either heap: at each turn the places from some x on are to be
--- noted, and both heaps' next live blocks from there on are known.
+-- `compare::walk::walk_apart` notes the next live block of either heap: at each turn the places from some x on are to
+-- be noted, and both heaps' next live blocks from there on are known.
 use Rattle.std.proofs.Common.{ℕ, ◌+◌, ◌*◌, ◌-◌, ◌≤◌, unwrap_or}
 use Rattle.rules.specs.Say.{listing}
 use Rattle.compare.specs.Kinds.{apart_at}

@@ -77,8 +77,16 @@ walk_word-place-requires c =
     let steps = at_steps (kinds (goal.at.walk_word-place-requires c).Start) in
     let there = inside a.heaps.now a.pool c.requires.0 in
     let r = small c.loop-i.invariant.0 (steps (4096 * a.pool + 48 + 64 * i * a.size) a.size (in_word (capacity a.size) i))
-    (steps (4096 * a.pool + 48 + 64 * (i + 1) * a.size) a.size (capacity a.size - 64 * (i + 1))) (2 ^ 32) c.requires.4 (comes at_second) in
-    (c.if-last-start.false, omega (arith, there.2), omega arith, omega arith, omega arith, omega (arith, there.3), omega (arith, there.4), rw (part_is at_second) at r)
+    (steps (4096 * a.pool + 48 + 64 * (i + 1) * a.size) a.size (capacity a.size - 64 * (i + 1))) (2 ^ 32) c.requires.4 (comes at_second) in (
+      c.if-last-start.false,
+      omega (arith, there.2),
+      omega arith,
+      omega arith,
+      omega arith,
+      omega (arith, there.3),
+      omega (arith, there.4),
+      rw (part_is at_second) at r,
+    )
 
 pub loop-i-preserved : goal.loop-i-preserved
 loop-i-preserved c =

@@ -9,7 +9,8 @@ use Rattle.compare.proofs.walk.walk_blocks.Given as goal
 
 abbrev pub invariant-loop-i : goal.invariant-loop-i
 invariant-loop-i l =
-    let kind = together_at l.heaps.first.memory.now l.heaps.second.memory.now l.heaps.first.map.now l.heaps.second.map.now l.in_first l.in_second l.pool l.size in
+    let kind = together_at l.heaps.first.memory.now l.heaps.second.memory.now l.heaps.first.map.now l.heaps.second.map.now
+    l.in_first l.in_second l.pool l.size in
     let n = capacity l.size in
     let o = 4096 * l.pool + 48 in
     Noting l.initial.list l.at (at_steps kind o l.size n) l.list l.place (at_steps kind (o + 64 * l.i * l.size) l.size (n - 64 * l.i)) × (l.i ≤ 8)

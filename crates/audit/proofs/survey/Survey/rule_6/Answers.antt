@@ -1,4 +1,5 @@
--- `audit::survey::Survey::rule_6` makes the tests of `rule6`: those of the pools' lists by the heads that the survey found.
+-- `audit::survey::Survey::rule_6` makes the tests of `rule6`: those of the pools' lists by the heads that the survey
+-- found.
 use Rattle.std.proofs.Common.{refl, Bool, ℕ, ◌∙◌, arith, rules, tests, true, false}
 use Rattle.std.proofs.lemmas.List.{get_or-replicate}
 use Rattle.rules.specs.Say.{all_below}
