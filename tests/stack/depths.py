@@ -17,7 +17,8 @@ PLACE = re.compile(r'(-?0x[0-9a-f]+|)\(%rsp(?:,%\w+,[1248])?\)')
 LOWEST = re.compile(r'%rsp,%(?:r[abcd]x|r[sd]i|r\d+)')  # not %rbp: that would keep a frame
 # what push and pop move as eight bytes: a whole register, a number, a place
 EIGHT = re.compile(r'%r(\d+|[a-d]x|[sd]i|bp)|\$0x[0-9a-f]+|.*\(.*\)')
-MOVE = re.compile(r'mov +%\w+,(%r(?:\d+|[a-d]x|[sd]i|bp))')  # from register to register, of eight bytes
+# to a register, from another or from the stack, of eight bytes; or its zero
+MOVE = re.compile(r'mov +(?:%\w+|(?:0x[0-9a-f]+)?\(%rsp\)),%r(\d+|[a-d]x|[sd]i|bp)|xor +%e(\w\w),%e\2')
 # what else moves the stack pointer or the flow
 STRANGE = re.compile(r'push\w*|pop[afw]?\w?|enter|leave|call\w+|l?ret\w*|lcall|ljmp|iret\w*|int\d?|sys\w+|loop\w*'
                      r'|j[er]?cxz|xbegin')
@@ -160,7 +161,7 @@ class Function:
             if step := re.fullmatch(steps[0].format(*used), text):
                 used += step.groups()
                 del steps[0]
-            elif not (other := MOVE.fullmatch(text)) or other[1] in used:
+            elif not (other := MOVE.fullmatch(text)) or f'%r{other[1] or other[2]}' in used:
                 break
             if not steps:
                 break

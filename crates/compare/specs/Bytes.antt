@@ -1,11 +1,24 @@
 -- The bytes of two memories, compared in runs.
 -- Assumes nothing.
-use Rattle.std.specs.Prelude.{◌≡◌, refl, Bool, true, false, ◌&&◌, List, ℕ, zero, suc, ◌+◌, ◌*◌, eqb}
+use Rattle.std.specs.Prelude.{◌≡◌, refl, Bool, true, false, ◌&&◌, List, [], ◌∷◌, ◌++◌, ℕ, zero, suc, ◌+◌, ◌*◌, eqb, nat_eq}
 use Rattle.std.specs.List.{list_all, range_with_len}
 use Rattle.std.proofs.Common.{sym, ap, ◌∙◌, suc-mul, arith}
+use Rattle.std.proofs.lemmas.List.Folds.{list_all-append}
 use Rattle.rules.specs.Say.{all_below}
 use Rattle.rules.specs.Books.{at}
 use Rattle.rules.specs.Compare.{same_bytes}
+
+-- all pass, with one more
+pub all_push : (f : ℕ → Bool) (ys : List ℕ) (y : ℕ) (a : Bool) → a ≡ list_all f ys
+    → (f y && a) ≡ list_all f (ys ++ (y ∷ []))
+all_push f ys y a e =
+    ap (λ (x : Bool). f y && x) e ∙ turned (f y) (list_all f ys) ∙ sym (list_all-append f ys (y ∷ []))
+  where
+    turned : (t u : Bool) → t && u ≡ u && (t && true)
+    turned true true = refl
+    turned true false = refl
+    turned false true = refl
+    turned false false = refl
 
 module _ (m m' : List ℕ) where
   -- a run is the same where its front is and what comes after it is
@@ -27,6 +40,22 @@ module _ (m m' : List ℕ) where
       swap true u v = refl
       swap false true v = refl
       swap false false v = refl
+
+  -- and where each of its bytes is
+  pub run_of : (o j n : ℕ)
+      → list_all (λ i. nat_eq (at m (o + i)) (at m' (o + i))) (range_with_len j n) ≡ same_bytes m m' (o + j) n
+  unfolding all_below
+  run_of o j zero = refl
+  run_of o j (suc n) =
+      let z : o + j + 0 ≡ o + j = omega arith in
+      let e : o + (j + 1) ≡ o + j + 1 = omega arith in
+      let f : 1 + n ≡ suc n = omega arith in
+      let rest = run_of o (j + 1) n ∙ ap (λ (x : ℕ). same_bytes m m' x n) e in
+      rw rest (rw (z, f) at (front (nat_eq (at m (o + j + 0)) (at m' (o + j + 0))) (same_bytes m m' (o + j + 1) n) ∙ run_parts (o + j) 1 n))
+    where
+      front : (t u : Bool) → t && u ≡ (t && true) && u
+      front true u = refl
+      front false u = refl
 
   -- and where each of its groups is
   pub run_groups : (o n j k : ℕ)

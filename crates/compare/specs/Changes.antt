@@ -29,7 +29,7 @@ use Rattle.std.specs.Prelude.{
   set,
   if◌then◌else◌,
 }
-use Rattle.std.proofs.Common.{sym, ap, ◌∙◌, zero-add, add-one, arith, length-set, length-append, get_or-set_same, get_or-set_other, SFits, to_z}
+use Rattle.std.proofs.Common.{sym, ap, ◌∙◌, zero-add, add-one, arith, length-append, get_or-set_same, get_or-set_other, SFits, to_z}
 use Rattle.std.proofs.Math.Decide.{ℕ_discrete, dec_le}
 use Rattle.std.proofs.Math.ListN.{length}
 use Rattle.std.specs.Int.Signed.{mag}
@@ -62,14 +62,6 @@ Counted al A b map n xs = (c : ℕ) → c ≤ last_class al → at xs c ≡ tota
 -- the counts with n more in class c, where n is not 0
 unfoldable pub added : ℕ → ℕ → List ℕ → List ℕ
 added c n xs = if eqb n 0 then xs else set xs c (at xs c + n)
-
-pub length_added : (c n : ℕ) (xs : List ℕ) → length (added c n xs) ≡ length xs
-unfolding added
-length_added c n xs = go (eqb n 0)
-  where
-    go : (t : Bool) → length (if t then xs else set xs c (at xs c + n)) ≡ length xs
-    go true = refl
-    go false = length-set xs c (at xs c + n)
 
 -- the first n counts are those of at most 1,024 pools
 abbrev pub Most : ℕ → List ℕ → Type 0

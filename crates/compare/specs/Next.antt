@@ -3,7 +3,7 @@
 use Rattle.std.specs.Prelude.{◌≡◌, Bool, ◌&&◌, List, [], ◌++◌, eqb, nat_eq, Option, Some, None, is_some, unwrap_or}
 use Rattle.std.specs.Option.{option_eq}
 use Rattle.std.proofs.Math.Path.{refl}
-use Rattle.std.proofs.Common.{sym, ap, ◌∙◌, le-div_iff_mul-le, shr-shr, eq-eqb, ne_eqb}
+use Rattle.std.proofs.Common.{ap, ◌∙◌, le-div_iff_mul-le, shr-shr, eq-eqb, ne_eqb}
 use Rattle.std.proofs.Math.Bool.{true, false, true≢false}
 use Prim.Native.Nat.{ℕ, suc, ◌+◌, ◌*◌, ◌-◌, ◌/◌, ◌%◌, ◌^◌, ◌≤◌, ◌<◌, min}
 use Rattle.std.proofs.Math.Nat.{suc-mul, mul-le-mul_right, div-eq_of_lt}
@@ -162,12 +162,6 @@ pub later : (s : ℕ) (map : List ℕ) (p x y : ℕ) (o : Option ℕ) → x ≤ 
     → NextLive s map p y o
 later s map p x y None u v N = λ z a b. N z (omega arith) b
 later s map p x y (Some r) u v N = (omega arith, N.1, λ z a b. N.2 z (omega arith) b, N.3)
-
-pub later_by : (s : ℕ) (map : List ℕ) (p x : ℕ) (o : Option ℕ) → x < 4096 → option_eq nat_eq o (Some x) ≡ false
-    → NextLive s map p x o → NextLive s map p (x + 1) o
-later_by s map p x None u d N = later s map p x (x + 1) None (omega arith) (omega arith) N
-later_by s map p x (Some r) u d N =
-    later s map p x (x + 1) (Some r) (omega arith) (omega (arith, N.0, λ (e : r ≡ x). true≢false (sym (eq-eqb r x e) ∙ d))) N
 
 -- ---- the lesser of two places, of those that there are
 abbrev pub earlier : Option ℕ → Option ℕ → Option ℕ

@@ -5,7 +5,6 @@ use Rattle.std.specs.Prelude.{◌≡◌, refl, List, [], ◌++◌, ℕ, ◌+◌,
 use Rattle.std.proofs.Common.{sym, ap, ap₂, ◌∙◌, arith, length-append}
 use Rattle.std.proofs.lemmas.List.Edits.{sets}
 use Rattle.loops.specs.Sets.{sets_append}
-use Rattle.loops.specs.Left.{Parts}
 
 -- where `all` fits the list x₀ from place `at` on, x is x₀ with it stored there; j is the place after it
 pub record Noted (x₀ : List ℕ) (at : ℕ) (all x : List ℕ) (j : ℕ) : Type 0 where
@@ -47,8 +46,3 @@ module _ {x₀ all x left : List ℕ} {at j : ℕ} (n : Noting x₀ at all x j l
   -- the place after a part of what is left is small
   pub small : (part rest : List ℕ) (k : ℕ) → at + length all < k → left ≡ part ++ rest → j + length part < k
   small part rest k r e = omega (arith, r, ap length e, length-append part rest, n.place)
-
--- a loop over parts: nothing is noted yet
-pub begin : {all : List ℕ} {n : ℕ} {rest part : ℕ → List ℕ} → Parts all n rest part
-    → (x : List ℕ) (at : ℕ) → Noting x at all x at (rest 0)
-begin {all} parts x at = rw parts.first (unnoted x at all)

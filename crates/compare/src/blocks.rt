@@ -69,7 +69,8 @@ pub fn kind_apart(in_first: bool, in_second: bool) -> Option<Kind>
 }
 
 // The entry of an offset, if it has a kind, from word `at` of the list on: the place after it. Where the list has no
-// room for it, it is only counted.
+// room for it, it is only counted. The list is lent whole, with a place beside it, since of what is written through an
+// iterator over it a proof knows nothing.
 pub fn note(list: &mut [u32], at: usize, offset: usize, kind: Option<Kind>) -> usize
     requires { (offset < 2 ^ 32) × (at + length (entry_of offset (kind_number kind)) < 2 ^ 32) }
     ensures { Noted list.old at (entry_of offset (kind_number kind)) list.new result }

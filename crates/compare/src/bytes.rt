@@ -2,17 +2,13 @@
 ghost use Rattle.std.specs.Prelude.{◌≡◌, ◌+◌, ◌*◌, ◌%◌, ◌≤◌, length};
 ghost use Rattle.rules.specs.Compare.{same_bytes};
 
-// A group's bytes are the same in both. It has no exit: LLVM makes one comparison of a group of 8, and four of one of
-// 64.
+// A group's bytes are the same in both. It is a fold, and no `all`, since that has an exit: of the fold LLVM makes one
+// comparison of a group of 8, and four of one of 64. (`==` of slices would call the C library's `memcmp`.)
 fn same_group(first: &[u8], second: &[u8], at: usize, group: usize) -> bool
     requires { (at + group ≤ length first.now) × (at + group ≤ length second.now) }
     ensures { result ≡ same_bytes first.now second.now at group }
 {
-    let mut same = true;
-    for i in 0..group {
-        same = (first[at + i] == second[at + i]) & same;
-    }
-    same
+    (0..group).fold(true, |same, i| (first[at + i] == second[at + i]) & same)
 }
 
 // The bytes of so many groups are.

@@ -34,7 +34,8 @@ fn add(counts: &mut [u32; 64], class: usize, live: usize)
     counts[class] += live as u32;
 }
 
-// The live blocks of each class are counted, pool by pool. Counts begin at 0.
+// The live blocks of each class are counted, pool by pool. Counts begin at 0. They are lent, since an array that is
+// answered is copied by the C library's `memcpy`, and the archive needs `memset` alone.
 fn tally(heap: &Reader, counts: &mut [u32; 64])
     requires { Counted (alignment_in heap.now) heap.now.shape.arenas heap.now.books.now heap.now.map.now 0 counts.old }
     ensures { Counted (alignment_in heap.now) heap.now.shape.arenas heap.now.books.now heap.now.map.now

@@ -43,7 +43,7 @@ pub fn next_live(map: &[u64], pool: usize, size: usize, x: usize) -> Option<usiz
     (start + size <= 4096).then_some(start)
 }
 
-// The same from the place after x on, where it is o from x on.
+// The same from the place after x on, where from x on it is o.
 pub fn next_past(map: &[u64], pool: usize, size: usize, x: usize, o: Option<usize>) -> Option<usize>
     requires { (8 ≤ size) × (size ≤ 512) × (x < 4096) × (8 * pool + 8 ≤ length map.now) }
     ensures { NextLive size map.now pool x o → NextLive size map.now pool (x + 1) result }

@@ -72,8 +72,7 @@ fn walk_blocks(
     list: &mut [u32],
     at: usize,
 ) -> usize
-    requires { (pool < pools_in heaps.now)
-        × (8 ≤ size) × (size ≤ 512) × (size % 8 ≡ 0)
+    requires { (pool < pools_in heaps.now) × (8 ≤ size) × (size ≤ 512) × (size % 8 ≡ 0)
         × (at + length (at_steps (together_at heaps.now.first.memory.now heaps.now.second.memory.now
         heaps.now.first.map.now heaps.now.second.map.now in_first in_second pool size)
         (4096 * pool + 48) size (capacity size)) < 2 ^ 32) }
@@ -103,7 +102,9 @@ fn walk_blocks(
     place
 }
 
-// A pool whose blocks have another size in each heap: from live block to live block of either.
+// A pool whose blocks have another size in each heap: from live block to live block of either. It is not copied into
+// its caller: there LLVM would keep each pool's map words one by one, also of the many pools that have no bit set.
+#[inline(never)]
 fn walk_apart(
     heaps: &Pair,
     pool: usize,
@@ -112,8 +113,7 @@ fn walk_apart(
     list: &mut [u32],
     at: usize,
 ) -> usize
-    requires { (pool < pools_in heaps.now)
-        × (8 ≤ size) × (size ≤ 512) × (8 ≤ size2) × (size2 ≤ 512)
+    requires { (pool < pools_in heaps.now) × (8 ≤ size) × (size ≤ 512) × (8 ≤ size2) × (size2 ≤ 512)
         × (at + length (listing (apart_at heaps.now.first.map.now heaps.now.second.map.now size size2 pool)
         (4096 * pool) 4096) < 2 ^ 32) }
     ensures { Noted list.old at
@@ -136,10 +136,8 @@ fn walk_apart(
 // The pool in both heaps. Where only one has blocks there, theirs is the size.
 fn walk_pool(heaps: &Pair, pool: usize, list: &mut [u32], at: usize) -> usize
     requires { (pool < pools_in heaps.now)
-        × (at + length (listing (kind_in heaps.now) (4096 * pool) 4096)
-        < 2 ^ 32) }
-    ensures { Noted list.old at (listing
-        (kind_in heaps.now) (4096 * pool) 4096) list.new result }
+        × (at + length (listing (kind_in heaps.now) (4096 * pool) 4096) < 2 ^ 32) }
+    ensures { Noted list.old at (listing (kind_in heaps.now) (4096 * pool) 4096) list.new result }
 {
     let Pair { first, second } = *heaps;
     let one = pool_size(first.books, first.map, first.shape, pool);
@@ -157,14 +155,11 @@ fn walk_pool(heaps: &Pair, pool: usize, list: &mut [u32], at: usize) -> usize
 
 // Every pool in both heaps: how many words are noted.
 pub fn walk_pools(heaps: &Pair, list: &mut [u32]) -> usize
-    ensures { Noted list.old 0 (listing
-        (kind_in heaps.now)
-        0 (pools_in heaps.now * 4096)) list.new result }
+    ensures { Noted list.old 0 (listing (kind_in heaps.now) 0 (pools_in heaps.now * 4096)) list.new result }
 {
-    let heaps = *heaps;
     let mut place: usize = 0;
     for pool in 0..heaps.pools() {
-        place = walk_pool(&heaps, pool, list, place);
+        place = walk_pool(heaps, pool, list, place);
     }
     place
 }

@@ -1,5 +1,5 @@
 -- `compare::next::block_from` divides what lies between the first block's start and o, rounded up.
-use Rattle.std.proofs.Common.{ℕ, ◌+◌, ◌*◌, ◌-◌, ◌≤◌, ◌<◌, suc, suc-mul, mul-le-mul_right, mul-le-mul_left, arith}
+use Rattle.std.proofs.Common.{ℕ, ◌*◌, ◌≤◌, ◌<◌, suc-mul, mul-le-mul_right, arith}
 use Rattle.std.proofs.Math.Decide.{dec_le}
 use Rattle.std.specs.Int.{div_ceil}
 use Rattle.std.proofs.lemmas.Grind.{div_ceil_times}

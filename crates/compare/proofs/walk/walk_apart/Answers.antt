@@ -1,7 +1,7 @@
 -- `compare::walk::walk_apart` notes the next live block of either heap, and then looks for the one after it.
-use Rattle.std.proofs.Common.{◌≡◌, ◌+◌, ◌*◌, ◌-◌, ◌^◌, ◌<◌, ◌≤◌, ◌++◌, ℕ, Option, unwrap_or, sym, ap, ◌∙◌, arith}
+use Rattle.std.proofs.Common.{◌≡◌, ◌+◌, ◌*◌, ◌-◌, ◌^◌, ◌++◌, ℕ, Option, unwrap_or, sym, ap, arith}
 use Rattle.rules.specs.Say.{listing}
-use Rattle.compare.specs.Kinds.{kind_number, entry_of, apart, apart_at}
+use Rattle.compare.specs.Kinds.{kind_number, entry_of, apart_at}
 use Rattle.compare.specs.Next.{NextLive, earlier, none_after, next_after, not_before, Earlier, earlier_is, later}
 use Rattle.compare.specs.Noted.{unnoted, note, finish, small}
 use Rattle.compare.specs.Pools.{inside}
