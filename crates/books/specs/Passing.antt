@@ -2,9 +2,7 @@
 -- Assumes nothing.
 use Rattle.std.specs.Prelude.{◌≡◌, refl, ℕ, zero, suc, ◌≤◌, ◌<◌}
 use Rattle.std.proofs.Common.{sym, ap, ◌∙◌, arith, lt-ltb, le-ltb}
-use Rattle.rules.specs.declared.Answer.{Answer}
-use Rattle.rules.specs.Books.{Heap}
-use Rattle.rules.specs.Outcome.{Outcome, outcome, answer_of, refused, passing}
+use Rattle.rules.specs.Outcome.{passing}
 use Rattle.rules.specs.Numbers.{room_number, ◌before◌, in_order}
 use Rattle.books.specs.declared.refusal.Refusal.{Refusal}
 use Rattle.books.specs.Refusals.{number_of, number_low}
@@ -24,11 +22,6 @@ module _ {X : Type 0} (f : ℕ → X) (rest : X) where
 
   pub lets_pass : (x : X) (k : ℕ) → 0 ≡ k → x ≡ rest → x ≡ passing k f rest
   lets_pass x k e q = q ∙ sym (passed k (sym e))
-
--- a test that nothing comes after
-pub last_test : (k : ℕ) → passing k (λ n. n) 0 ≡ k
-last_test zero = refl
-last_test (suc k) = refl
 
 -- where two tests let the rest go on, each does
 pub before_zero : (j k : ℕ) → (j before k) ≡ 0 → (j ≡ 0) × (k ≡ 0)
@@ -71,13 +64,3 @@ module _ (r : Refusal) (shape size offset room : ℕ) where
 pub all_pass : {shape size offset room : ℕ} → 0 ≡ shape → 0 ≡ size → 0 ≡ offset → 0 ≡ room
     → 0 ≡ in_order shape size offset room
 all_pass a b c d = rw (← a, ← b, ← c) d
-
--- ---- a call that is refused by its tests, and one that they let pass
-module _ (h : Heap) (rest : Outcome) where
-  pub refusal : (r : Answer) (n k : ℕ) → r ≡ answer_of n 0 → n ≡ k → (n ≡ 0 → ⊥)
-      → outcome r h ≡ passing k (λ j. refused j h) rest
-  refusal r n k e f g =
-      ap (λ (x : Answer). outcome x h) (e ∙ ap (λ (x : ℕ). answer_of x 0) f) ∙ sym (stopped (λ j. refused j h) rest k (λ z. g (f ∙ z)))
-
-  pub step : (x : Outcome) (n k : ℕ) → x ≡ rest → n ≡ k → n ≡ 0 → x ≡ passing k (λ j. refused j h) rest
-  step x n k e f z = e ∙ sym (passed (λ j. refused j h) rest k (sym f ∙ z))

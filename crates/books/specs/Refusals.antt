@@ -96,14 +96,27 @@ of_number UnequalShape = refl
 pub same_refusal : (r s : Refusal) → number_of r ≡ number_of s → r ≡ s
 same_refusal r s e = sym (of_number r) ∙ ap refusal_of e ∙ of_number s
 
-pub same_result : (r s : Result ℕ Refusal) → number_in r ≡ number_in s → value_in r ≡ value_in s → r ≡ s
+same_result : (r s : Result ℕ Refusal) → number_in r ≡ number_in s → value_in r ≡ value_in s → r ≡ s
 same_result (Ok v) (Ok w) n e = ap Ok e
 same_result (Ok v) (Err s) n e = absurd (omega (arith, number_low s))
 same_result (Err r) (Ok w) n e = absurd (omega (arith, number_low r))
 same_result (Err r) (Err s) n e = ap Err (same_refusal r s n)
 
-pub same_done : (r s : Result ⊤ Refusal) → number_in r ≡ number_in s → r ≡ s
-same_done (Ok v) (Ok w) n = refl
-same_done (Ok v) (Err s) n = absurd (omega (arith, number_low s))
-same_done (Err r) (Ok w) n = absurd (omega (arith, number_low r))
-same_done (Err r) (Err s) n = ap Err (same_refusal r s n)
+pub same_done : (r s : Result ⊤ Refusal) → done_in r ≡ done_in s → r ≡ s
+same_done (Ok v) (Ok w) e = refl
+same_done (Ok v) (Err s) e = absurd (omega (arith, number_low s, ap (λ (a : Answer). a.number) e))
+same_done (Err r) (Ok w) e = absurd (omega (arith, number_low r, ap (λ (a : Answer). a.number) e))
+same_done (Err r) (Err s) e = ap Err (same_refusal r s (ap (λ (a : Answer). a.number) e))
+
+module _ (r s : Result ℕ Refusal) where
+  pub same_answer : answer_in r ≡ answer_in s → r ≡ s
+  same_answer e = same_result r s (ap (λ (a : Answer). a.number) e) (ap (λ (a : Answer). a.offset) e)
+
+  pub same_sized : sized_in r ≡ sized_in s → r ≡ s
+  same_sized e = same_result r s (ap (λ (a : Sized). a.number) e) (ap (λ (a : Sized). a.size) e)
+
+  pub same_rolled : rolled_in r ≡ rolled_in s → r ≡ s
+  same_rolled e = same_result r s (ap (λ (a : Rolled). a.number) e) (ap (λ (a : Rolled). a.count) e)
+
+  pub same_compared : compared_in r ≡ compared_in s → r ≡ s
+  same_compared e = same_result r s (ap (λ (a : Compared). a.number) e) (ap (λ (a : Compared). a.entries) e)

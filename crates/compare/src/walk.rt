@@ -60,9 +60,7 @@ fn walk_word(
     place
 }
 
-// A pool whose blocks have the size in each heap that has blocks there. Not inlined, so that its loop has the registers
-// to itself.
-#[inline(never)]
+// A pool whose blocks have the size in each heap that has blocks there.
 fn walk_blocks(
     heaps: &Pair,
     in_first: bool,

@@ -12,14 +12,7 @@ pub record Tested (m b k : List ℕ) (o : ℕ) (block : Block) : Type 0 where
   pub shaped : Shaped (at b 0) (at b 1) (length m) (length b) (length k)
   pub found : BlockAt (alignment_of (at b 68)) (at b 0) (at b 1) b k o block
 
--- ---- 5 and 7 come after the tests before them
-pub offset_after : (shape size offset : ℕ)
-    → in_order shape size offset 0 ≡ passing (in_order shape size 0 0) (λ n. n) offset
-offset_after zero zero zero = refl
-offset_after zero zero (suc o) = refl
-offset_after zero (suc s) o = refl
-offset_after (suc h) s o = refl
-
+-- ---- 7 comes after the tests before it
 pub room_after : (shape offset room : ℕ)
     → in_order shape 0 offset room ≡ passing (in_order shape 0 offset 0) (λ n. n) room
 room_after zero zero room = refl

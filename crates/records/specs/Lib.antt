@@ -1,4 +1,5 @@
 -- The laws of replay records.
+pub mod Small
 pub mod Calls
 pub mod Reads
 pub mod Replies

@@ -1,9 +1,8 @@
 -- What a turn of the program does: the replies that it has ready to write, and what it keeps for the next turn.
 -- Assumes nothing.
-use Rattle.std.specs.Prelude.{◌≡◌, refl, List, ◌++◌, ℕ, ◌*◌, ◌/◌, ◌≤◌, ◌<◌, length, take, drop, Option, IfSome, Result, Ok, Err, IsOk, ⊤}
-use Rattle.std.proofs.Common.{sym, ◌∙◌, length-append, length-take}
+use Rattle.std.specs.Prelude.{◌≡◌, refl, List, ◌++◌, ℕ, ◌*◌, ◌/◌, ◌≤◌, ◌<◌, length, drop, Option, IfSome, Result, Ok, Err, IsOk, ⊤}
+use Rattle.std.proofs.Common.{sym, ◌∙◌, length-append}
 use Rattle.std.proofs.Math.Path.{ap}
-use Rattle.std.proofs.Math.Nat.{min-le_left}
 use native.Mathlib.Omega.{arith}
 use Rattle.std.proofs.Math.ListN.{replicate}
 use Rattle.rules.specs.Books.{Heap, in_range, exact, memory_length, books_length, map_length}
@@ -68,11 +67,6 @@ pub inside : {h : Heap} {input output : List ℕ} {g : Heap} {output' : List ℕ
     → Answered h input output g output' n → n ≤ length output'
 inside {h} {input} {output} {n = n} a =
     omega (arith, a.count, ap length a.stands, length-append (replay_records (length input / 16) h input) (drop n output))
-
--- there is room for the reply to a record that is not whole
-pub short_fits : (n : ℕ) (l output : List ℕ) → n < 16 → length output ≡ 65536
-    → 16 * records_in (length (take n l)) ≤ length output
-short_fits n l output h e = omega (arith, length-take n l, min-le_left n (length l))
 
 -- ---- the program's own format is done, at edition eight, and leaves a heap of the right shape
 module _ (m b k : List ℕ) (e : length m ≡ memory_length 1 16)

@@ -1,5 +1,5 @@
 -- `heap::format` meets its contract: it tests the shape and then writes all books and map.
-use Rattle.std.proofs.Common.{List, ℕ, replicate, ap, ap₂, ◌∙◌, arith}
+use Rattle.std.proofs.Common.{List, ℕ, replicate, ap, ap₂, ◌∙◌}
 use Rattle.std.proofs.lemmas.Result.{err_from_is_err_and}
 use Rattle.rules.specs.Numbers.{format}
 use Rattle.rules.specs.Outcome.{heap_of, done, refused}
