@@ -1,6 +1,7 @@
 // An ask: from its class list, or from a new pool. Here are the writes of a new pool, in the order of the rules: a
 // function for each part of a path. What an ask goes through is inlined, here and in crate plans, since a result that
-// comes back from a call goes through memory.
+// comes back from a call goes through memory. The lent buffers are three parameters wherever they are written: of a
+// struct of `&mut`s each function would promise besides that its references are still the same.
 ghost use Rattle.std.specs.Prelude.{◌≡◌, ℕ, ◌+◌, ◌*◌, ◌<◌, ◌≤◌, length};
 ghost use Rattle.rules.specs.Say.{◌▷◌};
 ghost use Rattle.rules.specs.Books.{at, alignment_of, put, on_books, put_word, usable_head, carve_mark, freed_head};

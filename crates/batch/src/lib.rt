@@ -97,6 +97,7 @@ pub fn ask_rows(
 {
     let entries = row.len() / 3;
     test_batch(memory, books, map, entries)?;
+    // by the place: of words that `chunks_exact_mut` had lent a proof would know nothing
     for i in 0..entries {
         let at = 3 * i;
         let request = Request {

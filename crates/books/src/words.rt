@@ -14,7 +14,8 @@ pub const CLASS_HEADS: usize = 4;
 // The word that says which edition the heap is of.
 pub const EDITION: usize = 68;
 
-// What it says, and what format is told: blocks of multiples of eight bytes, or of sixteen.
+// What it says, and what format is told: blocks of multiples of eight bytes, or of sixteen. An edition is a number and
+// no enum: `shape_of` promises the word as it stands, format is told any number, and a class is shifted by it.
 pub const EIGHT: usize = 0;
 
 pub const SIXTEEN: usize = 1;
@@ -60,7 +61,7 @@ pub const SPARE: usize = 7;
 // The class of a pool that has none.
 pub const NO_CLASS: u32 = 65535;
 
-// A word of the books, a number to count with.
+// A word of the books, a number to count with. (`usize` has no `From<u32>`.)
 pub fn index(x: u32) -> usize
     ensures { (result ≡ x) × (result < 2 ^ 32) }
 {

@@ -63,7 +63,7 @@ fn change(count: u32, count2: u32) -> i32
     count2 as i32 - count as i32
 }
 
-// The changes of the first n classes.
+// The changes of the first n classes. By the class, which three rows are read and written at.
 fn put_changes(counts: &[u32; 64], counts2: &[u32; 64], changes: &mut [i32], n: usize)
     requires { (n ≤ 64) × (n ≤ length changes.old) × Most n counts.now × Most n counts2.now }
     ensures { changes.new ≡ sets changes.old 0 (changes_of counts.now counts2.now 0 n) }

@@ -2,7 +2,7 @@
 // takes its step.
 // None requires anything of its caller, and the promise of each (`Promises` in crate rules) is one equation: what it
 // answers and what it leaves is what the rules say. What a result answers in 01's form, by number and value, `Refusals`
-// of crate books says.
+// of crate books says. A call is lent its buffers one by one, as the exported calls are by C.
 #![tactic(auto)]
 
 ghost use Rattle.std.specs.Prelude.{◌≡◌, IfOk};

@@ -1,4 +1,5 @@
-// The loops of format, write, resize and roll call.
+// The loops of format, write, resize and roll call. Those over pools take books, map and the shape, and no `Reader`,
+// which would ask for memory too.
 #![tactic(auto)]
 
 ghost use Rattle.std.specs.Prelude.{◌≡◌, ◌+◌, ◌*◌, ◌≤◌, ◌<◌, IfSome, leb, length, take, drop};

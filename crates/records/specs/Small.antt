@@ -124,7 +124,8 @@ module _ (al A P : ℕ) where
   unfolding resize_step
   resize_step_small h o n = go (keeps (size_at al A h.books o) n)
     where
-      go : (t : Bool) → Small (if t then done o h else moved al A P o (min n (size_at al A h.books o)) (ask_step al A P h n))
+      go : (t : Bool)
+          → Small (if t then done o h else moved al A P o (min n (size_at al A h.books o)) (ask_step al A P h n))
       go true = omega arith
       go false = moved_small o _ (ask_step al A P h n) (ask_step_small h n)
 
@@ -151,5 +152,6 @@ module _ (h : Heap) where
   unfolding resize
   resize_number o n =
       tested (in_order (shape_number h) (size_number n) (offset_number h o) 0) h _
-      (order_small (shape_number h) (size_number n) (offset_number h o) 0 (shape_small h) (size_small n) (dead_small o) (omega arith))
+      (order_small (shape_number h) (size_number n) (offset_number h o) 0 (shape_small h) (size_small n) (dead_small o)
+      (omega arith))
       (resize_step_small (alignment h) (arenas h) (pools h) h o n)

@@ -137,7 +137,7 @@ impl Reply {
         }
     }
 
-    // The reply's bytes are stored in the output from byte `at` on.
+    // The reply's bytes are stored in the output from byte `at` on: by their places, as `put_link` stores a number.
     fn put(self, output: &mut [u8], at: usize)
         requires { at + 16 ≤ length output.old }
         ensures { output.new ≡ sets output.old at (bytes_of self) }

@@ -1,6 +1,7 @@
 // The answers that the calls of 01 give and the paths that its steps take, for the definitions in specs/, which say
-// what each value means. The code has the answers and a new pool's path as values; the other paths stand in its
-// contracts alone.
+// what each value means. The code has requests, verdicts, a new pool's path and what becomes of an arena as values;
+// answers, for which it has results, and the other paths stand in its contracts alone. `Answer`, `Sized`, `Rolled` and
+// `Compared` are four, and a verdict and the paths are no `Result`s: the definitions and theorems are over them.
 #![tactic(auto)]
 
 // Format, ask, a batch of asks, give back, resize and write: 01's number, and the offset that its table of numbers puts
