@@ -1,7 +1,7 @@
 // Lists threaded through the records: leaving one, joining it at the front, going in after a member, and what the rules
 // of number 6 ask of their links. Member 0's next word is `base`, a member's previous word comes after its next, and a
-// link to member n is n + 1. A list is named at each call by its head, its base and how many members there are: a struct
-// of the three would be made there of the same three words.
+// link to member n is n + 1. A list is named at each call by its head, its base and how many members there are: a
+// struct of the three would be made there of the same three words.
 ghost use Rattle.std.specs.Prelude.{◌≡◌, not, ◌+◌, ◌*◌, ◌^◌, ◌<◌, ◌≤◌, length, if◌then◌else◌};
 ghost use Rattle.rules.specs.Say.{only};
 ghost use Rattle.rules.specs.Books.{at, put, none?, link_to, linked};
