@@ -7,11 +7,10 @@ use Rattle.rules.specs.Say.{all_below, how_many}
 use Rattle.rules.specs.Books.{at, usable_head, unused_head, class_head, freed_head, arena_next, arena_previous, arena_word, pool_next, pool_previous, pool_word}
 use Rattle.rules.specs.Lists.{next_at, previous_at, arena_links, pool_links}
 use Rattle.rules.specs.Audit.{holds, freed_member, freed_list, usable_member, unused_member, arena_list, class_member, class_list}
-use Rattle.books.specs.declared.reader.Reader.{Reader}
-use Rattle.books.specs.Readers.{alignment_in}
 use Rattle.books.specs.Sizes.{aligned}
+use Rattle.audit.specs.declared.lent.Lent.{Lent}
 use Rattle.audit.specs.Turns.{all_same, holds_same}
-use Rattle.audit.specs.Survey.{Filled, Surveyed, arena_home_of, home_is, arena_home_is}
+use Rattle.audit.specs.Survey.{Filled, alignment_in, Surveyed, arena_home_of, home_is, arena_home_is}
 
 -- what the walk of a list stands on: the heads of the lists of some records, and how many of them each is to have
 pub record Tallied (base : ℕ) (b homes tallies : List ℕ) : Type 0 where
@@ -24,7 +23,7 @@ abbrev pub list_holds : ℕ → List ℕ → List ℕ → Bool → ℕ → Bool
 list_holds base b homes doubly head =
     holds (next_at base) (previous_at base) (λ y. eqb (at homes y) head) (length homes) b doubly head
 
-module _ {heap : Reader} {counts homes : List ℕ} (S : Surveyed heap counts homes) where
+module _ {heap : Lent} {counts homes : List ℕ} (S : Surveyed heap counts homes) where
   abbrev A : ℕ
   A = heap.shape.arenas
 

@@ -9,7 +9,22 @@ use Rattle.std.proofs.Math.Decide.{ℕ_discrete, dec_lt}
 use Rattle.std.proofs.Math.Dec.{ltb}
 use borrow.Author.Tests.{eq-eqb, ne_eqb, lt-ltb, le-ltb, leb-true}
 use Rattle.rules.specs.Say.{how_many}
-use Rattle.rules.specs.Books.{at, usable_head, unused_head, class_head, open_word, free_pools, freed_head, arena_word, arena, class, pool, carved}
+use Rattle.rules.specs.Books.{
+  Heap,
+  at,
+  alignment_of,
+  usable_head,
+  unused_head,
+  class_head,
+  open_word,
+  free_pools,
+  freed_head,
+  arena_word,
+  arena,
+  class,
+  pool,
+  carved,
+}
 use Rattle.rules.specs.Blocks.{size_of, last_class, capacity}
 use Rattle.rules.specs.Audit.{
   set_bits,
@@ -22,10 +37,10 @@ use Rattle.rules.specs.Audit.{
   unused_member,
   class_member,
 }
-use Rattle.books.specs.declared.reader.Reader.{Reader}
-use Rattle.books.specs.Readers.{alignment_in}
+use Rattle.rules.specs.Outcome.{heap_of}
 use Rattle.books.specs.Sizes.{Aligned, class_low}
 use Rattle.sequences.specs.Update.{same_test}
+use Rattle.audit.specs.declared.lent.Lent.{Lent}
 use Rattle.audit.specs.Turns.{counts, passes}
 
 -- ---- numbers that are kept: the first n of xs are those of f
@@ -66,8 +81,15 @@ arena_home_of b a =
     else if eqb (arena b open_word a) 1 then (if eqb (arena b free_pools a) 0 then 0 else usable_head)
     else 1
 
+-- ---- what a heap that is lent holds, and the alignment of its shape
+abbrev pub heap_in : Lent → Heap
+heap_in h = heap_of h.memory.now h.books.now h.map.now
+
+abbrev pub alignment_in : Lent → ℕ
+alignment_in h = alignment_of h.shape.edition
+
 -- ---- what the survey of a heap has found
-pub record Surveyed (heap : Reader) (counts homes : List ℕ) : Type 0 where
+pub record Surveyed (heap : Lent) (counts homes : List ℕ) : Type 0 where
   pub counts_long : length counts ≡ heap.shape.arenas * heap.shape.pools
   pub homes_long : length homes ≡ heap.shape.arenas * heap.shape.pools
   pub counted : Filled (set_bits heap.map.now) (heap.shape.arenas * heap.shape.pools) counts

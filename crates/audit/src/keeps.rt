@@ -26,12 +26,11 @@ ghost use Rattle.rules.specs.Audit.{
   arena_keeps9,
   rule9,
 };
-ghost use Rattle.books.specs.Readers.{alignment_in};
+ghost use Rattle.audit.specs.Survey.{alignment_in};
 
 use crate::blocks::{Blocks, bits_below, else_zero};
-use crate::homes::{ALONE, AWAY, HEADS, blocks_of, find_arena_homes, tally};
 use crate::lists::Records;
-use crate::survey::Survey;
+use crate::survey::{ALONE, AWAY, HEADS, Survey, blocks_of, find_arena_homes, tally};
 use books::blocks::{LARGEST, size_of};
 use books::lists::pool_links;
 use books::pool::load_pool;
@@ -259,7 +258,7 @@ impl Survey<'_> {
     {
         let mut homes: [u8; MOST_ARENAS] = [0; MOST_ARENAS];
         let homes = &mut homes[..self.heap.shape.arenas];
-        find_arena_homes(&self.heap, homes);
+        find_arena_homes(self.heap.books, homes);
         let mut tallies: [u16; HEADS] = [0; HEADS];
         tally(homes, &mut tallies);
         let arenas = Records {

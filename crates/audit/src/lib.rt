@@ -2,28 +2,28 @@
 // read alone; what is kept on the way stands in locals.
 #![tactic(auto)]
 
-mod blocks;
-mod homes;
-mod keeps;
-mod lists;
-mod survey;
+pub mod blocks;
+pub mod keeps;
+pub mod lent;
+pub mod lists;
+pub mod survey;
 
 ghost use Rattle.std.specs.Prelude.{◌≡◌};
 ghost use Rattle.rules.specs.Outcome.{heap_of};
 ghost use Rattle.rules.specs.Numbers.{shape_number};
 ghost use Rattle.rules.specs.Audit.{audit_by, number_of};
 ghost use Rattle.rules.specs.Promises.{AuditPromise};
-ghost use Rattle.books.specs.Readers.{heap_in, alignment_in};
+ghost use Rattle.audit.specs.Survey.{heap_in, alignment_in};
 
-use crate::homes::{count_bits, find_homes};
-use crate::survey::Survey;
+use crate::lent::Lent;
+use crate::survey::{Survey, count_bits, find_homes};
 use books::numbers::test_shape;
-use books::reader::Reader;
 use rules::Verdict;
 
 const MOST_POOLS: usize = 1024;
 
 // The first broken rule, from the second on, of a heap that keeps the first and was surveyed; or yes.
+#[tactic(auto, unfolding(rules::specs::Audit::audit_by, rules::specs::Audit::rule1, rules::specs::Audit::number_of))]
 fn first_broken(survey: &Survey) -> Verdict
     requires { shape_number (heap_in survey.now.heap) ≡ 0 }
     ensures { number_of result ≡ audit_by (alignment_in survey.now.heap) survey.now.heap.shape.arenas
@@ -64,7 +64,7 @@ pub fn audit(memory: &[u8], books: &[u32], map: &[u64]) -> Verdict
     let Ok(shape) = test_shape(memory, books, map) else {
         return Verdict::Shape;
     };
-    let heap = Reader {
+    let heap = &Lent {
         memory,
         books,
         map,
@@ -76,9 +76,9 @@ pub fn audit(memory: &[u8], books: &[u32], map: &[u64]) -> Verdict
     count_bits(map, counts);
     let mut homes: [u8; MOST_POOLS] = [0; MOST_POOLS];
     let homes = &mut homes[..all];
-    find_homes(&heap, counts, homes);
+    find_homes(books, shape, counts, homes);
     first_broken(&Survey {
-        heap,
+        heap: *heap,
         counts,
         homes,
     })

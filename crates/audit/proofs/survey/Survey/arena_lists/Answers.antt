@@ -6,7 +6,7 @@ use Rattle.audit.specs.Lists.{usable_is, unused_is}
 use Rattle.audit.proofs.survey.Survey.arena_lists.Goals as goal
 
 pub tally-requires : goal.tally-requires
-tally-requires c = (grind (arith, common_steps), λ h l. get_or-replicate 256 h 0 0 l)
+tally-requires c = (grind (arith, common_steps), omega arith, λ h l. get_or-replicate 256 h 0 0 l)
 
 pub returns : goal.returns
 returns c =

@@ -2,7 +2,7 @@
 -- no block.
 use Rattle.std.proofs.Common.{sym, ap, ◌∙◌}
 use Rattle.rules.specs.Audit.{blocks_of, bits_below}
-use Rattle.books.specs.Readers.{alignment_in}
+use Rattle.audit.specs.Survey.{alignment_in}
 use Rattle.audit.specs.Divided.{none_stray, some_stray, at_blocks}
 use Rattle.audit.proofs.survey.Survey.pool_keeps_5.Goals as goal
 

@@ -7,7 +7,7 @@ use Rattle.rules.specs.Audit.{set_bits}
 use Rattle.books.specs.declared.pool.Pool.{Pool}
 use Rattle.books.specs.Sizes.{aligned, class_size, no_class_lem, a_class}
 use Rattle.books.specs.Tests.{both}
-use Rattle.books.specs.Readers.{alignment_in}
+use Rattle.audit.specs.Survey.{alignment_in}
 use Rattle.audit.specs.Divided.{else_zero, keeps_away, keeps_unset, keeps_no_class, keeps_divided}
 use Rattle.audit.proofs.survey.Survey.pool_keeps_8.Goals.{After-size_of-size}
 use Rattle.audit.proofs.survey.Survey.pool_keeps_8.Goals as goal

@@ -10,7 +10,7 @@ use Rattle.audit.proofs.Ranges.{all_is}
 use Rattle.audit.proofs.survey.Survey.rule_6.Goals as goal
 
 pub tally-requires : goal.tally-requires
-tally-requires c = (omega (arith, c.args.self.now.surveyed.homes_long), λ h l. get_or-replicate 256 h 0 0 l)
+tally-requires c = (omega (arith, c.args.self.now.surveyed.homes_long), omega arith, λ h l. get_or-replicate 256 h 0 0 l)
 
 pub returns : goal.returns
 unfolding rule6

@@ -1,11 +1,11 @@
--- `audit::homes::blocks_of` meets its contract: a number whose size is above the largest is no class.
+-- `audit::survey::blocks_of` meets its contract: a number whose size is above the largest is no class.
 use mathlib.Core.Path.{ap}
 use Prim.Native.Nat.{ℕ, ◌/◌}
 use native.Mathlib.Omega.{arith}
 use Rattle.rules.specs.Audit.{blocks_of}
 use Rattle.books.specs.Sizes.{aligned, no_class_lem, a_class}
 use Rattle.books.specs.Starts.{capacity_le}
-use Rattle.audit.proofs.homes.blocks_of.Goals as goal
+use Rattle.audit.proofs.survey.blocks_of.Goals as goal
 
 pub returns-then-size-gt-LARGEST : goal.returns-then-size-gt-LARGEST
 unfolding blocks_of

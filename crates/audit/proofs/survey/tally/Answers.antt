@@ -1,14 +1,14 @@
--- `audit::homes::tally` counts: at each turn the records before it. A turn adds one to the head of its record, and
+-- `audit::survey::tally` counts: at each turn the records before it. A turn adds one to the head of its record, and
 -- leaves the others.
 use Rattle.std.proofs.Common.{◌<◌, sym, ◌∙◌, eqb, arith}
 use Rattle.rules.specs.Books.{at}
 use Rattle.sequences.specs.Counting.{many_le}
 use Rattle.audit.specs.Turns.{none_counted}
 use Rattle.audit.specs.Survey.{tallied}
-use Rattle.audit.proofs.homes.tally.Goals as goal
+use Rattle.audit.proofs.survey.tally.Goals as goal
 
 pub loop-home-init : goal.loop-home-init
-loop-home-init c = λ h l. c.requires.1 h l ∙ sym (none_counted _)
+loop-home-init c = λ h l. c.requires.2 h l ∙ sym (none_counted _)
 
 pub overflow_add-tallies : goal.overflow_add-tallies
 overflow_add-tallies c =

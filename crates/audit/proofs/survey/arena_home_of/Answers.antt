@@ -1,7 +1,7 @@
--- `audit::homes::arena_home_of` makes the tests of `arena_home_of` in turn.
+-- `audit::survey::arena_home_of` makes the tests of `arena_home_of` in turn.
 use Rattle.std.proofs.Common.{arith}
 use Rattle.audit.specs.Survey.{arena_home_of}
-use Rattle.audit.proofs.homes.arena_home_of.Goals as goal
+use Rattle.audit.proofs.survey.arena_home_of.Goals as goal
 
 pub returns-then-is_open-eq0 : goal.returns-then-is_open-eq0
 unfolding arena_home_of

@@ -1,4 +1,4 @@
--- `audit::homes::set_bits` adds up the ones of the pool's eight words.
+-- `audit::survey::set_bits` adds up the ones of the pool's eight words.
 use Rattle.std.proofs.Common.{◌≡◌, ◌*◌, ◌≤◌, ◌<◌, sym, ◌∙◌, take, drop, arith, rules}
 use Rattle.std.specs.List.{sum_by}
 use Rattle.std.specs.Int.Count.{ones_in}
@@ -7,8 +7,8 @@ use Rattle.rules.specs.Books.{is_set}
 use Rattle.bits.specs.Map.{not_set}
 use Rattle.sequences.specs.Counting.{many_none, many_le}
 use Rattle.audit.specs.Bits.{words_bits}
-use Rattle.audit.proofs.homes.set_bits.Goals.{Else-none_set}
-use Rattle.audit.proofs.homes.set_bits.Goals as goal
+use Rattle.audit.proofs.survey.set_bits.Goals.{Else-none_set}
+use Rattle.audit.proofs.survey.set_bits.Goals as goal
 
 pub returns-then-none_set : goal.returns-then-none_set
 returns-then-none_set c = (
