@@ -1,5 +1,5 @@
-// A heap lent to be audited: its three buffers, as long as its shape says. The audit's rules ask of a shape no more than
-// this, which is less than rule 1 says of it.
+// A heap lent to be audited: its three buffers, as long as its shape says. Of the shape the rules need no more than
+// stands here, which is less than rule 1 says of it.
 ghost use Rattle.std.specs.Prelude.{◌≡◌, ◌*◌, ◌≤◌, length};
 ghost use Rattle.rules.specs.Books.{memory_length, books_length, map_length};
 
