@@ -73,7 +73,8 @@ pub fn kind_apart(in_first: bool, in_second: bool) -> Option<Kind>
 // iterator over it a proof knows nothing.
 pub fn note(list: &mut [u32], at: usize, offset: usize, kind: Option<Kind>) -> usize
     requires { (offset < 2 ^ 32) × (at + length (entry_of offset (kind_number kind)) < 2 ^ 32) }
-    ensures { Noted list.old at (entry_of offset (kind_number kind)) list.new result }
+    ensures noted { Noted list.old at (entry_of offset (kind_number kind)) list.new result }
+    ensures counted { length list.old < at + length (entry_of offset (kind_number kind)) → list.new ≡ list.old }
 {
     let Some(kind) = kind else {
         return at;

@@ -98,7 +98,7 @@ loop-next-preserved c =
       omega (arith, u),
       t.0,
       t.1,
-      note v.4 (comes (goal.at.loop-next-preserved c).After-kind_apart-kind) c.note-place.auto.list c.note-place.ensures,
+      note v.4 (comes (goal.at.loop-next-preserved c).After-kind_apart-kind) c.note-place.auto.list c.note-place.ensures.noted,
     )
 
 pub loop-next-smaller : goal.loop-next-smaller

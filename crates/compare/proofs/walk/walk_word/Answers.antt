@@ -76,7 +76,7 @@ note-place-requires c =
 pub loop-left-preserved : goal.loop-left-preserved
 loop-left-preserved c =
     let p = c.loop-left in
-    let noted = rw (kind_is (goal.at.loop-left-preserved c).After-kind_together-kind) at c.note-place.ensures in (
+    let noted = rw (kind_is (goal.at.loop-left-preserved c).After-kind_together-kind) at c.note-place.ensures.noted in (
       note p.invariant.0 (comes (goal.at.loop-left-preserved c).Else-last-offset) c.note-place.auto.list noted,
       omega (arith, without_less p.left (omega arith)),
     )
