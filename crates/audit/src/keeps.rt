@@ -1,7 +1,7 @@
 // The rules of the audit (02, W-201), from the second on: what each asks of one arena and of one pool, and that each
 // arena and each pool keeps it.
-ghost use Rattle.std.specs.Prelude.{◌≡◌, not, ◌&&◌, ◌*◌, ◌<◌};
-ghost use Rattle.rules.specs.Books.{usable_head, unused_head, arena_next, arena, none?, carved};
+ghost use Rattle.std.specs.Prelude.{◌≡◌, not, ◌&&◌, ◌*◌, ◌<◌, length};
+ghost use Rattle.rules.specs.Books.{memory_length, usable_head, unused_head, arena_next, arena, none?, carved};
 ghost use Rattle.rules.specs.Audit.{
   in_use,
   arena_keeps2,
@@ -184,7 +184,8 @@ impl Survey<'_> {
     }
 
     fn pool_keeps_8(&self, n: usize) -> bool
-        requires { n < self.now.heap.shape.arenas * self.now.heap.shape.pools }
+        requires { (n < self.now.heap.shape.arenas * self.now.heap.shape.pools)
+            × (length self.now.heap.memory.now ≡ memory_length self.now.heap.shape.arenas self.now.heap.shape.pools) }
         ensures { result ≡ pool_keeps8 (alignment_in self.now.heap) self.now.heap.shape.arenas
             self.now.heap.shape.pools self.now.heap.memory.now self.now.heap.books.now self.now.heap.map.now n }
     {
@@ -301,6 +302,7 @@ impl Survey<'_> {
 
     // Each block of a carved pool is live, on the pool's chain or virgin.
     pub fn rule_8(&self) -> bool
+        requires { length self.now.heap.memory.now ≡ memory_length self.now.heap.shape.arenas self.now.heap.shape.pools }
         ensures { result ≡ rule8 (alignment_in self.now.heap) self.now.heap.shape.arenas self.now.heap.shape.pools
             self.now.heap.memory.now self.now.heap.books.now self.now.heap.map.now }
     {

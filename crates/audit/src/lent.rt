@@ -1,7 +1,7 @@
-// A heap lent to be audited: its three buffers, as long as its shape says. Of the shape the rules need no more than
-// stands here, which is less than rule 1 says of it.
+// A heap lent to be audited. Of its shape and lengths the rules need no more than stands here, which is less than rule 1
+// says of them: memory's length matters to rule 8 alone, which reads it.
 ghost use Rattle.std.specs.Prelude.{◌≡◌, ◌*◌, ◌≤◌, length};
-ghost use Rattle.rules.specs.Books.{memory_length, books_length, map_length};
+ghost use Rattle.rules.specs.Books.{books_length, map_length};
 
 use books::words::Shape;
 
@@ -12,7 +12,6 @@ pub struct Lent<'a> {
     pub map: &'a [u64],
     pub shape: Shape,
     ghost fits: { (shape.arenas ≤ 16) × (1 ≤ shape.pools) × (shape.arenas * shape.pools ≤ 1024)
-        × (length memory.now ≡ memory_length shape.arenas shape.pools)
         × (length books.now ≡ books_length shape.arenas shape.pools)
         × (length map.now ≡ map_length shape.arenas shape.pools) },
 }

@@ -8,7 +8,8 @@ pub mod lent;
 pub mod lists;
 pub mod survey;
 
-ghost use Rattle.std.specs.Prelude.{◌≡◌};
+ghost use Rattle.std.specs.Prelude.{◌≡◌, length};
+ghost use Rattle.rules.specs.Books.{memory_length};
 ghost use Rattle.rules.specs.Outcome.{heap_of};
 ghost use Rattle.rules.specs.Numbers.{shape_number};
 ghost use Rattle.rules.specs.Audit.{audit_by, number_of};
@@ -25,7 +26,8 @@ const MOST_POOLS: usize = 1024;
 // The first broken rule, from the second on, of a heap that keeps the first and was surveyed; or yes.
 #[tactic(auto, unfolding(rules::specs::Audit::audit_by, rules::specs::Audit::rule1, rules::specs::Audit::number_of))]
 fn first_broken(survey: &Survey) -> Verdict
-    requires { shape_number (heap_in survey.now.heap) ≡ 0 }
+    requires { (shape_number (heap_in survey.now.heap) ≡ 0)
+        × (length survey.now.heap.memory.now ≡ memory_length survey.now.heap.shape.arenas survey.now.heap.shape.pools) }
     ensures { number_of result ≡ audit_by (alignment_in survey.now.heap) survey.now.heap.shape.arenas
         survey.now.heap.shape.pools (heap_in survey.now.heap) }
 {

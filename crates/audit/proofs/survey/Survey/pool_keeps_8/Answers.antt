@@ -20,7 +20,7 @@ returns-then-live-pool c =
     let h = c.args.self.now.heap in
     let al = alignment_in h in
     let k = pool h.shape.arenas h.books.now class c.args.n in
-    let live : c.from-live.result ≡ set_bits h.map.now c.args.n = c.from-live.ensures ∙ c.args.self.now.surveyed.counted c.args.n c.requires in
+    let live : c.from-live.result ≡ set_bits h.map.now c.args.n = c.from-live.ensures ∙ c.args.self.now.surveyed.counted c.args.n c.requires.0 in
     let is : c.load_pool-pool.result.class ≡ k = ap (λ (p : Pool). p.class) c.load_pool-pool.ensures in
     let in_carved = (sym c.is_carved.ensures ∙ c.if-not-is_carved.false) in
     let t = both (eqb c.from-live.result 0) (eqb c.load_pool-pool.result.class no_class) c.if-live-pool.true in
@@ -35,7 +35,7 @@ sized : (c : After-size_of-size)
     ((eqb (set_bits h.map.now c.args.n) 0 && eqb k no_class) ≡ false) × (c.size_of-size.result ≡ size_of (alignment_in h) k)
 sized c =
     let h = c.args.self.now.heap in
-    let live = c.from-live.ensures ∙ c.args.self.now.surveyed.counted c.args.n c.requires in
+    let live = c.from-live.ensures ∙ c.args.self.now.surveyed.counted c.args.n c.requires.0 in
     let is : c.load_pool-pool.result.class ≡ pool h.shape.arenas h.books.now class c.args.n = ap (λ (p : Pool). p.class) c.load_pool-pool.ensures in (
       sym (ap₂ (λ (x y : ℕ). eqb x 0 && eqb y no_class) live is) ∙ c.if-live-pool.false,
       c.size_of-size.ensures.0 ∙ ap (size_of (alignment_in h)) (c.index.ensures.0 ∙ is),
@@ -56,6 +56,6 @@ returns c =
     let t = sized (goal.at.returns c).After-size_of-size in
     let low : size_of (alignment_in h) k ≤ 512 = omega (arith, t.1, c.if-size-gt-LARGEST.false) in
     c.are_divided.ensures
-    ∙ rw (c.load_pool-pool.ensures, t.1, c.from-live.ensures, c.args.self.now.surveyed.counted c.args.n c.requires)
+    ∙ rw (c.load_pool-pool.ensures, t.1, c.from-live.ensures, c.args.self.now.surveyed.counted c.args.n c.requires.0)
     (sym (keeps_divided (alignment_in h) h.shape.arenas h.shape.pools h.memory.now h.books.now h.map.now c.args.n
     (sym c.is_carved.ensures ∙ c.if-not-is_carved.false) t.0 (a_class (aligned h.shape.edition) k low) ((class_size (aligned h.shape.edition) k).1 low)))
