@@ -29,7 +29,7 @@ use asks::ask::ask_step;
 use books::numbers::{Block, live_block, test_fit, test_shape, test_size};
 use books::reader::Reader;
 pub use books::refusal::Refusal;
-use books::words::Shape;
+pub use books::words::Shape;
 use loops::{fresh_books, has_room, put_roll, store};
 use steps::give_back::give_old;
 pub use steps::resize::ResizeRefusal;
