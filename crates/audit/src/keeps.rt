@@ -212,7 +212,8 @@ impl Survey<'_> {
     }
 }
 
-// The rules: each asks every arena or every pool, and some ask more.
+// The rules: each asks every arena or every pool, and some ask more. Where little is asked of a pool, a `fold` goes on
+// past one that does not keep the rule: of a heap that keeps it, that is a test fewer for each pool.
 impl Survey<'_> {
     // Each arena is open or closed, and the spare words of its record, of each pool's and of the books are 0.
     pub fn rule_2(&self) -> bool
@@ -224,7 +225,10 @@ impl Survey<'_> {
             & (word(books, EDITION + 2) == 0)
             & (word(books, EDITION + 3) == 0))
             & (0..s.arenas).all(|a| self.arena_keeps_2(a))
-            & (0..s.arenas * s.pools).all(|n| pool_word(books, s.arenas, SPARE, n) == 0)
+            & (0..s.arenas * s.pools).fold(
+                true,
+                |kept, n| (pool_word(books, s.arenas, SPARE, n) == 0) & kept,
+            )
     }
 
     // A closed arena's record is 0 but for its links.
@@ -288,7 +292,7 @@ impl Survey<'_> {
         (0..arenas).all(|a| pools.holds(RECORDS + 8 * a + FREED_HEAD, false))
             & self.arena_lists()
             & (0..CLASSES).all(|c| pools.holds(CLASS_HEADS + c, true))
-            & (0..self.counts.len()).all(|n| self.pool_keeps_6(n))
+            & (0..self.counts.len()).fold(true, |kept, n| self.pool_keeps_6(n) & kept)
             & (0..arenas).all(|a| self.arena_keeps_6(a))
     }
 
@@ -297,7 +301,7 @@ impl Survey<'_> {
         ensures { result ≡ rule7 self.now.heap.shape.arenas self.now.heap.shape.pools self.now.heap.books.now
             self.now.heap.map.now }
     {
-        (0..self.counts.len()).all(|n| self.pool_keeps_7(n))
+        (0..self.counts.len()).fold(true, |kept, n| self.pool_keeps_7(n) & kept)
     }
 
     // Each block of a carved pool is live, on the pool's chain or virgin.

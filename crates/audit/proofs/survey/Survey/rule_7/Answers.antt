@@ -1,7 +1,7 @@
 -- `audit::survey::Survey::rule_7` asks each pool in turn.
 use Rattle.std.proofs.Common.{rules, tests}
-use Rattle.audit.proofs.Ranges.{all_is}
+use Rattle.audit.proofs.Ranges.{folds_to}
 use Rattle.audit.proofs.survey.Survey.rule_7.Goals as goal
 
 pub returns : goal.returns
-returns c = all_is _ _ c.args.self.now.surveyed.counts_long c.all.ensures.ran (λ x b q k. search (rules, tests))
+returns c = folds_to _ _ c.args.self.now.surveyed.counts_long c.fold.ensures.ran (λ a x b q k. search (rules, tests))
