@@ -69,7 +69,8 @@ all_folded test (suc n) =
     ∙ fold-append (λ kept x. test x && kept) true (range_with_len 0 n) ((0 + n) ∷ []) ∙ rw (z, all_folded test n) refl
 
 -- what `(0..z).fold(true, f)` answers, where each call of f makes the test besides, z being n
-pub folds_to : {F : Type 0} {g : Mut F (Bool × (ℕ × Unit {0})) Bool} {f : F} {r : Bool} {z : ℕ} (test : ℕ → Bool) (n : ℕ)
+pub folds_to : {F : Type 0} {g : Mut F (Bool × (ℕ × Unit {0})) Bool} {f : F} {r : Bool} {z : ℕ}
+    (test : ℕ → Bool) (n : ℕ)
     → z ≡ n
     → (xs : List ℕ) × (q : F) × Drains nat_range_steps (record { start = 0; end = z }) xs
     × FoldsTo {P = F × Bool} (λ a x b. Called g a.0 (a.1, (x, tt)) b.1 b.0) (f, true) xs (q, r)

@@ -306,7 +306,8 @@ impl Survey<'_> {
 
     // Each block of a carved pool is live, on the pool's chain or virgin.
     pub fn rule_8(&self) -> bool
-        requires { length self.now.heap.memory.now ≡ memory_length self.now.heap.shape.arenas self.now.heap.shape.pools }
+        requires { length self.now.heap.memory.now
+            ≡ memory_length self.now.heap.shape.arenas self.now.heap.shape.pools }
         ensures { result ≡ rule8 (alignment_in self.now.heap) self.now.heap.shape.arenas self.now.heap.shape.pools
             self.now.heap.memory.now self.now.heap.books.now self.now.heap.map.now }
     {

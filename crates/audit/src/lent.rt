@@ -1,5 +1,5 @@
-// A heap lent to be audited. Of its shape and lengths the rules need no more than stands here, which is less than rule 1
-// says of them: memory's length matters to rule 8 alone, which reads it.
+// A heap lent to be audited. Of its shape and lengths the rules need no more than stands here, which is less than rule
+// 1 says of them: memory's length matters to rule 8 alone, which reads it.
 ghost use Rattle.std.specs.Prelude.{◌≡◌, ◌*◌, ◌≤◌, length};
 ghost use Rattle.rules.specs.Books.{books_length, map_length};
 

@@ -86,7 +86,7 @@ fn home_of(books: &[u32], s: Shape, n: usize, live: usize) -> usize
     ALONE
 }
 
-// The heads of the pools' lists.
+// The heads of the pools' lists. They go by books alone, so that no whole heap is asked for, here and for the arenas.
 pub fn find_homes(books: &[u32], s: Shape, counts: &[u16], homes: &mut [u8])
     requires { (1 ≤ s.pools) × (s.arenas ≤ 16) × (s.arenas * s.pools ≤ 1024)
         × (length books.now ≡ books_length s.arenas s.pools)
