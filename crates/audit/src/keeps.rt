@@ -1,10 +1,12 @@
 // The rules of the audit (02, W-201), from the second on: what each asks of one arena and of one pool, and that each
 // arena and each pool keeps it.
 ghost use Rattle.std.specs.Prelude.{◌≡◌, not, ◌&&◌, ◌*◌, ◌<◌, length};
+ghost use Rattle.rules.specs.Say.{all_below};
 ghost use Rattle.rules.specs.Books.{memory_length, usable_head, unused_head, arena_next, arena, none?, carved};
 ghost use Rattle.rules.specs.Audit.{
   in_use,
   arena_keeps2,
+  pool_keeps2,
   rule2,
   arena_keeps3,
   rule3,
@@ -215,20 +217,33 @@ impl Survey<'_> {
 // The rules: each asks every arena or every pool, and some ask more. Where little is asked of a pool, a `fold` goes on
 // past one that does not keep the rule: of a heap that keeps it, that is a test fewer for each pool.
 impl Survey<'_> {
-    // Each arena is open or closed, and the spare words of its record, of each pool's and of the books are 0.
+    // Each arena is open or closed, and the spare words of its record are 0.
+    pub fn arenas_keep_2(&self) -> bool
+        ensures { result ≡ all_below (arena_keeps2 self.now.heap.books.now) self.now.heap.shape.arenas }
+    {
+        (0..self.heap.shape.arenas).all(|a| self.arena_keeps_2(a))
+    }
+
+    // The spare word of each pool's record is 0.
+    pub fn pools_keep_2(&self) -> bool
+        ensures { result ≡ all_below (pool_keeps2 self.now.heap.shape.arenas self.now.heap.books.now)
+            (self.now.heap.shape.arenas * self.now.heap.shape.pools) }
+    {
+        let books = self.heap.books;
+        let s = self.heap.shape;
+        (0..s.arenas * s.pools).fold(true, |kept, n| (pool_word(books, s.arenas, SPARE, n) == 0) & kept)
+    }
+
+    // Besides, the spare words of the books are 0.
     pub fn rule_2(&self) -> bool
         ensures { result ≡ rule2 self.now.heap.shape.arenas self.now.heap.shape.pools self.now.heap.books.now }
     {
         let books = self.heap.books;
-        let s = self.heap.shape;
         ((word(books, EDITION + 1) == 0)
             & (word(books, EDITION + 2) == 0)
             & (word(books, EDITION + 3) == 0))
-            & (0..s.arenas).all(|a| self.arena_keeps_2(a))
-            & (0..s.arenas * s.pools).fold(
-                true,
-                |kept, n| (pool_word(books, s.arenas, SPARE, n) == 0) & kept,
-            )
+            & self.arenas_keep_2()
+            & self.pools_keep_2()
     }
 
     // A closed arena's record is 0 but for its links.
@@ -275,6 +290,22 @@ impl Survey<'_> {
         arenas.holds(USABLE_HEAD, true) & arenas.holds(UNUSED_HEAD, true)
     }
 
+    // A pool that is to be on no list, though it is in use, has no links.
+    pub fn pools_keep_6(&self) -> bool
+        ensures { result ≡ all_below (pool_keeps6 (alignment_in self.now.heap) self.now.heap.shape.arenas
+            self.now.heap.shape.pools self.now.heap.books.now self.now.heap.map.now)
+            (self.now.heap.shape.arenas * self.now.heap.shape.pools) }
+    {
+        (0..self.counts.len()).fold(true, |kept, n| self.pool_keeps_6(n) & kept)
+    }
+
+    // Nor has an open arena without free pools.
+    pub fn arenas_keep_6(&self) -> bool
+        ensures { result ≡ all_below (arena_keeps6 self.now.heap.books.now) self.now.heap.shape.arenas }
+    {
+        (0..self.heap.shape.arenas).all(|a| self.arena_keeps_6(a))
+    }
+
     // Each list holds just its members, once, and what is on none has no links.
     pub fn rule_6(&self) -> bool
         ensures { result ≡ rule6 (alignment_in self.now.heap) self.now.heap.shape.arenas self.now.heap.shape.pools
@@ -292,8 +323,8 @@ impl Survey<'_> {
         (0..arenas).all(|a| pools.holds(RECORDS + 8 * a + FREED_HEAD, false))
             & self.arena_lists()
             & (0..CLASSES).all(|c| pools.holds(CLASS_HEADS + c, true))
-            & (0..self.counts.len()).fold(true, |kept, n| self.pool_keeps_6(n) & kept)
-            & (0..arenas).all(|a| self.arena_keeps_6(a))
+            & self.pools_keep_6()
+            & self.arenas_keep_6()
     }
 
     // A pool's count is that of its set bits.

@@ -6,7 +6,7 @@ use Rattle.rules.specs.Say.{all_below}
 use Rattle.rules.specs.Books.{usable_head, unused_head, class_head, arena_word, freed_head}
 use Rattle.rules.specs.Audit.{freed_list, usable_member, unused_member, arena_list, rule6}
 use Rattle.audit.specs.Lists.{list_holds, freed_are, classes_are, all_parts}
-use Rattle.audit.proofs.Ranges.{all_is, folds_to}
+use Rattle.audit.proofs.Ranges.{all_is}
 use Rattle.audit.proofs.survey.Survey.rule_6.Goals as goal
 
 pub tally-requires : goal.tally-requires
@@ -25,5 +25,5 @@ returns c =
     (all_is freed h.shape.arenas refl c.all.ensures.ran (λ x b q k. search (rules, tests)) ∙ rw c.pool_links.ensures (freed_are v.surveyed))
     c.arena_lists.ensures
     (all_is listed 64 refl c.all-2.ensures.ran (λ x b q k. search (rules, tests)) ∙ rw c.pool_links.ensures (classes_are v.surveyed))
-    (folds_to _ _ v.surveyed.counts_long c.fold.ensures.ran (λ a x b q k. search (rules, tests)))
-    (all_is _ _ refl c.all-3.ensures.ran (λ x b q k. search (rules, tests)))
+    c.pools_keep_6.ensures
+    c.arenas_keep_6.ensures
