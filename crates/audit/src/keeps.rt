@@ -231,7 +231,10 @@ impl Survey<'_> {
     {
         let books = self.heap.books;
         let s = self.heap.shape;
-        (0..s.arenas * s.pools).fold(true, |kept, n| (pool_word(books, s.arenas, SPARE, n) == 0) & kept)
+        (0..s.arenas * s.pools).fold(
+            true,
+            |kept, n| (pool_word(books, s.arenas, SPARE, n) == 0) & kept,
+        )
     }
 
     // Besides, the spare words of the books are 0.
