@@ -66,6 +66,7 @@ pub fn audit(memory: &[u8], books: &[u32], map: &[u64]) -> Verdict
     let Ok(shape) = test_shape(memory, books, map) else {
         return Verdict::Shape;
     };
+    // lent here and copied below: bound by value, the borrow checker would see two lifetimes in it
     let heap = &Lent {
         memory,
         books,
